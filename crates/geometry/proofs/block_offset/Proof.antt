@@ -1,0 +1,30 @@
+-- `geometry::block_offset` meets its contract: a location is not below the start of its block, also past the array.
+-- Assumes nothing.
+use borrow.Author.Needs.{needs}
+use native.Mathlib.Omega.{arith}
+use Prim.Native.Nat.{ℕ, _≤_}
+use Rattle.geometry.specs.Blocks.{geometryOf, blockOffset}
+use Rattle.geometry.specs.Laws as laws
+use Rattle.geometry.specs.declared.Part.{Part}
+use Rattle.geometry.proofs.block_offset.Statement.{statement}
+use Rattle.geometry.proofs.block_offset.Tie as tie
+
+block-of-requires : tie.Need-block-of-requires
+block-of-requires c κs = search needs
+
+block-start-requires : tie.Need-block-start-requires
+block-start-requires c κs = search needs
+
+sub-result : tie.Need-sub-result
+sub-result c =
+    let p : Part = c .before .before .args .part in
+    let l : ℕ = c .before .before .args .location in
+    let h : c .block-start .result ≤ l = rw (c .block-start .ensures .0, c .before .block-of .ensures .0) (laws.start-le (geometryOf p) (laws.sound p) l) in
+    omega arith
+
+returns : tie.Need-returns
+unfolding blockOffset
+returns c = rw (c .block-start .ensures .0, c .before .block-of .ensures .0)
+
+pub block-offset-spec : {M : Type 1} → statement M
+block-offset-spec = tie.close (tie.spec block-of-requires block-start-requires sub-result returns)

@@ -1,0 +1,49 @@
+-- `geometry::look_up` meets its contract: by the tests that led to each return, and what the functions it calls ensure.
+-- Assumes nothing.
+use borrow.Author.Needs.{needs}
+use native.Mathlib.Omega.{arith}
+use borrow.Author.Tests.{le-leb, lt-leb, lt-ltb, le-ltb}
+use Rattle.geometry.specs.Blocks.{lookupOf}
+use Rattle.geometry.proofs.look_up.Statement.{statement}
+use Rattle.geometry.proofs.look_up.Tie as tie
+
+returns : tie.Need-returns
+unfolding lookupOf
+returns c = (simp (le-leb _ _ (c .if1 .taken)), (omega arith, (omega arith, omega arith)))
+
+returns-2 : tie.Need-returns-2
+unfolding lookupOf
+returns-2 c = (simp (lt-leb _ _ (c .before .if1 .left), lt-ltb _ _ (c .if2 .taken)), (omega arith, (omega arith, omega arith)))
+
+part-numbered-requires : tie.Need-part-numbered-requires
+part-numbered-requires c κs = search needs
+
+location-of-requires : tie.Need-location-of-requires
+location-of-requires c κs = search needs
+
+block-of-requires : tie.Need-block-of-requires
+block-of-requires c κs = search needs
+
+bank-of-requires : tie.Need-bank-of-requires
+bank-of-requires c κs = search needs
+
+returns-3 : tie.Need-returns-3
+unfolding lookupOf
+returns-3 c =
+    let l = c .before .before .location-of in (
+      simp (lt-leb _ _ (c .before .before .before .before .before .if1 .left), le-ltb _ _ (c .before .before .before .before .if2 .left))
+          (rw (← c .before .before .before .part-numbered .ensures, ← l .ensures .0, ← c .before .block-of .ensures .0, ← c .bank-of .ensures .0)),
+      (omega arith, (c .before .block-of .ensures .1 (l .ensures .1 .0), c .bank-of .ensures .1 (l .ensures .1 .0))),
+    )
+
+pub look-up-spec : {M : Type 1} → statement M
+look-up-spec =
+    tie.close
+    (tie.spec
+    returns
+    returns-2
+    part-numbered-requires
+    location-of-requires
+    block-of-requires
+    bank-of-requires
+    returns-3)

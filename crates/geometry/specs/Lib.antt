@@ -1,0 +1,3 @@
+-- The modules of the specification: the definitions, and the laws over them.
+pub mod Blocks
+pub mod Laws

@@ -1,0 +1,33 @@
+-- `protection::is_unprotected` meets its contract: a shift and a remainder by 2 give the digit.
+use borrow.Author.Needs.{needs}
+use borrow.Author.Tests.{lt-ltb, le-ltb}
+use Rattle.protection.specs.Words.{bit, bitAt, isUnprotected}
+use Rattle.protection.proofs.is_unprotected.Statement.{statement}
+use Rattle.protection.proofs.is_unprotected.Tie as tie
+
+returns : tie.Need-returns
+unfolding isUnprotected
+returns c = rw (le-ltb _ _ (c .if1 .taken))
+
+cast-w : tie.Need-cast-w
+cast-w c = search needs
+
+mul-w : tie.Need-mul-w
+mul-w c = search needs
+
+array-read-w : tie.Need-array-read-w
+array-read-w c = search needs
+
+cast-result : tie.Need-cast-result
+cast-result c = search needs
+
+shr-result : tie.Need-shr-result
+shr-result c = search needs
+
+returns-2 : tie.Need-returns-2
+unfolding isUnprotected bitAt bit
+returns-2 c = rw (lt-ltb _ _ (c .if1 .left))
+
+pub is-unprotected-spec : {M : Type 1} → statement M
+is-unprotected-spec =
+    tie.close (tie.spec returns cast-w mul-w array-read-w cast-result shr-result returns-2)

@@ -1,0 +1,79 @@
+-- `reading::signature_word` meets its contract: by the tests of the offsets that led to each return. Assumes nothing.
+use borrow.Author.Needs.{needs}
+use borrow.Author.Tests.{ne-eqb}
+use Rattle.semantics.specs.Reading.{signatureWord}
+use Rattle.reading.proofs.signature_word.Statement.{statement}
+use Rattle.reading.proofs.signature_word.Tie as tie
+
+bank-offset-requires : tie.Need-bank-offset-requires
+bank-offset-requires c κs = search needs
+
+returns : tie.Need-returns
+unfolding signatureWord
+returns c = simp (← c .before .bank-offset .ensures, c .if1 .taken)
+
+device-code-requires : tie.Need-device-code-requires
+device-code-requires c κs = search needs
+
+returns-2 : tie.Need-returns-2
+unfolding signatureWord
+returns-2 c = simp (c .device-code .ensures, ← c .before .before .before .bank-offset .ensures, c .before .if2 .taken)
+
+returns-3 : tie.Need-returns-3
+unfolding signatureWord
+returns-3 c = simp (← c .before .before .before .bank-offset .ensures, c .if3 .taken)
+
+block-offset-requires : tie.Need-block-offset-requires
+block-offset-requires c κs = search needs
+
+block-of-requires : tie.Need-block-of-requires
+block-of-requires c κs = search needs
+
+is-unprotected-requires : tie.Need-is-unprotected-requires
+is-unprotected-requires c κs = search needs
+
+bit-if-requires : tie.Need-bit-if-requires
+bit-if-requires c κs = search needs
+
+returns-4 : tie.Need-returns-4
+unfolding signatureWord
+returns-4 c =
+    simp (
+      c .bit-if .ensures .0,
+      c .before .is-unprotected .ensures,
+      c .before .before .block-of .ensures .0,
+      ← c .before .before .before .before .before .before .before .before .bank-offset .ensures,
+      ne-eqb _ _ (c .before .before .before .before .before .before .before .if1 .left),
+      ne-eqb _ _ (c .before .before .before .before .before .before .if2 .left),
+      ne-eqb _ _ (c .before .before .before .before .before .if3 .left),
+      ← c .before .before .before .before .block-offset .ensures,
+      c .before .before .before .if4 .taken,
+    )
+
+returns-5 : tie.Need-returns-5
+unfolding signatureWord
+returns-5 c =
+    simp (
+      ← c .before .before .before .before .before .bank-offset .ensures,
+      ne-eqb _ _ (c .before .before .before .before .if1 .left),
+      ne-eqb _ _ (c .before .before .before .if2 .left),
+      ne-eqb _ _ (c .before .before .if3 .left),
+      ← c .before .block-offset .ensures,
+      ne-eqb _ _ (c .if4 .left),
+    )
+
+pub signature-word-spec : {M : Type 1} → statement M
+signature-word-spec =
+    tie.close
+    (tie.spec
+    bank-offset-requires
+    returns
+    device-code-requires
+    returns-2
+    returns-3
+    block-offset-requires
+    block-of-requires
+    is-unprotected-requires
+    bit-if-requires
+    returns-4
+    returns-5)

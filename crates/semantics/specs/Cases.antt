@@ -1,0 +1,103 @@
+-- Document 01's table of proved cases, as one table under one statement: the checker computes each through the definitions of the steps and of the lookup,
+-- from power-up with real commands. A wrong number in the table is refused.
+-- Assumes nothing.
+use Prim.Native.Nat.{ℕ, zero, suc, _+_, _*_}
+use mathlib.Core.Bool.{Bool, true, false, cond, _&&_}
+use mathlib.Core.List.{List, [], _∷_, _++_}
+use lib.Dec.{T, eqb, ltb, leb}
+use lib.ListN.{replicate}
+use Rattle.geometry.specs.declared.Part.{Part}
+use Rattle.geometry.specs.declared.Part.the-variants.{FullBottom, FullTop, BenchBottom, BenchTop}
+use Rattle.geometry.specs.Blocks.{mirror, blockFrom, blockOf, bankOf, sizeOf, startFrom, startOf, bankStart, blockOffset, bankOffset, bankOfBlock, lookupOf}
+use Rattle.protection.specs.Words.{bit, bitAt, isUnprotected, withUnprotected, spareZero, allProtected}
+use Rattle.semantics.specs.declared.Step.{Step}
+use Rattle.semantics.specs.declared.Step.the-variants.{Read, Write, Work, Supply, Reset}
+use Rattle.semantics.specs.declared.Answer.{Answer}
+use Rattle.semantics.specs.declared.Answer.the-variants.{Word, Units, Done, Refused}
+use Rattle.semantics.specs.State.{powerUp}
+use Rattle.semantics.specs.WellFormed.{runningAlone, programAlone, eraseAlone, eraseFits, runningFits, programFits, suspendedEraseFits, allFit, runningApart, programApart, apart, activityFormed, wellFormed}
+use Rattle.semantics.specs.Reading.{runsIn, statusWord, signatureWord, queryWord, readIn, readWord}
+use Rattle.semantics.specs.Writing.{commandOf, resume, accepts, setUp, clearStatus, firstCycle, programCycle, eraseCycle, lockCommandOf, lockCycle, settle, cycle, written}
+use Rattle.semantics.specs.Working.{unitsLeft, unitsDone, runningAfter, wordAfter, tabulate, arrayAfter, worked, workedArray}
+use Rattle.semantics.specs.Steps.{locationRefusal, addressRefusal, countRefusal, stepRefusal, stateRefusal, firstRefusal, refusalOf, accepted, acceptedArray, stepOf, arrayOf, Machine, after, fresh}
+
+infixl 20 _⟶_
+-- a step, and what it answers
+pub data Exchange : Type 0 where
+  _⟶_ : Step → Answer → Exchange
+
+-- an address of a part, by its number, lies in a block and a bank; or: from power-up, on an array, each step answers so
+pub data Case : Type 0 where
+  lies : ℕ → ℕ → ℕ → ℕ → Case
+  plays : Part → List ℕ → List Exchange → Case
+
+-- answers apart by their kind and number
+abbrev code : Answer → ℕ
+code (Word w) = 4 * w
+code (Units n) = 4 * n + 1
+code Done = 2
+code (Refused n) = 4 * n + 3
+
+abbrev playsOut : Machine → List Exchange → Bool
+playsOut m [] = true
+playsOut m ((x ⟶ a) ∷ l) = eqb (code (stepOf (m .state) (m .array) x .answer)) (code a) && playsOut (after m x) l
+
+abbrev pub holds : Case → Bool
+holds (lies p a b k) = eqb (lookupOf p a .refusal) 0 && (eqb (lookupOf p a .block) b && eqb (lookupOf p a .bank) k)
+holds (plays p xs l) = playsOut (fresh p xs) l
+
+abbrev pub every : List Case → Bool
+every [] = true
+every (c ∷ l) = holds c && every l
+
+-- n words from address a on read w
+abbrev reads : ℕ → ℕ → ℕ → List Exchange
+reads a zero w = []
+reads a (suc n) w = (Read a ⟶ Word w) ∷ reads (suc a) n w
+
+-- supply on, and the block of an address unprotected
+abbrev prepared : ℕ → List Exchange
+prepared a = (Supply true ⟶ Done) ∷ (Write a 0x60 ⟶ Done) ∷ (Write a 0xD0 ⟶ Done) ∷ []
+
+abbrev bench : ℕ → List ℕ
+bench w = replicate 16384 w
+
+abbrev pub cases : List Case
+cases =
+    -- (1) to (4), full bottom, is part 0
+    lies 0 0x003FFF 0 0 ∷ lies 0 0x004000 1 0
+    ∷ lies 0 0x00FFFF 3 0 ∷ lies 0 0x010000 4 0
+    ∷ lies 0 0x0FFFFF 18 0 ∷ lies 0 0x100000 19 1
+    ∷ lies 0 0xFFFFFF 258 15
+    -- (5) and (6), full top, is part 1
+    ∷ lies 1 0xFF0000 3 0 ∷ lies 1 0xFEFFFF 4 0
+    ∷ lies 1 0x000000 258 15
+    -- (7) a program refused for protection shows 92h, for supply 98h
+    ∷ plays BenchBottom (bench 0xFFFF)
+    ((Supply true ⟶ Done) ∷ (Write 0x40 0x40 ⟶ Done) ∷ (Write 0x40 0x1234 ⟶ Done) ∷ (Read 0x40 ⟶ Word 0x92) ∷ [])
+    ∷ plays BenchBottom (bench 0xFFFF)
+    ((Write 0x40 0x60 ⟶ Done) ∷ (Write 0x40 0xD0 ⟶ Done) ∷ (Write 0x40 0x40 ⟶ Done) ∷ (Write 0x40 0x1234 ⟶ Done) ∷ (Read 0x40 ⟶ Word 0x98) ∷ [])
+    -- (8) an erase refused for protection shows A2h, a wrong second cycle B0h
+    ∷ plays BenchBottom (bench 0xFFFF)
+    ((Supply true ⟶ Done) ∷ (Write 0x40 0x20 ⟶ Done) ∷ (Write 0x40 0xD0 ⟶ Done) ∷ (Read 0x40 ⟶ Word 0xA2) ∷ [])
+    ∷ plays BenchBottom (bench 0xFFFF) ((Write 0x40 0x20 ⟶ Done) ∷ (Write 0x40 0xFF ⟶ Done) ∷ (Read 0x40 ⟶ Word 0xB0) ∷ [])
+    -- (9) an erase suspended shows C0h, a program suspended in it C4h
+    ∷ plays BenchBottom (bench 0xFFFF)
+    (prepared 0x40 ++ (Write 0x80 0x60 ⟶ Done) ∷ (Write 0x80 0xD0 ⟶ Done) ∷ (Write 0x40 0x20 ⟶ Done) ∷ (Write 0x40 0xD0 ⟶ Done) ∷ (Write 0x40 0xB0 ⟶ Done)
+    ∷ (Read 0x40 ⟶ Word 0xC0) ∷ (Write 0x80 0x40 ⟶ Done) ∷ (Write 0x80 0x1234 ⟶ Done) ∷ (Write 0x80 0xB0 ⟶ Done) ∷ (Read 0x80 ⟶ Word 0xC4) ∷ [])
+    -- (10) 00F0 programmed on 0FF0 gives 00F0, and FFFF after it changes nothing
+    ∷ plays BenchBottom (bench 0x0FF0)
+    (prepared 0x41 ++ (Write 0x41 0x40 ⟶ Done) ∷ (Write 0x41 0x00F0 ⟶ Done) ∷ (Work 1 ⟶ Units 1) ∷ (Write 0x41 0xFF ⟶ Done) ∷ (Read 0x41 ⟶ Word 0x00F0)
+    ∷ (Write 0x41 0x40 ⟶ Done) ∷ (Write 0x41 0xFFFF ⟶ Done) ∷ (Work 1 ⟶ Units 1) ∷ (Write 0x41 0xFF ⟶ Done) ∷ (Read 0x41 ⟶ Word 0x00F0) ∷ (Read 0x42 ⟶ Word 0x0FF0) ∷ [])
+    -- (11) bench bottom, block 4 all 0000, erase, work 10, reset: ten words FFFF, 54 words 0000
+    ∷ plays BenchBottom (bench 0x0000)
+    (prepared 0x40 ++ (Write 0x40 0x20 ⟶ Done) ∷ (Write 0x40 0xD0 ⟶ Done) ∷ (Work 10 ⟶ Units 10) ∷ (Reset ⟶ Done) ∷ (reads 0x40 10 0xFFFF ++ reads 0x4A 54 0x0000))
+    -- (12) set-up 40h, then FFh to an open block: 00FF is programmed, no mode goes to array (bank 0 shows status until FFh, bank 1 after it too)
+    ∷ plays BenchBottom (bench 0xFFFF)
+    (prepared 0x40 ++ (Write 0x400 0x70 ⟶ Done) ∷ (Write 0x40 0x40 ⟶ Done) ∷ (Write 0x40 0x00FF ⟶ Done) ∷ (Work 1 ⟶ Units 1) ∷ (Read 0x40 ⟶ Word 0x80)
+    ∷ (Read 0x400 ⟶ Word 0x80) ∷ (Write 0x40 0xFF ⟶ Done) ∷ (Read 0x40 ⟶ Word 0x00FF) ∷ [])
+    ∷ []
+
+pub cases-hold : T (every cases)
+unfolding mirror blockFrom blockOf bankOf sizeOf startFrom startOf bankStart blockOffset bankOffset bankOfBlock lookupOf bit bitAt isUnprotected withUnprotected spareZero allProtected powerUp runningAlone programAlone eraseAlone eraseFits runningFits programFits suspendedEraseFits allFit runningApart programApart apart activityFormed wellFormed runsIn statusWord signatureWord queryWord readIn readWord commandOf resume accepts setUp clearStatus firstCycle programCycle eraseCycle lockCommandOf lockCycle settle cycle written unitsLeft unitsDone runningAfter wordAfter tabulate arrayAfter worked workedArray locationRefusal addressRefusal countRefusal stepRefusal stateRefusal firstRefusal refusalOf accepted acceptedArray stepOf arrayOf
+cases-hold = tt

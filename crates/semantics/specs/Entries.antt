@@ -1,0 +1,305 @@
+-- A journal of operations on numbered words, latest entry first, and the words that it makes of the words at the start. Nothing here knows
+-- of commands, blocks or chips: an operation is a run of words, and a rule for each of them. First the definitions, then the laws.
+-- Assumes nothing.
+use mathlib.Core.Path.{_≡_, refl, sym, ap, _∙_}
+use mathlib.Core.List.{List, [], _∷_, map}
+use mathlib.Core.Bool.{Bool, true, false, cond, _&&_, _||_}
+use Prim.Native.Nat.{ℕ, zero, suc, _+_, _-_, _≤_, _<_, min}
+use native.Mathlib.Omega.{arith}
+use lib.Dec.{ltb, leb, eqb}
+use borrow.Author.Tests.{leb-true, leb-false, eq-eqb, ne-eqb}
+use Rattle.semantics.specs.Numbers.{within, within-in, within-out, within-true, within-false}
+
+pub data Standing : Type 0 where
+  running suspended finished broken-off : Standing
+
+-- an operation that was accepted, the units that it received, and how it stands
+pub data Entry (K : Type 0) : Type 0 where
+  entry : K → ℕ → Standing → Entry K
+
+-- an operation under way: running or suspended
+pub data Live (K : Type 0) : Type 0 where
+  live : K → ℕ → Live K
+
+module _ {K : Type 0} where
+  -- what suspension, resumption of those that are p, and reset make of an entry
+  abbrev pub paused : Entry K → Entry K
+  paused (entry k u running) = entry k u suspended
+  paused (entry k u suspended) = entry k u suspended
+  paused (entry k u finished) = entry k u finished
+  paused (entry k u broken-off) = entry k u broken-off
+
+  abbrev pub resumed : (K → Bool) → Entry K → Entry K
+  resumed p (entry k u running) = entry k u running
+  resumed p (entry k u suspended) = entry k u (cond (p k) running suspended)
+  resumed p (entry k u finished) = entry k u finished
+  resumed p (entry k u broken-off) = entry k u broken-off
+
+  abbrev pub abandoned : Entry K → Entry K
+  abandoned (entry k u running) = entry k u broken-off
+  abandoned (entry k u suspended) = entry k u broken-off
+  abandoned (entry k u finished) = entry k u finished
+  abandoned (entry k u broken-off) = entry k u broken-off
+
+  abbrev pub None : (K → Bool) → List (Live K) → Type 0
+  None p [] = Unit {0}
+  None p (live k u ∷ s) = (p k ≡ false) × None p s
+
+  -- what the journal alone says of what is under way
+  abbrev pub isRunning : Entry K → Bool
+  isRunning (entry k u running) = true
+  isRunning (entry k u suspended) = false
+  isRunning (entry k u finished) = false
+  isRunning (entry k u broken-off) = false
+
+  abbrev pub isSuspended : (K → Bool) → Entry K → Bool
+  isSuspended p (entry k u running) = false
+  isSuspended p (entry k u suspended) = p k
+  isSuspended p (entry k u finished) = false
+  isSuspended p (entry k u broken-off) = false
+
+  abbrev pub anyRuns : List (Entry K) → Bool
+  anyRuns [] = false
+  anyRuns (e ∷ j) = isRunning e || anyRuns j
+
+  abbrev pub anySuspended : (K → Bool) → List (Entry K) → Bool
+  anySuspended p [] = false
+  anySuspended p (e ∷ j) = isSuspended p e || anySuspended p j
+
+  abbrev pub anyLive : (K → Bool) → List (Live K) → Bool
+  anyLive p [] = false
+  anyLive p (live k u ∷ s) = p k || anyLive p s
+
+  -- the suspended ones among the live
+  abbrev pub resting : Bool → List (Live K) → List (Live K)
+  resting true [] = []
+  resting true (l ∷ s) = s
+  resting false s = s
+
+-- The kinds of operation K. An operation k covers the `len k` words from `base k`. Its unit i makes `put k i w` of the word w at `base k + i`.
+pub record Kinds : Type 1 where
+  pub K : Type 0
+  pub base : K → ℕ
+  pub len : K → ℕ
+  pub put : K → ℕ → ℕ → ℕ
+
+module _ (κ : Kinds) where
+  open Kinds κ using (K, base, len, put)
+
+  -- what u units of k make of the word w at L
+  abbrev pub effect : K → ℕ → ℕ → ℕ → ℕ
+  effect k u L w = cond (within (base k) u L) (put k (L - base k) w) w
+
+  -- the word at L after the journal, which has the latest entry first; w is the word at the start
+  abbrev pub applied : Entry K → ℕ → ℕ → ℕ
+  applied (entry k u t) L w = effect k u L w
+
+  abbrev pub after : List (Entry K) → ℕ → ℕ → ℕ
+  after [] L w = w
+  after (e ∷ j) L w = applied e L (after j L w)
+
+  -- the words after the units u to u + n - 1 of k
+  abbrev pub advanced : K → ℕ → ℕ → (ℕ → ℕ) → ℕ → ℕ
+  advanced k u n m L = cond (within (base k + u) n L) (put k (L - base k) (m L)) (m L)
+
+  abbrev pub In : K → ℕ → Type 0
+  In k L = (base k ≤ L) × (L < base k + len k)
+
+  abbrev pub Apart : K → List (Live K) → Type 0
+  Apart k [] = Unit {0}
+  Apart k (live k′ u ∷ s) = ((L : ℕ) → In k L → In k′ L → ⊥) × Apart k s
+
+  -- what work makes of an entry
+  abbrev pub given : K → ℕ → ℕ → ℕ
+  given k u n = u + min n (len k - u)
+
+  abbrev pub worked : ℕ → Entry K → Entry K
+  worked n (entry k u running) = entry k (given k u n) (cond (eqb (given k u n) (len k)) finished running)
+  worked n (entry k u suspended) = entry k u suspended
+  worked n (entry k u finished) = entry k u finished
+  worked n (entry k u broken-off) = entry k u broken-off
+
+  -- r: the newest live operation runs. s: the live operations, newest first. j: the journal.
+  pub data Match : Bool → List (Live K) → List (Entry K) → Type 0 where
+    start : Match false [] []
+    done : {r : Bool} {s : List (Live K)} {j : List (Entry K)} (k : K) (u : ℕ) → u ≡ len k → Apart k s → Match r s j
+        → Match r s (entry k u finished ∷ j)
+    lost : {r : Bool} {s : List (Live K)} {j : List (Entry K)} (k : K) (u : ℕ) → u < len k → Apart k s → Match r s j
+        → Match r s (entry k u broken-off ∷ j)
+    runs : {s : List (Live K)} {j : List (Entry K)} (k : K) (u : ℕ) → u < len k → Apart k s → Match false s j
+        → Match true (live k u ∷ s) (entry k u running ∷ j)
+    waits : {s : List (Live K)} {j : List (Entry K)} (k : K) (u : ℕ) → u < len k → Apart k s → Match false s j
+        → Match false (live k u ∷ s) (entry k u suspended ∷ j)
+
+  -- one more run of units, seen from a single entry
+  grow : (k : K) (u n L w : ℕ) → effect k (u + n) L w ≡ cond (within (base k + u) n L) (put k (L - base k) (effect k u L w)) (effect k u L w)
+  grow k u n L w = go (within (base k + u) n L) refl (within (base k) u L) refl
+    where
+      go : (s : Bool) → within (base k + u) n L ≡ s → (t : Bool) → within (base k) u L ≡ t
+          → effect k (u + n) L w ≡ cond s (put k (L - base k) (cond t (put k (L - base k) w) w)) (cond t (put k (L - base k) w) w)
+      go true p true q = absurd (omega (arith, within-true (base k + u) n L p, within-true (base k) u L q))
+      go true p false q = let h = within-true (base k + u) n L p in rw (within-in (base k) (u + n) L (omega arith) (omega arith))
+      go false p true q = let h = within-true (base k) u L q in rw (within-in (base k) (u + n) L (omega arith) (omega arith))
+      go false p false q = rw (within-out (base k) (u + n) L (λ a b. out (leb (base k + u) L) refl a b))
+        where
+          out : (c : Bool) → leb (base k + u) L ≡ c → base k ≤ L → L < base k + (u + n) → ⊥
+          out true e a b = within-false (base k + u) n L p (leb-true (base k + u) L e) (omega arith)
+          out false e a b = within-false (base k) u L q a (omega (arith, leb-false (base k + u) L e))
+
+  -- an entry that does not cover L leaves the word there
+  apart-effect : (k : K) (u L w : ℕ) → u ≤ len k → (In k L → ⊥) → effect k u L w ≡ w
+  apart-effect k u L w h n = rw (within-out (base k) u L (λ a b. n (a, omega arith)))
+
+  -- where nothing runs, work changes no entry
+  pub idle-worked : (n : ℕ) {s : List (Live K)} {j : List (Entry K)} → Match false s j → map (worked n) j ≡ j
+  idle-worked n start = refl
+  idle-worked n (done k u e a m) = ap (λ (l : List (Entry K)). entry k u finished ∷ l) (idle-worked n m)
+  idle-worked n (lost k u e a m) = ap (λ (l : List (Entry K)). entry k u broken-off ∷ l) (idle-worked n m)
+  idle-worked n (waits k u e a m) = ap (λ (l : List (Entry K)). entry k u suspended ∷ l) (idle-worked n m)
+
+  -- work that leaves the running operation unfinished
+  pub match-more : (n : ℕ) {k : K} {u : ℕ} {s : List (Live K)} {j : List (Entry K)} → given k u n < len k → Match true (live k u ∷ s) j
+      → Match true (live k (given k u n) ∷ s) (map (worked n) j)
+  match-more n h (done k u e a m) = done k u e a (match-more n h m)
+  match-more n h (lost k u e a m) = lost k u e a (match-more n h m)
+  match-more n h (runs k u e a m) =
+      rw (ne-eqb (given k u n) (len k) (λ x. omega arith), idle-worked n m) (runs k (given k u n) h a m)
+
+  -- work that finishes it
+  pub match-done : (n : ℕ) {k : K} {u : ℕ} {s : List (Live K)} {j : List (Entry K)} → given k u n ≡ len k → Match true (live k u ∷ s) j
+      → Match false s (map (worked n) j)
+  match-done n h (done k u e a m) = done k u e (a .1) (match-done n h m)
+  match-done n h (lost k u e a m) = lost k u e (a .1) (match-done n h m)
+  match-done n h (runs k u e a m) =
+      rw (eq-eqb (given k u n) (len k) h, idle-worked n m) (done k (given k u n) h a m)
+
+  pub idle-paused : {s : List (Live K)} {j : List (Entry K)} → Match false s j → map paused j ≡ j
+  idle-paused start = refl
+  idle-paused (done k u e a m) = ap (λ (l : List (Entry K)). entry k u finished ∷ l) (idle-paused m)
+  idle-paused (lost k u e a m) = ap (λ (l : List (Entry K)). entry k u broken-off ∷ l) (idle-paused m)
+  idle-paused (waits k u e a m) = ap (λ (l : List (Entry K)). entry k u suspended ∷ l) (idle-paused m)
+
+  pub match-paused : {s : List (Live K)} {j : List (Entry K)} → Match true s j → Match false s (map paused j)
+  match-paused (done k u e a m) = done k u e a (match-paused m)
+  match-paused (lost k u e a m) = lost k u e a (match-paused m)
+  match-paused (runs k u e a m) = rw (idle-paused m) (waits k u e a m)
+
+  pub idle-resumed : (p : K → Bool) {s : List (Live K)} {j : List (Entry K)} → None p s → Match false s j → map (resumed p) j ≡ j
+  idle-resumed p h start = refl
+  idle-resumed p h (done k u e a m) = ap (λ (l : List (Entry K)). entry k u finished ∷ l) (idle-resumed p h m)
+  idle-resumed p h (lost k u e a m) = ap (λ (l : List (Entry K)). entry k u broken-off ∷ l) (idle-resumed p h m)
+  idle-resumed p h (waits k u e a m) = rw (h .0, idle-resumed p (h .1) m)
+
+  pub match-resumed : (p : K → Bool) {k : K} {u : ℕ} {s : List (Live K)} {j : List (Entry K)} → p k ≡ true → None p s → Match false (live k u ∷ s) j
+      → Match true (live k u ∷ s) (map (resumed p) j)
+  match-resumed p h n (done k u e a m) = done k u e a (match-resumed p h n m)
+  match-resumed p h n (lost k u e a m) = lost k u e a (match-resumed p h n m)
+  match-resumed p h n (waits k u e a m) = rw (h, idle-resumed p n m) (runs k u e a m)
+
+  pub match-abandoned : {r : Bool} {s : List (Live K)} {j : List (Entry K)} → Match r s j → Match false [] (map abandoned j)
+  match-abandoned start = start
+  match-abandoned (done k u e a m) = done k u e tt (match-abandoned m)
+  match-abandoned (lost k u e a m) = lost k u e tt (match-abandoned m)
+  match-abandoned (runs k u e a m) = lost k u e tt (match-abandoned m)
+  match-abandoned (waits k u e a m) = lost k u e tt (match-abandoned m)
+
+  -- a change of status alone leaves the words
+  pub after-map : (f : Entry K → Entry K) → ((e : Entry K) (L w : ℕ) → applied (f e) L w ≡ applied e L w)
+      → (j : List (Entry K)) (L w : ℕ) → after (map f j) L w ≡ after j L w
+  after-map f h [] L w = refl
+  after-map f h (e ∷ j) L w = h e L (after (map f j) L w) ∙ ap (λ (x : ℕ). applied e L x) (after-map f h j L w)
+
+  pub paused-same : (e : Entry K) (L w : ℕ) → applied (paused e) L w ≡ applied e L w
+  paused-same (entry k u running) L w = refl
+  paused-same (entry k u suspended) L w = refl
+  paused-same (entry k u finished) L w = refl
+  paused-same (entry k u broken-off) L w = refl
+
+  pub resumed-same : (p : K → Bool) (e : Entry K) (L w : ℕ) → applied (resumed p e) L w ≡ applied e L w
+  resumed-same p (entry k u running) L w = refl
+  resumed-same p (entry k u suspended) L w = refl
+  resumed-same p (entry k u finished) L w = refl
+  resumed-same p (entry k u broken-off) L w = refl
+
+  pub abandoned-same : (e : Entry K) (L w : ℕ) → applied (abandoned e) L w ≡ applied e L w
+  abandoned-same (entry k u running) L w = refl
+  abandoned-same (entry k u suspended) L w = refl
+  abandoned-same (entry k u finished) L w = refl
+  abandoned-same (entry k u broken-off) L w = refl
+
+  -- burning what an entry does not cover, before the entry or after it, is the same
+  advanced-past : (k k′ : K) (u u′ n L w : ℕ) → u + n ≤ len k → u′ ≤ len k′ → (In k′ L → In k L → ⊥)
+      → effect k′ u′ L (cond (within (base k + u) n L) (put k (L - base k) w) w)
+      ≡ cond (within (base k + u) n L) (put k (L - base k) (effect k′ u′ L w)) (effect k′ u′ L w)
+  advanced-past k k′ u u′ n L w h h′ a = go (within (base k + u) n L) refl
+    where
+      go : (t : Bool) → within (base k + u) n L ≡ t
+          → effect k′ u′ L (cond t (put k (L - base k) w) w) ≡ cond t (put k (L - base k) (effect k′ u′ L w)) (effect k′ u′ L w)
+      go true e =
+          let i = within-true (base k + u) n L e in
+          let o : In k′ L → ⊥ = λ x. a x (omega arith, omega arith) in
+          rw (apart-effect k′ u′ L w h′ o, apart-effect k′ u′ L (put k (L - base k) w) h′ o)
+      go false e = refl
+
+  -- a live operation lacks at least one unit, and work gives it no more than it lacks
+  pub live-less : {r : Bool} {k : K} {u : ℕ} {s : List (Live K)} {j : List (Entry K)} → Match r (live k u ∷ s) j → u < len k
+  live-less (done k u e a m) = live-less m
+  live-less (lost k u e a m) = live-less m
+  live-less (runs k u e a m) = e
+  live-less (waits k u e a m) = e
+
+  pub given-le : (k : K) (u n : ℕ) → u < len k → given k u n ≤ len k
+  given-le k u n h = omega arith
+
+  -- the word at L after work
+  pub after-worked : (n : ℕ) {k : K} {u : ℕ} {s : List (Live K)} {j : List (Entry K)} → Match true (live k u ∷ s) j → (L w : ℕ)
+      → after (map (worked n) j) L w ≡ advanced k u (min n (len k - u)) (λ l. after j l w) L
+  after-worked n (done k u e a m) L w = ap (λ (x : ℕ). effect k u L x) (after-worked n m L w) ∙ advanced-past _ k _ u _ L _ (given-le _ _ n (live-less m)) (omega arith) (a .0 L)
+  after-worked n (lost k u e a m) L w = ap (λ (x : ℕ). effect k u L x) (after-worked n m L w) ∙ advanced-past _ k _ u _ L _ (given-le _ _ n (live-less m)) (omega arith) (a .0 L)
+  after-worked n (runs {j = j} k u e a m) L w = rw (idle-worked n m) (grow k u (min n (len k - u)) L (after j L w))
+
+  pub match-runs : {r : Bool} {s : List (Live K)} {j : List (Entry K)} → Match r s j → anyRuns j ≡ r
+  match-runs start = refl
+  match-runs (done k u e a m) = match-runs m
+  match-runs (lost k u e a m) = match-runs m
+  match-runs (runs k u e a m) = refl
+  match-runs (waits k u e a m) = match-runs m
+
+  pub match-held : (p : K → Bool) {r : Bool} {s : List (Live K)} {j : List (Entry K)} → Match r s j → anySuspended p j ≡ anyLive p (resting r s)
+  match-held p start = refl
+  match-held p (done k u e a m) = match-held p m
+  match-held p (lost k u e a m) = match-held p m
+  match-held p (runs k u e a m) = match-held p m
+  match-held p (waits k u e a m) = ap (λ (b : Bool). p k || b) (match-held p m)
+
+  -- an entry that has received no unit changes nothing
+  pub effect-zero : (k : K) (L w : ℕ) → effect k 0 L w ≡ w
+  effect-zero k L w = rw (within-out (base k) 0 L (λ a b. omega arith))
+
+  -- what holds of all live operations
+  abbrev pub Short : List (Live K) → Type 0
+  Short [] = Unit {0}
+  Short (live k u ∷ s) = (u < len k) × Short s
+
+  abbrev pub Spread : List (Live K) → Type 0
+  Spread [] = Unit {0}
+  Spread (live k u ∷ s) = Apart k s × Spread s
+
+  pub match-short : {r : Bool} {s : List (Live K)} {j : List (Entry K)} → Match r s j → Short s
+  match-short start = tt
+  match-short (done k u e a m) = match-short m
+  match-short (lost k u e a m) = match-short m
+  match-short (runs k u e a m) = (e, match-short m)
+  match-short (waits k u e a m) = (e, match-short m)
+
+  pub match-spread : {r : Bool} {s : List (Live K)} {j : List (Entry K)} → Match r s j → Spread s
+  match-spread start = tt
+  match-spread (done k u e a m) = match-spread m
+  match-spread (lost k u e a m) = match-spread m
+  match-spread (runs k u e a m) = (a, match-spread m)
+  match-spread (waits k u e a m) = (a, match-spread m)
+
+  -- where something runs, something is under way
+  pub match-some : {j : List (Entry K)} → Match true [] j → ⊥
+  match-some (done k u e a m) = match-some m
+  match-some (lost k u e a m) = match-some m

@@ -1,0 +1,355 @@
+-- The invariant behind the theorem, and that every step keeps it: the device and the recorder agree on the conditions and on what is under way, and
+-- the words are the journal's. So the state is well formed on the way and the array as long as it was, and of all refusals only 3 and 4 can come.
+-- Assumes nothing.
+use mathlib.Core.Path.{_≡_, refl, sym, ap, _∙_, subst, subst₂, fun-ext}
+use mathlib.Core.List.{List, [], _∷_, foldl, reverse, reverseAux}
+use mathlib.Core.Bool.{Bool, true, false, cond, not, _&&_}
+use mathlib.Core.Logic.{_⊎_, inl, inr}
+use Prim.Native.Nat.{ℕ, zero, suc, _+_, _-_, _≤_, _<_, _%_, min}
+use native.Mathlib.Omega.{arith}
+use lib.Dec.{ltb, leb, eqb, eqb·suc-zero}
+use lib.Bits.{bitAnd}
+use lib.ListN.{length, getD}
+use borrow.Author.Tests.{ltb-true, ltb-false, lt-ltb, le-ltb, le-leb, lt-leb, eqb-true, eqb-false, eq-eqb}
+use Rattle.geometry.specs.declared.Part.{Part}
+use Rattle.geometry.specs.declared.Geometry.{Geometry}
+use Rattle.geometry.specs.Blocks.{Sound, geometryOf, words, blocks, location, blockOf, bankOf, startOf, sizeOf}
+use Rattle.geometry.specs.Laws as laws
+use Rattle.protection.specs.Words.{isUnprotected, withUnprotected, spareZero, allProtected}
+use Rattle.protection.specs.Laws as protection
+use Rattle.semantics.specs.declared.Activity.{Activity}
+use Rattle.semantics.specs.declared.Running.{Running}
+use Rattle.semantics.specs.declared.Setup.{Setup}
+use Rattle.semantics.specs.declared.Setup.the-variants as setup
+use Rattle.semantics.specs.declared.Command.{Command}
+use Rattle.semantics.specs.declared.Command.the-variants as command
+use Rattle.semantics.specs.declared.LockCommand.{LockCommand}
+use Rattle.semantics.specs.declared.LockCommand.the-variants as lock
+use Rattle.semantics.specs.declared.State.{State}
+use Rattle.semantics.specs.declared.Step.{Step}
+use Rattle.semantics.specs.declared.Step.the-variants.{Read, Write, Work, Supply, Reset}
+use Rattle.semantics.specs.declared.Answer.{Answer}
+use Rattle.semantics.specs.declared.Answer.the-variants.{Word, Units, Done, Refused}
+use Rattle.semantics.specs.declared.Next.{Next}
+use Rattle.semantics.specs.declared.Mode.the-variants.{Status}
+use Rattle.semantics.specs.State.{geometry, runs, withSupply, withActivity, withSetup, withMode, powerUp}
+use Rattle.semantics.specs.WellFormed.{wellFormed, activityFormed, erasing}
+use Rattle.semantics.specs.Writing as writing
+use Rattle.semantics.specs.Writing.{written, accepts, setUp, clearStatus, firstCycle, programCycle, eraseCycle, lockCycle, settle, commandOf, lockCommandOf}
+use Rattle.semantics.specs.Working.{unitsDone, worked, workedArray}
+use Rattle.semantics.specs.Arrays.{array-length, array-word}
+use Rattle.semantics.specs.Steps.{locationRefusal, addressRefusal, countRefusal, stepRefusal, stateRefusal, firstRefusal, refusalOf, next, accepted, acceptedArray, stepOf, arrayOf, Machine, after, afterAll, fresh}
+use Rattle.semantics.specs.Entries as entries
+use Rattle.semantics.specs.Entries.{Entry, entry, running, suspended, finished, broken-off, Live}
+use Rattle.semantics.specs.Recorder as recorder
+use Rattle.semantics.specs.Recorder.{Operation, Event, nothing, supplied, was-reset, units, Conditions, conditions-after, Recorder, beginning, recorded, recordedAll, journalOf, event, journal-after, reading, applied, base, len, put, kinds}
+use Rattle.semantics.specs.Engine.{Engine, busy, stack, held?, engine-after, words-after, Ready, Ok, rule-ok, Sim, sim-do, words-after-ok, rules-agree, Matches, After}
+use Rattle.semantics.specs.Follows.{conditions, view, viewOf, setupOf, eventOf, Together, Lacking, Follows, follows-cycle, view-worked, words-view}
+use Rattle.semantics.specs.Formed.{together, lacking, formed}
+
+-- ---- refusals
+
+-- a state that is well formed, on an array of its part's length, is refused for neither
+pub state-good : (s : State) (n : ℕ) → n ≡ words (geometry s) → wellFormed s ≡ true → stateRefusal s n ≡ 0
+unfolding stateRefusal
+state-good s n h w = rw (eq-eqb n (words (geometry s)) h, w)
+
+module _ (s : State) (xs : List ℕ) (good : stateRefusal s (length xs) ≡ 0) where
+  pub step-done : (x : Step) → stepRefusal (geometry s) x ≡ 0 → stepOf s xs x ≡ accepted s xs x
+  unfolding stepOf refusalOf firstRefusal
+  step-done x h = rw (good, h)
+
+  pub step-refused : (x : Step) (n : ℕ) → stepRefusal (geometry s) x ≡ suc n → stepOf s xs x ≡ next s (Refused (suc n))
+  unfolding stepOf refusalOf firstRefusal
+  step-refused x n h = rw (good, h, eqb·suc-zero n)
+
+  pub array-done : (x : Step) → stepRefusal (geometry s) x ≡ 0 → arrayOf s xs x ≡ acceptedArray s xs x
+  unfolding arrayOf refusalOf firstRefusal
+  array-done x h = rw (good, h)
+
+  pub array-refused : (x : Step) (n : ℕ) → stepRefusal (geometry s) x ≡ suc n → arrayOf s xs x ≡ xs
+  unfolding arrayOf refusalOf firstRefusal
+  array-refused x n h = rw (good, h, eqb·suc-zero n)
+
+module _ (g : Geometry) where
+  -- an address in range is refused for nothing: after reduction every location lies in a block
+  pub address-good : Sound g → (a : ℕ) → a < 16777216 → addressRefusal g a ≡ 0
+  unfolding addressRefusal locationRefusal
+  address-good sound a h =
+      rw (lt-leb 16777216 a h, lt-ltb (blockOf g (location g a)) (blocks g) (laws.block-lt g sound (location g a) (laws.location-lt g sound a)))
+
+  pub address-bad : (a : ℕ) → 16777216 ≤ a → addressRefusal g a ≡ 3
+  unfolding addressRefusal
+  address-bad a h = rw (le-leb 16777216 a h)
+
+pub count-good : (n : ℕ) → n ≤ 65535 → countRefusal n ≡ 0
+unfolding countRefusal
+count-good n h = rw (le-ltb 65535 n h)
+
+pub count-bad : (n : ℕ) → 65535 < n → countRefusal n ≡ 4
+unfolding countRefusal
+count-bad n h = rw (lt-ltb 65535 n h)
+
+-- ---- the array
+
+-- no step changes the array's length
+pub length-accepted : (s : State) (xs : List ℕ) (x : Step) → length (acceptedArray s xs x) ≡ length xs
+unfolding acceptedArray workedArray
+length-accepted s xs (Read a) = refl
+length-accepted s xs (Write a w) = refl
+length-accepted s xs (Work n) = array-length _ _ _ xs
+length-accepted s xs (Supply on) = refl
+length-accepted s xs Reset = refl
+
+pub length-kept : (s : State) (xs : List ℕ) (x : Step) → length (arrayOf s xs x) ≡ length xs
+unfolding arrayOf
+length-kept s xs x = go (eqb (refusalOf s (length xs) x) 0)
+  where
+    go : (b : Bool) → length (cond b (acceptedArray s xs x) xs) ≡ length xs
+    go true = length-accepted s xs x
+    go false = refl
+
+-- ---- each step is an event, in the state and in every word
+
+-- the words of an array
+abbrev pub wordsOf : List ℕ → ℕ → ℕ
+wordsOf xs L = getD xs L 0
+
+-- what a step makes of a state and an array is what the event v makes of them
+abbrev pub Steps : Event → State → List ℕ → State → List ℕ → Type 0
+Steps v s xs t ys =
+    (conditions t ≡ conditions-after v (conditions s)) × (view (t .activity) ≡ engine-after (geometry s) v (view (s .activity)))
+    × ((L : ℕ) → L < length xs → wordsOf ys L ≡ words-after (geometry s) v (view (s .activity)) (wordsOf xs) L)
+
+abbrev Steps-of : Event → State → List ℕ → Step → Type 0
+Steps-of v s xs x = Steps v s xs (stepOf s xs x .state) (arrayOf s xs x)
+
+-- the pieces of the invariant that a step asks for
+pub record Fit (s : State) : Type 0 where
+  pub alone : Together (s .activity .running) (s .activity .program) (s .activity .erase)
+  pub lacks : Lacking (geometry s) (s .activity .running)
+  pub ready : Ready (setupOf (s .activity .setup)) (busy (view (s .activity))) (held? (view (s .activity)))
+  pub five : length (s .unprotected) ≡ 5
+
+no-conditions-yet : (s : State) → conditions (withSupply (powerUp (s .part)) (s .supply)) ≡ conditions-after was-reset (conditions s)
+unfolding powerUp
+no-conditions-yet s = ap (λ (u : ℕ → Bool). record { supply = s .supply; unprotected = u; setup = recorder.no-setup }) (fun-ext (λ b. protection.all-none b))
+
+module _ (s : State) (xs : List ℕ) (good : stateRefusal s (length xs) ≡ 0) (fit : Fit s) where
+  sound : Sound (geometry s)
+  sound = laws.sound (s .part)
+
+  -- a refused step is no event
+  refused-nothing : (x : Step) (n : ℕ) → stepRefusal (geometry s) x ≡ suc n → Steps-of nothing s xs x
+  refused-nothing x n h = rw (step-refused s xs good x n h, array-refused s xs good x n h) (refl, refl, λ L k. refl)
+
+  -- a step that is not refused, and changes no word
+  quiet : (v : Event) (x : Step) (t : State) → stepRefusal (geometry s) x ≡ 0 → accepted s xs x .state ≡ t → acceptedArray s xs x ≡ xs → Follows (geometry s) v s t
+      → Steps-of v s xs x
+  quiet v x t h q a f =
+      rw (step-done s xs good x h, array-done s xs good x h, q, a) (f .0, f .1, λ L k. ap (λ (m : ℕ → ℕ). m L) (sym (f .2 (wordsOf xs))))
+
+  steps-write : (a w : ℕ) → (a < 16777216) ⊎ (16777216 ≤ a) → Steps-of (eventOf (geometry s) s (Write a w)) s xs (Write a w)
+  unfolding stepRefusal accepted acceptedArray written
+  steps-write a w (inl h) =
+      let l : ℕ = location (geometry s) a in
+      let k : blockOf (geometry s) l < 259 = laws.part-block-lt (s .part) l (laws.location-lt (geometry s) sound a) in
+      rw (lt-ltb a 16777216 h)
+      (quiet (recorder.cycle (geometry s) (conditions s) (busy (view (s .activity))) (held? (view (s .activity))) (setupOf (s .activity .setup)) l (w % 256) w) (Write a w)
+      (writing.cycle s (s .activity .setup) l a w) (address-good (geometry s) sound a h) refl refl
+      (follows-cycle (geometry s) s (s .activity .setup) (s .activity .running) (s .activity .program) (s .activity .erase) (fit .alone) (fit .ready) (fit .five) refl l a w k))
+  steps-write a w (inr h) = rw (le-ltb a 16777216 h) (refused-nothing (Write a w) 2 (address-bad (geometry s) a h))
+
+  steps-read : (a : ℕ) → (a < 16777216) ⊎ (16777216 ≤ a) → Steps-of nothing s xs (Read a)
+  unfolding stepRefusal accepted acceptedArray
+  steps-read a (inl h) = quiet nothing (Read a) s (address-good (geometry s) sound a h) refl refl (refl, refl, λ m. refl)
+  steps-read a (inr h) = refused-nothing (Read a) 2 (address-bad (geometry s) a h)
+
+  steps-work : (n : ℕ) → (65535 < n) ⊎ (n ≤ 65535) → Steps-of (eventOf (geometry s) s (Work n)) s xs (Work n)
+  unfolding stepRefusal accepted acceptedArray worked workedArray
+  steps-work n (inl h) = rw (lt-leb n 65535 h) (refused-nothing (Work n) 3 (count-bad n h))
+  steps-work n (inr h) =
+      rw (le-leb n 65535 h, step-done s xs good (Work n) (count-good n h), array-done s xs good (Work n) (count-good n h)) (
+        refl,
+        view-worked (geometry s) n (s .activity .running) (s .activity .program) (s .activity .erase) (fit .lacks),
+        λ L k. array-word _ _ _ xs L k ∙ words-view (geometry s) n (s .activity .running) (s .activity .program) (s .activity .erase) (wordsOf xs) L,
+      )
+
+  -- every step is the event that the recorder's rule makes of it
+  pub steps : (x : Step) → Steps-of (eventOf (geometry s) s x) s xs x
+  unfolding stepRefusal accepted acceptedArray powerUp
+  steps (Read a) = steps-read a (laws.order a 16777216)
+  steps (Write a w) = steps-write a w (laws.order a 16777216)
+  steps (Work n) = steps-work n (laws.order 65535 n)
+  steps (Supply on) = quiet (supplied on) (Supply on) (withSupply s on) refl refl refl (refl, refl, λ m. refl)
+  steps Reset = quiet was-reset Reset (withSupply (powerUp (s .part)) (s .supply)) refl refl refl (no-conditions-yet s, refl, λ m. refl)
+
+-- ---- what no step changes
+
+-- the protection words stay five, and their spare bits zero
+pub record Kept (s t : State) : Type 0 where
+  pub part : t .part ≡ s .part
+  pub five : length (t .unprotected) ≡ length (s .unprotected)
+  pub spare : spareZero (s .unprotected) ≡ true → spareZero (t .unprotected) ≡ true
+
+kept : (s t : State) → t .part ≡ s .part → t .unprotected ≡ s .unprotected → Kept s t
+kept s t p u = record { part = p; five = ap length u; spare = λ h. ap spareZero u ∙ h }
+
+kept-cond : (b : Bool) (s x y : State) → Kept s x → Kept s y → Kept s (cond b x y)
+kept-cond true s x y p q = p
+kept-cond false s x y p q = q
+
+kept-protection : (s : State) (b : ℕ) (v : Bool) (t : State) → t .part ≡ s .part → t .unprotected ≡ withUnprotected (s .unprotected) b v → Kept s t
+kept-protection s b v t p u = record { part = p; five = ap length u ∙ protection.with-length (s .unprotected) b v; spare = λ h. ap spareZero u ∙ protection.with-spare (s .unprotected) b v h }
+
+kept-setup : (s : State) (k : ℕ) (c : Setup) → Kept s (setUp s k c)
+unfolding setUp
+kept-setup s k c = kept-cond (accepts (s .activity) c) s (withMode (withActivity s (withSetup (s .activity) c)) k Status) s (kept s _ refl refl) (kept s _ refl refl)
+
+kept-first : (s : State) (k : ℕ) (c : Command) → Kept s (firstCycle s k c)
+unfolding firstCycle clearStatus
+kept-first s k command.ReadArray = kept s _ refl refl
+kept-first s k command.ReadStatus = kept s _ refl refl
+kept-first s k command.ReadSignature = kept s _ refl refl
+kept-first s k command.ReadQuery = kept s _ refl refl
+kept-first s k command.Suspend = kept s _ refl refl
+kept-first s k command.Resume = kept s _ refl refl
+kept-first s k command.ClearStatus = kept-cond (runs (s .activity .running)) s _ _ (kept s _ refl refl) (kept s _ refl refl)
+kept-first s k command.SetUpProgram = kept-setup s k setup.Program
+kept-first s k command.SetUpErase = kept-setup s k setup.Erase
+kept-first s k command.SetUpLock = kept-setup s k setup.Lock
+kept-first s k command.Unknown = kept s _ refl refl
+
+kept-lock : (s : State) (k b a : ℕ) (c : LockCommand) → Kept s (lockCycle (settle s k) b a c)
+unfolding lockCycle settle
+kept-lock s k b a lock.Protect = kept-protection s b false _ refl refl
+kept-lock s k b a lock.Unprotect = kept-protection s b true _ refl refl
+kept-lock s k b a lock.Configure = kept s _ refl refl
+kept-lock s k b a lock.Unknown = kept s _ refl refl
+
+kept-cycle : (s : State) (c : Setup) (l a w : ℕ) → Kept s (writing.cycle s c l a w)
+unfolding writing.cycle programCycle eraseCycle settle
+kept-cycle s setup.Nothing l a w = kept-first s _ _
+kept-cycle s setup.Program l a w =
+    kept-cond (not (s .supply)) s _ _ (kept s _ refl refl)
+    (kept-cond (not (isUnprotected (s .unprotected) (blockOf (geometry s) l))) s _ _ (kept s _ refl refl)
+    (kept-cond (erasing (s .activity .erase) (blockOf (geometry s) l)) s _ _ (kept s _ refl refl) (kept s _ refl refl)))
+kept-cycle s setup.Erase l a w =
+    kept-cond (not (eqb (w % 256) 0xD0)) s _ _ (kept s _ refl refl)
+    (kept-cond (not (s .supply)) s _ _ (kept s _ refl refl)
+    (kept-cond (not (isUnprotected (s .unprotected) (blockOf (geometry s) l))) s _ _ (kept s _ refl refl) (kept s _ refl refl)))
+kept-cycle s setup.Lock l a w = kept-lock s _ _ a _
+
+kept-accepted : (s : State) (xs : List ℕ) (x : Step) → length (s .unprotected) ≡ 5 → Kept s (accepted s xs x .state)
+unfolding accepted written worked powerUp
+kept-accepted s xs (Read a) h = kept s _ refl refl
+kept-accepted s xs (Write a w) h = kept-cycle s _ _ a w
+kept-accepted s xs (Work n) h = kept s _ refl refl
+kept-accepted s xs (Supply on) h = kept s _ refl refl
+kept-accepted s xs Reset h = record { part = refl; five = protection.all-length ∙ sym h; spare = λ z. protection.all-spare }
+
+pub kept-step : (s : State) (xs : List ℕ) (x : Step) → length (s .unprotected) ≡ 5 → Kept s (stepOf s xs x .state)
+unfolding stepOf
+kept-step s xs x h = go (eqb (refusalOf s (length xs) x) 0)
+  where
+    go : (b : Bool) → Kept s ((cond b (accepted s xs x) (next s (Refused (refusalOf s (length xs) x)))) .state)
+    go true = kept-accepted s xs x h
+    go false = kept s _ refl refl
+
+-- ---- the invariant: the device and the recorder agree, and the words are the journal's
+
+pub record Agree (p : Part) (xs₀ : List ℕ) (m : Machine) (c : Recorder) : Type 0 where
+  pub part : m .state .part ≡ p
+  pub size : length (m .array) ≡ words (geometryOf p)
+  pub five : length (m .state .unprotected) ≡ 5
+  pub spare : spareZero (m .state .unprotected) ≡ true
+  pub same : conditions (m .state) ≡ c .conditions
+  pub sim : Sim (geometryOf p) (conditions (m .state)) (view (m .state .activity)) (c .journal)
+  pub word : (L : ℕ) → L < words (geometryOf p) → wordsOf (m .array) L ≡ After (geometryOf p) (c .journal) L (wordsOf xs₀ L)
+
+-- a state that agrees is well formed, so that 1 and 2 do not come
+pub agree-formed : (p : Part) (xs₀ : List ℕ) (m : Machine) (c : Recorder) → Agree p xs₀ m c → wellFormed (m .state) ≡ true
+unfolding wellFormed
+agree-formed p xs₀ m c a =
+    let s : State = m .state in
+    let f : activityFormed (geometryOf p) (s .activity) ≡ true =
+    formed (geometryOf p) (laws.sound p) (conditions s) (s .activity .setup) (s .activity .running) (s .activity .program) (s .activity .erase) (c .journal) refl (a .sim)
+    in
+    rw (a .part, f, a .spare)
+
+agree-good : (p : Part) (xs₀ : List ℕ) (m : Machine) (c : Recorder) → Agree p xs₀ m c → stateRefusal (m .state) (length (m .array)) ≡ 0
+agree-good p xs₀ m c a = state-good (m .state) (length (m .array)) (a .size ∙ ap (λ (q : Part). words (geometryOf q)) (sym (a .part))) (agree-formed p xs₀ m c a)
+
+-- the part of the state itself
+agree-own : (p : Part) (xs₀ : List ℕ) (m : Machine) (c : Recorder) → Agree p xs₀ m c → Agree (m .state .part) xs₀ m c
+agree-own p xs₀ m c a = subst (λ (q : Part). Agree q xs₀ m c) (sym (a .part)) a
+
+-- what a step asks for, from the agreement
+pub agree-fit : (s : State) (d : Conditions) (j : List (Entry Operation)) → length (s .unprotected) ≡ 5 → Sim (geometry s) (conditions s) (view (s .activity)) j → Fit s
+agree-fit s d j h sim = record {
+  alone = together (geometry s) (s .activity .running) (s .activity .program) (s .activity .erase) (sim .order);
+  lacks = lacking (geometry s) (s .activity .running) (s .activity .program) (s .activity .erase) j (sim .match);
+  ready = sim .ready;
+  five = h;
+}
+
+-- one step keeps the agreement
+agree-step : (xs₀ : List ℕ) (m : Machine) (c : Recorder) (x : Step) → Agree (m .state .part) xs₀ m c → Agree (m .state .part) xs₀ (after m x) (recorded (geometry (m .state)) c x)
+agree-step xs₀ m c x a =
+    subst (λ (e : Event). Agree (m .state .part) xs₀ (after m x) (record { conditions = conditions-after e (c .conditions); journal = journal-after g e (c .journal) })) (sym q)
+    (record {
+      part = k .part;
+      size = length-kept s xs x ∙ a .size;
+      five = k .five ∙ a .five;
+      spare = k .spare (a .spare);
+      same = f .0 ∙ ap (λ (d : Conditions). conditions-after v d) (a .same);
+      sim = subst₂ (λ d e. Sim g d e (journal-after g v (c .journal))) (sym (f .0)) (sym (f .1)) (sim-do g (laws.sound (s .part)) (conditions s) (view (s .activity)) (c .journal) v o (a .sim));
+      word = λ L h. f .2 L (omega (arith, a .size)) ∙ words-after-ok g v (conditions s) (view (s .activity)) (c .journal) (wordsOf xs) L (wordsOf xs₀ L) (a .sim) (a .word L h);
+    })
+  where
+    s : State
+    s = m .state
+
+    xs : List ℕ
+    xs = m .array
+
+    g : Geometry
+    g = geometry (m .state)
+
+    v : Event
+    v = eventOf (geometry (m .state)) (m .state) x
+
+    o : Ok (geometry (m .state)) (setupOf (m .state .activity .setup)) (busy (view (m .state .activity))) (held? (view (m .state .activity))) v
+    o = rule-ok (geometry (m .state)) (laws.sound (m .state .part)) (conditions (m .state)) (busy (view (m .state .activity))) (held? (view (m .state .activity))) (a .sim .ready) x
+
+    f : Steps-of v (m .state) (m .array) x
+    f = steps (m .state) (m .array) (agree-good (m .state .part) xs₀ m c a) (agree-fit (m .state) (c .conditions) (c .journal) (a .five) (a .sim)) x
+
+    k : Kept (m .state) (stepOf (m .state) (m .array) x .state)
+    k = kept-step (m .state) (m .array) x (a .five)
+
+    q : event (geometry (m .state)) x c ≡ v
+    q =
+        ap (λ (d : Conditions). event (geometry (m .state)) x (record { conditions = d; journal = c .journal })) (sym (a .same))
+        ∙ rules-agree (geometry (m .state)) x (conditions (m .state)) (view (m .state .activity)) (c .journal) (a .sim)
+
+pub agree-after : (p : Part) (xs₀ : List ℕ) (m : Machine) (c : Recorder) (x : Step) → Agree p xs₀ m c → Agree p xs₀ (after m x) (recorded (geometryOf p) c x)
+agree-after p xs₀ m c x a =
+    subst (λ (q : Part). Agree q xs₀ (after m x) (recorded (geometryOf q) c x)) (a .part) (agree-step xs₀ m c x (agree-own p xs₀ m c a))
+
+pub agree-all : (p : Part) (xs₀ : List ℕ) (l : List Step) (m : Machine) (c : Recorder) → Agree p xs₀ m c → Agree p xs₀ (afterAll m l) (recordedAll (geometryOf p) c l)
+agree-all p xs₀ [] m c a = a
+agree-all p xs₀ (x ∷ l) m c a = agree-all p xs₀ l (after m x) (recorded (geometryOf p) c x) (agree-after p xs₀ m c x a)
+
+-- power-up agrees with the recorder's beginning
+pub agree-fresh : (p : Part) (xs : List ℕ) → length xs ≡ words (geometryOf p) → Agree p xs (fresh p xs) beginning
+unfolding powerUp
+agree-fresh p xs h = record {
+  part = refl;
+  size = h;
+  five = protection.all-length;
+  spare = protection.all-spare;
+  same = ap (λ (u : ℕ → Bool). record { supply = false; unprotected = u; setup = recorder.no-setup }) (fun-ext (λ b. protection.all-none b));
+  sim = record { match = entries.start; order = tt; inside = tt; ready = tt };
+  word = λ L k. refl;
+}

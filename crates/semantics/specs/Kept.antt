@@ -1,0 +1,71 @@
+-- A step gives a well-formed state back as a well-formed state: any, not only those that power-up leads to. The proof takes what is under way for a
+-- journal of its own, and so rests on what is proved of the journal.
+-- Assumes nothing.
+use mathlib.Core.Path.{_≡_, refl, sym, ap, _∙_, subst, subst₂}
+use mathlib.Core.List.{List, [], _∷_}
+use mathlib.Core.Bool.{Bool, true, false, cond, not, _&&_}
+use Prim.Native.Nat.{ℕ, _<_}
+use lib.Dec.{eqb}
+use lib.ListN.{length}
+use borrow.Author.Tests.{eqb-true}
+use Rattle.geometry.specs.Blocks.{Sound, geometryOf, words}
+use Rattle.geometry.specs.Laws as laws
+use Rattle.protection.specs.Words.{spareZero}
+use Rattle.semantics.specs.declared.State.{State}
+use Rattle.semantics.specs.declared.Step.{Step}
+use Rattle.semantics.specs.State.{geometry}
+use Rattle.semantics.specs.WellFormed.{wellFormed, activityFormed}
+use Rattle.semantics.specs.Steps.{stateRefusal, firstRefusal, refusalOf, stepRefusal, next, stepOf, arrayOf}
+use Rattle.semantics.specs.Entries.{Entry}
+use Rattle.semantics.specs.Recorder.{Operation, Event, journal-after}
+use Rattle.semantics.specs.Engine.{busy, held?, Sim, rule-ok, sim-do, and-true-l, and-true-r}
+use Rattle.semantics.specs.Follows.{conditions, view, eventOf}
+use Rattle.semantics.specs.Formed.{formed, own, formed-own}
+use Rattle.semantics.specs.Invariant.{Steps, Kept, steps, state-good, kept-step, agree-fit}
+
+-- on an array of the part's length
+keeps-good : (s : State) (xs : List ℕ) (x : Step) → length (s .unprotected) ≡ 5 → length xs ≡ words (geometry s) → wellFormed s ≡ true → wellFormed (stepOf s xs x .state) ≡ true
+unfolding wellFormed
+keeps-good s xs x h n w = rw (q, z, k .spare (and-true-r (activityFormed (geometry s) (s .activity)) _ w))
+  where
+    j : List (Entry Operation)
+    j = own (geometry s) (s .activity .running) (s .activity .program) (s .activity .erase)
+
+    i : Sim (geometry s) (conditions s) (view (s .activity)) j
+    i = formed-own (geometry s) (laws.sound (s .part)) (conditions s) (s .activity .setup) (s .activity .running) (s .activity .program) (s .activity .erase) refl
+        (and-true-l (activityFormed (geometry s) (s .activity)) _ w)
+
+    v : Event
+    v = eventOf (geometry s) s x
+
+    t : State
+    t = stepOf s xs x .state
+
+    f : Steps v s xs t (arrayOf s xs x)
+    f = steps s xs (state-good s (length xs) n w) (agree-fit s (conditions s) j h i) x
+
+    k : Kept s t
+    k = kept-step s xs x h
+
+    q : geometry t ≡ geometry s
+    q = ap geometryOf (k .part)
+
+    y : Sim (geometry s) (conditions t) (view (t .activity)) (journal-after (geometry s) v j)
+    y = subst₂ (λ d e. Sim (geometry s) d e (journal-after (geometry s) v j)) (sym (f .0)) (sym (f .1))
+        (sim-do (geometry s) (laws.sound (s .part)) (conditions s) (view (s .activity)) j v
+        (rule-ok (geometry s) (laws.sound (s .part)) (conditions s) (busy (view (s .activity))) (held? (view (s .activity))) (i .ready) x) i)
+
+    z : activityFormed (geometry s) (t .activity) ≡ true
+    z = formed (geometry s) (laws.sound (s .part)) (conditions t) (t .activity .setup) (t .activity .running) (t .activity .program) (t .activity .erase) (journal-after (geometry s) v j) refl y
+
+refused-back : (s : State) (xs : List ℕ) (x : Step) → eqb (length xs) (words (geometry s)) ≡ false → stepOf s xs x .state ≡ s
+unfolding stepOf refusalOf firstRefusal stateRefusal
+refused-back s xs x e = rw e
+
+-- on any array: one of another length is refused, and the state given back
+pub keeps : (s : State) (xs : List ℕ) (x : Step) → length (s .unprotected) ≡ 5 → wellFormed s ≡ true → wellFormed (stepOf s xs x .state) ≡ true
+keeps s xs x h w = go (eqb (length xs) (words (geometry s))) refl
+  where
+    go : (b : Bool) → eqb (length xs) (words (geometry s)) ≡ b → wellFormed (stepOf s xs x .state) ≡ true
+    go true e = keeps-good s xs x h (eqb-true (length xs) (words (geometry s)) e) w
+    go false e = ap wellFormed (refused-back s xs x e) ∙ w

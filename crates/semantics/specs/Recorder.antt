@@ -1,0 +1,194 @@
+-- The recorder (document 01: clerk) and the journal that it draws up: document 01, "The journal", and nothing else. It is told the part and, of
+-- each step, which of the five it is and its numbers. No device, array or answer enters: the device's definitions are not used here.
+-- Assumes nothing.
+use mathlib.Core.List.{List, [], _∷_, map, foldl, reverse}
+use mathlib.Core.Bool.{Bool, true, false, cond, not, _&&_, _||_}
+use Prim.Native.Nat.{ℕ, _-_, _%_}
+use lib.Dec.{ltb, leb, eqb}
+use lib.Bits.{bitAnd}
+use Rattle.geometry.specs.declared.Geometry.{Geometry}
+use Rattle.geometry.specs.Blocks.{words, location, blockOf, startOf, sizeOf}
+use Rattle.semantics.specs.declared.Step.{Step}
+use Rattle.semantics.specs.declared.Step.the-variants.{Read, Write, Work, Supply, Reset}
+use Rattle.semantics.specs.Entries.{Entry, entry, Standing, running, suspended, finished, broken-off, Kinds, worked, paused, resumed, abandoned, anyRuns, anySuspended}
+
+-- ---- the journal, and what it makes of a word
+
+-- "a program's location and data or an erase's block"
+pub data Operation : Type 0 where
+  program : ℕ → ℕ → Operation
+  erase : ℕ → Operation
+
+-- what the document says of each operation's words: "1 (program) or .. its block's words (erase)"
+module _ (g : Geometry) where
+  abbrev pub base : Operation → ℕ
+  base (program l w) = l
+  base (erase b) = startOf g b
+
+  abbrev pub len : Operation → ℕ
+  len (program l w) = 1
+  len (erase b) = sizeOf g b
+
+  abbrev pub put : Operation → ℕ → ℕ → ℕ
+  put (program l w) i x = bitAnd x w
+  put (erase b) i x = 0xFFFF
+
+  abbrev pub kinds : Kinds
+  kinds = record { K = Operation; base = base; len = len; put = put }
+
+  -- Demand 3: "Finished program: data anded in; unfinished: nothing. Finished erase: FFFFh; unfinished: FFFFh in as many of the block's lowest
+  -- words as it had units.": what an entry makes of the word x at location L
+  abbrev pub reading : Entry Operation → ℕ → ℕ → ℕ
+  reading (entry (program l w) u finished) L x = cond (eqb L l) (bitAnd x w) x
+  reading (entry (program l w) u running) L x = x
+  reading (entry (program l w) u suspended) L x = x
+  reading (entry (program l w) u broken-off) L x = x
+  reading (entry (erase b) u finished) L x = cond (eqb (blockOf g L) b) 0xFFFF x
+  reading (entry (erase b) u running) L x = cond (eqb (blockOf g L) b && ltb (L - startOf g b) u) 0xFFFF x
+  reading (entry (erase b) u suspended) L x = cond (eqb (blockOf g L) b && ltb (L - startOf g b) u) 0xFFFF x
+  reading (entry (erase b) u broken-off) L x = cond (eqb (blockOf g L) b && ltb (L - startOf g b) u) 0xFFFF x
+
+  -- the journal "applied in order of acceptance" to the word x at location L: the recorder has the latest entry first
+  abbrev pub applied : List (Entry Operation) → ℕ → ℕ → ℕ
+  applied j L x = foldl (λ y e. reading e L y) x (reverse j)
+
+-- ---- the recorder
+
+-- the set-up that is pending
+pub data Setup : Type 0 where
+  no-setup program-setup erase-setup lock-setup : Setup
+
+-- "supply, the open blocks, the set-up"
+pub record Conditions : Type 0 where
+  pub supply : Bool
+  pub unprotected : ℕ → Bool
+  pub setup : Setup
+
+pub record Recorder : Type 0 where
+  pub conditions : Conditions
+  pub journal : List (Entry Operation)
+
+-- "He begins with supply off, no block open, no set-up and no entry."
+abbrev pub no-conditions : Conditions
+no-conditions = record { supply = false; unprotected = λ b. false; setup = no-setup }
+
+abbrev pub beginning : Recorder
+beginning = record { conditions = no-conditions; journal = [] }
+
+-- what a step comes to for the recorder
+pub data Event : Type 0 where
+  nothing : Event
+  supplied : Bool → Event
+  was-reset : Event
+  units : ℕ → Event
+  suspend : Event
+  resume-program resume-erase : Event
+  begin : Setup → Event
+  protect : ℕ → Bool → Event
+  accept : Operation → Event
+
+abbrev pub isErase : Operation → Bool
+isErase (program l w) = false
+isErase (erase b) = true
+
+abbrev pub isProgram : Operation → Bool
+isProgram k = not (isErase k)
+
+abbrev pub isAny : Operation → Bool
+isAny k = true
+
+-- the commands of a write with no set-up that bear on the journal
+pub data Command : Type 0 where
+  suspend-command confirm-command program-command lock-command erase-command other-command : Command
+
+abbrev pub commandOf : ℕ → Command
+commandOf c =
+    cond (eqb c 0xB0) suspend-command
+    (cond (eqb c 0xD0) confirm-command
+    (cond (eqb c 0x10 || eqb c 0x40) program-command
+    (cond (eqb c 0x60) lock-command
+    (cond (eqb c 0x20) erase-command other-command))))
+
+module _ (g : Geometry) where
+  -- the block that an operation lies in
+  abbrev pub blockIn : Operation → ℕ
+  blockIn (program l w) = blockOf g l
+  blockIn (erase b) = b
+
+  abbrev pub isEraseOf : ℕ → Operation → Bool
+  isEraseOf b k = isErase k && eqb (blockIn k) b
+
+  -- The rules. `runs`: an entry is running. `held p`: an entry whose operation is p is suspended.
+  module _ (d : Conditions) (runs : Bool) (held : (Operation → Bool) → Bool) where
+    -- "if supply is on, the block open and no erase of it suspended"
+    abbrev pub acceptable : ℕ → Bool
+    acceptable b = d .supply && (d .unprotected b && not (held (isEraseOf b)))
+
+    -- "Write, no set-up: B0h suspends what runs. If nothing runs, D0h sets the suspended program running, else the suspended erase; 10h and 40h
+    -- (program) and 60h (lock) become the set-up if no program is suspended, 20h (erase) if nothing is. Else nothing."
+    abbrev pub first-cycle : Command → Event
+    first-cycle suspend-command = cond runs suspend nothing
+    first-cycle confirm-command = cond runs nothing (cond (held isProgram) resume-program (cond (held isErase) resume-erase nothing))
+    first-cycle program-command = cond (runs || held isProgram) nothing (begin program-setup)
+    first-cycle lock-command = cond (runs || held isProgram) nothing (begin lock-setup)
+    first-cycle erase-command = cond (runs || held isAny) nothing (begin erase-setup)
+    first-cycle other-command = nothing
+
+    -- "Write, set-up: it ends. Lock: the protection commands D0h and 01h open and shut the block. Program with any data, erase with D0h: if supply is
+    -- on, the block open and no erase of it suspended, a running entry with 0 units is added. Else nothing.": at location l, command c, data w
+    abbrev pub cycle : Setup → ℕ → ℕ → ℕ → Event
+    cycle no-setup l c w = first-cycle (commandOf c)
+    cycle lock-setup l c w = cond (eqb c 0xD0) (protect (blockOf g l) true) (cond (eqb c 0x01) (protect (blockOf g l) false) (begin no-setup))
+    cycle program-setup l c w = cond (acceptable (blockOf g l)) (accept (program l w)) (begin no-setup)
+    cycle erase-setup l c w = cond (eqb c 0xD0 && acceptable (blockOf g l)) (accept (erase (blockOf g l))) (begin no-setup)
+
+    -- "An address of 16,777,216 or more, a work count above 65,535, any read: nothing."
+    abbrev pub rule : Step → Event
+    rule (Read a) = nothing
+    rule (Write a w) = cond (ltb a 16777216) (cycle (d .setup) (location g a) (w % 256) w) nothing
+    rule (Work n) = cond (leb n 65535) (units n) nothing
+    rule (Supply on) = supplied on
+    rule Reset = was-reset
+
+-- what an event makes of the conditions. "Supply: noted." "Reset: every block is shut, the set-up ends"
+abbrev pub conditions-after : Event → Conditions → Conditions
+conditions-after nothing d = d
+conditions-after (supplied on) d = record { supply = on; unprotected = d .unprotected; setup = d .setup }
+conditions-after was-reset d = record { supply = d .supply; unprotected = λ b. false; setup = no-setup }
+conditions-after (units n) d = d
+conditions-after suspend d = d
+conditions-after resume-program d = d
+conditions-after resume-erase d = d
+conditions-after (begin s) d = record { supply = d .supply; unprotected = d .unprotected; setup = s }
+conditions-after (protect b v) d = record { supply = d .supply; unprotected = λ c. cond (eqb c b) v (d .unprotected c); setup = no-setup }
+conditions-after (accept k) d = record { supply = d .supply; unprotected = d .unprotected; setup = no-setup }
+
+module _ (g : Geometry) where
+  -- what an event makes of the journal. Reset: "what runs or is suspended is broken off". "Work n: the running entry, if any, gets the lesser of n
+  -- and the units it lacks of 1 (program) or of its block's words (erase). Lacking none, it is finished."
+  abbrev pub journal-after : Event → List (Entry Operation) → List (Entry Operation)
+  journal-after nothing j = j
+  journal-after (supplied on) j = j
+  journal-after was-reset j = map abandoned j
+  journal-after (units n) j = map (worked (kinds g) n) j
+  journal-after suspend j = map paused j
+  journal-after resume-program j = map (resumed isProgram) j
+  journal-after resume-erase j = map (resumed isErase) j
+  journal-after (begin s) j = j
+  journal-after (protect b v) j = j
+  journal-after (accept k) j = entry k 0 running ∷ j
+
+  -- the event of a step, from the recorder's own journal
+  abbrev pub event : Step → Recorder → Event
+  event x c = rule g (c .conditions) (anyRuns (c .journal)) (λ p. anySuspended p (c .journal)) x
+
+  abbrev pub recorded : Recorder → Step → Recorder
+  recorded c x = record { conditions = conditions-after (event x c) (c .conditions); journal = journal-after (event x c) (c .journal) }
+
+  abbrev pub recordedAll : Recorder → List Step → Recorder
+  recordedAll c [] = c
+  recordedAll c (x ∷ l) = recordedAll (recorded c x) l
+
+  -- the journal of a list of steps from power-up, latest entry first
+  abbrev pub journalOf : List Step → List (Entry Operation)
+  journalOf l = recordedAll beginning l .journal

@@ -1,0 +1,110 @@
+-- What a device holds, and the states that differ from another in one field: document 01, "What a device holds".
+-- Assumes nothing.
+use Prim.Native.Nat.{ℕ}
+use mathlib.Core.Bool.{Bool, true, false, cond, _||_}
+use mathlib.Core.List.{List}
+use lib.ListN.{getD, set, replicate}
+use Rattle.geometry.specs.declared.Part.{Part}
+use Rattle.geometry.specs.declared.Geometry.{Geometry}
+use Rattle.geometry.specs.Blocks.{geometryOf}
+use Rattle.protection.specs.Words.{allProtected}
+use Rattle.semantics.specs.declared.Mode.{Mode}
+use Rattle.semantics.specs.declared.Mode.the-variants.{Array, Status, Signature, Query}
+use Rattle.semantics.specs.declared.Bank.{Bank}
+use Rattle.semantics.specs.declared.Setup.{Setup}
+use Rattle.semantics.specs.declared.Setup.the-variants as setup
+use Rattle.semantics.specs.declared.Running.{Running}
+use Rattle.semantics.specs.declared.Running.the-variants as running
+use Rattle.semantics.specs.declared.SuspendedProgram.{SuspendedProgram}
+use Rattle.semantics.specs.declared.SuspendedProgram.the-variants as program
+use Rattle.semantics.specs.declared.SuspendedErase.{SuspendedErase}
+use Rattle.semantics.specs.declared.SuspendedErase.the-variants as erase
+use Rattle.semantics.specs.declared.Activity.{Activity}
+use Rattle.semantics.specs.declared.Flags.{Flags}
+use Rattle.semantics.specs.declared.State.{State}
+
+-- the geometry of the device's part
+abbrev pub geometry : State → Geometry
+geometry s = geometryOf (s .part)
+
+-- ---- one field changed. antt has no update of a record, so that each is written out here once
+
+abbrev pub withBanks : State → List Bank → State
+withBanks s x = record { part = s .part; banks = x; activity = s .activity; flags = s .flags; unprotected = s .unprotected; configuration = s .configuration; supply = s .supply }
+
+abbrev pub withActivity : State → Activity → State
+withActivity s x = record { part = s .part; banks = s .banks; activity = x; flags = s .flags; unprotected = s .unprotected; configuration = s .configuration; supply = s .supply }
+
+abbrev pub withFlags : State → Flags → State
+withFlags s x = record { part = s .part; banks = s .banks; activity = s .activity; flags = x; unprotected = s .unprotected; configuration = s .configuration; supply = s .supply }
+
+abbrev pub withProtection : State → List ℕ → State
+withProtection s x = record { part = s .part; banks = s .banks; activity = s .activity; flags = s .flags; unprotected = x; configuration = s .configuration; supply = s .supply }
+
+abbrev pub withConfiguration : State → ℕ → State
+withConfiguration s x = record { part = s .part; banks = s .banks; activity = s .activity; flags = s .flags; unprotected = s .unprotected; configuration = x; supply = s .supply }
+
+abbrev pub withSupply : State → Bool → State
+withSupply s x = record { part = s .part; banks = s .banks; activity = s .activity; flags = s .flags; unprotected = s .unprotected; configuration = s .configuration; supply = x }
+
+-- the read mode of bank k, and the state with another
+abbrev pub modeOf : State → ℕ → Mode
+modeOf s k = (getD (s .banks) k (record { mode = Array })) .mode
+
+abbrev pub withMode : State → ℕ → Mode → State
+withMode s k m = withBanks s (set (s .banks) k (record { mode = m }))
+
+-- ---- what is under way
+
+abbrev pub activity : Setup → Running → SuspendedProgram → SuspendedErase → Activity
+activity s r p e = record { setup = s; running = r; program = p; erase = e }
+
+abbrev pub withSetup : Activity → Setup → Activity
+withSetup a s = activity s (a .running) (a .program) (a .erase)
+
+abbrev pub withRunning : Activity → Running → Activity
+withRunning a r = activity (a .setup) r (a .program) (a .erase)
+
+-- something runs
+abbrev pub runs : Running → Bool
+runs running.Idle = false
+runs (running.Program l w) = true
+runs (running.Erase b n) = true
+
+-- a program, and an erase, is suspended
+abbrev pub programSuspended : SuspendedProgram → Bool
+programSuspended program.Nothing = false
+programSuspended (program.Program l w) = true
+
+abbrev pub eraseSuspended : SuspendedErase → Bool
+eraseSuspended erase.Nothing = false
+eraseSuspended (erase.Erase b n) = true
+
+-- ---- flags
+
+abbrev pub flagsOf : Bool → Bool → Bool → Bool → Flags
+flagsOf a b c d = record { sr5 = a; sr4 = b; sr3 = c; sr1 = d }
+
+abbrev pub noFlags : Flags
+noFlags = flagsOf false false false false
+
+-- a flag that is set stays set
+abbrev pub joined : Flags → Flags → Flags
+joined f g = flagsOf (f .sr5 || g .sr5) (f .sr4 || g .sr4) (f .sr3 || g .sr3) (f .sr1 || g .sr1)
+
+abbrev pub raise : State → Flags → State
+raise s f = withFlags s (joined (s .flags) f)
+
+-- ---- power-up
+
+-- "supply off, every bank in array mode, nothing pending, running or suspended, flags clear, all blocks protected, configuration register FFFFh"
+unfoldable pub powerUp : Part → State
+powerUp p = record {
+  part = p;
+  banks = replicate 16 (record { mode = Array });
+  activity = activity setup.Nothing running.Idle program.Nothing erase.Nothing;
+  flags = noFlags;
+  unprotected = allProtected;
+  configuration = 0xFFFF;
+  supply = false;
+}

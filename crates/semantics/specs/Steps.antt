@@ -1,0 +1,136 @@
+-- The five steps whole, with their refusals, and a list of them played: document 01, "The five steps" and "Refusal card".
+-- Assumes nothing.
+use Prim.Native.Nat.{ℕ, _+_, _*_, _/_, _%_}
+use mathlib.Core.Bool.{Bool, true, false, not, cond}
+use mathlib.Core.List.{List, [], _∷_}
+use lib.Dec.{eqb, ltb, leb}
+use lib.ListN.{length}
+use Rattle.geometry.specs.declared.Part.{Part}
+use Rattle.geometry.specs.declared.Geometry.{Geometry}
+use Rattle.geometry.specs.Blocks.{words, blocks, location, blockOf}
+use Rattle.protection.specs.declared.Report.{Report}
+use Rattle.protection.specs.Words.{reportOf}
+use Rattle.semantics.specs.declared.State.{State}
+use Rattle.semantics.specs.declared.Step.{Step}
+use Rattle.semantics.specs.declared.Step.the-variants.{Read, Write, Work, Supply, Reset}
+use Rattle.semantics.specs.declared.Answer.{Answer}
+use Rattle.semantics.specs.declared.Answer.the-variants.{Word, Units, Done, Refused}
+use Rattle.semantics.specs.declared.Next.{Next}
+use Rattle.semantics.specs.State.{geometry, withSupply, powerUp}
+use Rattle.semantics.specs.WellFormed.{wellFormed}
+use Rattle.semantics.specs.Reading.{readWord}
+use Rattle.semantics.specs.Writing.{written}
+use Rattle.semantics.specs.Working.{unitsDone, worked, workedArray}
+
+-- ---- refusals: 0 where there is none, else the lowest number of the card that applies
+
+-- 5 "location lies in no block"
+unfoldable pub locationRefusal : Geometry → ℕ → ℕ
+locationRefusal g l = cond (ltb (blockOf g l) (blocks g)) 0 5
+
+-- 3 "address 16,777,216 or more", then 5
+unfoldable pub addressRefusal : Geometry → ℕ → ℕ
+addressRefusal g address = cond (leb 16777216 address) 3 (locationRefusal g (location g address))
+
+-- 4 "work count above 65,535"
+unfoldable pub countRefusal : ℕ → ℕ
+countRefusal n = cond (ltb 65535 n) 4 0
+
+-- what a step's own numbers are refused for
+unfoldable pub stepRefusal : Geometry → Step → ℕ
+stepRefusal g (Read address) = addressRefusal g address
+stepRefusal g (Write address w) = addressRefusal g address
+stepRefusal g (Work n) = countRefusal n
+stepRefusal g (Supply on) = 0
+stepRefusal g Reset = 0
+
+-- 1 "array length is not 256u", then 2 "state not well made"
+unfoldable pub stateRefusal : State → ℕ → ℕ
+stateRefusal s n = cond (eqb n (words (geometry s))) (cond (wellFormed s) 0 2) 1
+
+-- the first of two that is not 0
+unfoldable pub firstRefusal : ℕ → ℕ → ℕ
+firstRefusal a b = cond (eqb a 0) b a
+
+-- the refusal of a step on an array of n words
+unfoldable pub refusalOf : State → ℕ → Step → ℕ
+refusalOf s n x = firstRefusal (stateRefusal s n) (stepRefusal (geometry s) x)
+
+-- ---- a step
+
+abbrev pub next : State → Answer → Next
+next s a = record { state = s; answer = a }
+
+-- the state, and the answer, of a step that is not refused. "Reset gives the power-up state but keeps the supply"
+unfoldable pub accepted : State → List ℕ → Step → Next
+accepted s xs (Read address) = next s (Word (readWord s xs (location (geometry s) address)))
+accepted s xs (Write address w) = next (written s address w) Done
+accepted s xs (Work n) = next (worked s n) (Units (unitsDone (geometry s) (s .activity .running) n))
+accepted s xs (Supply on) = next (withSupply s on) Done
+accepted s xs Reset = next (withSupply (powerUp (s .part)) (s .supply)) Done
+
+-- only work touches the array
+unfoldable pub acceptedArray : State → List ℕ → Step → List ℕ
+acceptedArray s xs (Read address) = xs
+acceptedArray s xs (Write address w) = xs
+acceptedArray s xs (Work n) = workedArray s n xs
+acceptedArray s xs (Supply on) = xs
+acceptedArray s xs Reset = xs
+
+-- "A refusal gives its number beside the answer 0, gives back the state it got and leaves all lent memory."
+unfoldable pub stepOf : State → List ℕ → Step → Next
+stepOf s xs x = cond (eqb (refusalOf s (length xs) x) 0) (accepted s xs x) (next s (Refused (refusalOf s (length xs) x)))
+
+unfoldable pub arrayOf : State → List ℕ → Step → List ℕ
+arrayOf s xs x = cond (eqb (refusalOf s (length xs) x) 0) (acceptedArray s xs x) xs
+
+-- document 01's refusal number, and its value, of each answer
+abbrev pub numberOf : Answer → ℕ
+numberOf (Word w) = 0
+numberOf (Units n) = 0
+numberOf Done = 0
+numberOf (Refused n) = n
+
+abbrev pub valueOf : Answer → ℕ
+valueOf (Word w) = w
+valueOf (Units n) = n
+valueOf Done = 0
+valueOf (Refused n) = 0
+
+-- ---- the report of unprotected blocks (document 01: open report)
+
+pub record Reported : Type 0 where
+  pub refusal : ℕ
+  pub count : ℕ
+  pub lowest : ℕ
+
+-- "how many blocks are open and the lowest open one, 259 if none"; refused 2 where the state is not well formed, with 0 beside the number
+unfoldable pub reportedOf : State → Reported
+reportedOf s =
+    cond (wellFormed s)
+    (record { refusal = 0; count = reportOf (s .unprotected) .count; lowest = reportOf (s .unprotected) .lowest })
+    (record { refusal = 2; count = 0; lowest = 0 })
+
+-- ---- a list of steps
+
+-- a device's state and its array
+pub record Machine : Type 0 where
+  pub state : State
+  pub array : List ℕ
+
+-- one step, whatever it answers
+abbrev pub after : Machine → Step → Machine
+after m x = record { state = stepOf (m .state) (m .array) x .state; array = arrayOf (m .state) (m .array) x }
+
+abbrev pub afterAll : Machine → List Step → Machine
+afterAll m [] = m
+afterAll m (x ∷ l) = afterAll (after m x) l
+
+-- the answers on the way
+abbrev pub answersOf : Machine → List Step → List Answer
+answersOf m [] = []
+answersOf m (x ∷ l) = stepOf (m .state) (m .array) x .answer ∷ answersOf (after m x) l
+
+-- power-up of a part, on an array
+abbrev pub fresh : Part → List ℕ → Machine
+fresh p xs = record { state = powerUp p; array = xs }

@@ -1,0 +1,125 @@
+-- DEMAND 3: after any list of the five steps from power-up, refused ones included, every word of the array is its starting word with the journal
+-- applied in order of acceptance. The journal is drawn up from the steps alone (Recorder).
+-- Assumes nothing.
+use mathlib.Core.Path.{_≡_, refl, sym, ap, _∙_}
+use mathlib.Core.List.{List, [], _∷_, foldl, reverse, reverseAux}
+use mathlib.Core.Bool.{Bool, true, false, cond, _&&_}
+use Prim.Native.Nat.{ℕ, _+_, _-_, _≤_, _<_}
+use native.Mathlib.Omega.{arith}
+use lib.Dec.{ltb, eqb}
+use lib.Bits.{bitAnd}
+use lib.ListN.{length, getD}
+use borrow.Author.Tests.{ltb-true, ltb-false, eqb-true, eqb-false}
+use Rattle.geometry.specs.declared.Part.{Part}
+use Rattle.geometry.specs.declared.Geometry.{Geometry}
+use Rattle.geometry.specs.Blocks.{Sound, geometryOf, words, blockOf, startOf, sizeOf}
+use Rattle.geometry.specs.Laws as laws
+use Rattle.semantics.specs.declared.Step.{Step}
+use Rattle.semantics.specs.Numbers.{within, within-in, within-out}
+use Rattle.semantics.specs.Layout.{inside, only}
+use Rattle.semantics.specs.WellFormed.{wellFormed}
+use Rattle.semantics.specs.Steps.{Machine, after, afterAll, fresh}
+use Rattle.semantics.specs.Entries as entries
+use Rattle.semantics.specs.Entries.{Entry, entry, running, suspended, finished, broken-off, Live}
+use Rattle.semantics.specs.Recorder.{Operation, program, erase, Recorder, beginning, recordedAll, journalOf, reading, applied, base, len, put, kinds}
+use Rattle.semantics.specs.Engine.{Matches, After}
+use Rattle.semantics.specs.Invariant.{wordsOf, Agree, agree-fresh, agree-all, agree-formed}
+
+-- ---- what an entry makes of a word, and what its units do, are the same
+
+module _ (g : Geometry) where
+  -- the journal applied, with the latest entry first
+  abbrev pub readings : List (Entry Operation) → ℕ → ℕ → ℕ
+  readings [] L w = w
+  readings (e ∷ j) L w = reading g e L (readings j L w)
+
+module _ (g : Geometry) (sound : Sound g) where
+  only-word : (l u L : ℕ) → u ≡ 1 → eqb L l ≡ within l u L
+  only-word l u L h = go (eqb L l) refl
+    where
+      go : (t : Bool) → eqb L l ≡ t → t ≡ within l u L
+      go true e = let x = eqb-true L l e in sym (within-in l u L (omega arith) (omega arith))
+      go false e = let x = eqb-false L l e in sym (within-out l u L (λ a b. omega arith))
+
+  no-word : (l u L : ℕ) → u < 1 → within l u L ≡ false
+  no-word l u L h = within-out l u L (λ a b. omega arith)
+
+  block-words : (b u L : ℕ) → L < words g → u ≡ sizeOf g b → eqb (blockOf g L) b ≡ within (startOf g b) u L
+  block-words b u L q h = go (eqb (blockOf g L) b) refl
+    where
+      go : (t : Bool) → eqb (blockOf g L) b ≡ t → t ≡ within (startOf g b) u L
+      go true e =
+          let i : (startOf g b ≤ L) × (L < startOf g b + sizeOf g b) = rw (eqb-true (blockOf g L) b e) at (inside g sound L q) in
+          sym (within-in (startOf g b) u L (i .0) (omega arith))
+      go false e = sym (within-out (startOf g b) u L (λ x y. eqb-false (blockOf g L) b e (only g sound b L x (omega arith))))
+
+  lowest-words : (b u L : ℕ) → L < words g → u < sizeOf g b → (eqb (blockOf g L) b && ltb (L - startOf g b) u) ≡ within (startOf g b) u L
+  lowest-words b u L q h = go (eqb (blockOf g L) b) refl (ltb (L - startOf g b) u) refl
+    where
+      go : (t : Bool) → eqb (blockOf g L) b ≡ t → (v : Bool) → ltb (L - startOf g b) u ≡ v → (t && v) ≡ within (startOf g b) u L
+      go true e true f =
+          let i : (startOf g b ≤ L) × (L < startOf g b + sizeOf g b) = rw (eqb-true (blockOf g L) b e) at (inside g sound L q) in
+          sym (within-in (startOf g b) u L (i .0) (omega (arith, ltb-true (L - startOf g b) u f)))
+      go true e false f = let y = ltb-false (L - startOf g b) u f in sym (within-out (startOf g b) u L (λ a c. omega arith))
+      go false e v f = sym (within-out (startOf g b) u L (λ x y. eqb-false (blockOf g L) b e (only g sound b L x (omega arith))))
+
+  -- what the standing of an entry says of its units
+  abbrev Whole : Entry Operation → Type 0
+  Whole (entry k u finished) = u ≡ len g k
+  Whole (entry k u running) = u < len g k
+  Whole (entry k u suspended) = u < len g k
+  Whole (entry k u broken-off) = u < len g k
+
+  reading-applied : (e : Entry Operation) → Whole e → (L w : ℕ) → L < words g → reading g e L w ≡ entries.applied (kinds g) e L w
+  reading-applied (entry (program l d) u finished) s L w q = ap (λ (t : Bool). cond t (bitAnd w d) w) (only-word l u L s)
+  reading-applied (entry (program l d) u running) s L w q = rw (no-word l u L s)
+  reading-applied (entry (program l d) u suspended) s L w q = rw (no-word l u L s)
+  reading-applied (entry (program l d) u broken-off) s L w q = rw (no-word l u L s)
+  reading-applied (entry (erase b) u finished) s L w q = ap (λ (t : Bool). cond t 65535 w) (block-words b u L q s)
+  reading-applied (entry (erase b) u running) s L w q = ap (λ (t : Bool). cond t 65535 w) (lowest-words b u L q s)
+  reading-applied (entry (erase b) u suspended) s L w q = ap (λ (t : Bool). cond t 65535 w) (lowest-words b u L q s)
+  reading-applied (entry (erase b) u broken-off) s L w q = ap (λ (t : Bool). cond t 65535 w) (lowest-words b u L q s)
+
+  readings-after : (r : Bool) (s : List (Live Operation)) (j : List (Entry Operation)) → Matches g r s j → (L w : ℕ) → L < words g → readings g j L w ≡ After g j L w
+  readings-after r s j entries.start L w q = refl
+  readings-after r s j (entries.done {j = i} k u e a m) L w q =
+      reading-applied (entry k u finished) e L (readings g i L w) q ∙ ap (λ (x : ℕ). entries.applied (kinds g) (entry k u finished) L x) (readings-after _ _ i m L w q)
+  readings-after r s j (entries.lost {j = i} k u e a m) L w q =
+      reading-applied (entry k u broken-off) e L (readings g i L w) q ∙ ap (λ (x : ℕ). entries.applied (kinds g) (entry k u broken-off) L x) (readings-after _ _ i m L w q)
+  readings-after r s j (entries.runs {j = i} k u e a m) L w q =
+      reading-applied (entry k u running) e L (readings g i L w) q ∙ ap (λ (x : ℕ). entries.applied (kinds g) (entry k u running) L x) (readings-after _ _ i m L w q)
+  readings-after r s j (entries.waits {j = i} k u e a m) L w q =
+      reading-applied (entry k u suspended) e L (readings g i L w) q ∙ ap (λ (x : ℕ). entries.applied (kinds g) (entry k u suspended) L x) (readings-after _ _ i m L w q)
+
+  in-order : (j r : List (Entry Operation)) (L w : ℕ) → foldl (λ x e. reading g e L x) w (reverseAux j r) ≡ foldl (λ x e. reading g e L x) (readings g j L w) r
+  in-order [] r L w = refl
+  in-order (e ∷ j) r L w = in-order j (e ∷ r) L w
+
+  pub readings-applied : (j : List (Entry Operation)) (L w : ℕ) → applied g j L w ≡ readings g j L w
+  readings-applied j L w = in-order j [] L w
+
+-- ---- the theorem
+
+-- a machine that agrees with a recorder has the words of his journal
+pub agree-words : (p : Part) (xs₀ : List ℕ) (m : Machine) (c : Recorder) → Agree p xs₀ m c → (L : ℕ) → L < words (geometryOf p)
+    → getD (m .array) L 0 ≡ applied (geometryOf p) (c .journal) L (getD xs₀ L 0)
+agree-words p xs₀ m c a L h =
+    a .word L h ∙ sym (readings-after (geometryOf p) (laws.sound p) _ _ (c .journal) (a .sim .match) L (getD xs₀ L 0) h)
+    ∙ sym (readings-applied (geometryOf p) (laws.sound p) (c .journal) L (getD xs₀ L 0))
+
+-- what is reached from power-up by a list of steps agrees with the recorder who was told of them
+pub reached : (p : Part) (l : List Step) (xs : List ℕ) → length xs ≡ words (geometryOf p) → Agree p xs (afterAll (fresh p xs) l) (recordedAll (geometryOf p) beginning l)
+reached p l xs h = agree-all p xs l (fresh p xs) beginning (agree-fresh p xs h)
+
+-- DEMAND 3. For every part p, every list l of steps and every array xs of the part's length: the word at every location L after the list is the word
+-- there at the start with the journal of the list applied in order of acceptance.
+pub demand-3 : (p : Part) (l : List Step) (xs : List ℕ) → length xs ≡ words (geometryOf p) → (L : ℕ) → L < words (geometryOf p)
+    → getD (afterAll (fresh p xs) l .array) L 0 ≡ applied (geometryOf p) (journalOf (geometryOf p) l) L (getD xs L 0)
+demand-3 p l xs h L k = agree-words p xs (afterAll (fresh p xs) l) (recordedAll (geometryOf p) beginning l) (reached p l xs h) L k
+
+-- every state on the way is well formed, and the array keeps its length: refusals 1 and 2 do not come
+pub reached-formed : (p : Part) (l : List Step) (xs : List ℕ) → length xs ≡ words (geometryOf p) → wellFormed (afterAll (fresh p xs) l .state) ≡ true
+reached-formed p l xs h = agree-formed p xs (afterAll (fresh p xs) l) (recordedAll (geometryOf p) beginning l) (reached p l xs h)
+
+pub reached-length : (p : Part) (l : List Step) (xs : List ℕ) → length xs ≡ words (geometryOf p) → length (afterAll (fresh p xs) l .array) ≡ words (geometryOf p)
+reached-length p l xs h = reached p l xs h .size

@@ -1,0 +1,120 @@
+// What a device holds (document 01, "What a device holds"), the five steps, and their answers: the types, and no function. What the
+// steps mean, the journal, and the theorem that ties the two are in specs/. The code is in the crates above this one.
+use geometry::Part;
+
+// The read mode of a bank.
+pub enum Mode {
+    Array,
+    Status,
+    Signature,
+    Query,
+}
+
+pub struct Bank {
+    pub mode: Mode,
+}
+
+// The pending set-up: the first cycle of a command that has two.
+pub enum Setup {
+    Nothing,
+    Program,
+    Erase,
+    Lock,
+}
+
+// The operation that runs: a program with its location and data, or an erase with its block and the words that it has done.
+pub enum Running {
+    Idle,
+    Program { location: u32, word: u16 },
+    Erase { block: u32, done: u32 },
+}
+
+pub enum SuspendedProgram {
+    Nothing,
+    Program { location: u32, word: u16 },
+}
+
+pub enum SuspendedErase {
+    Nothing,
+    Erase { block: u32, done: u32 },
+}
+
+// All that is under way: what later commands may add to comes in here.
+pub struct Activity {
+    pub setup: Setup,
+    pub running: Running,
+    pub program: SuspendedProgram,
+    pub erase: SuspendedErase,
+}
+
+// The flags of the status register that stay until they are cleared.
+pub struct Flags {
+    pub sr5: bool,
+    pub sr4: bool,
+    pub sr3: bool,
+    pub sr1: bool,
+}
+
+// `unprotected`: bit b % 64 of word b / 64 is 1 where block b is unprotected (document 01: open).
+// `supply`: VPP is on.
+pub struct State {
+    pub part: Part,
+    pub banks: [Bank; 16],
+    pub activity: Activity,
+    pub flags: Flags,
+    pub unprotected: [u64; 5],
+    pub configuration: u16,
+    pub supply: bool,
+}
+
+// One of the five steps: read an address; write a word to an address; work up to so many units; switch the supply; reset.
+pub enum Step {
+    Read(u32),
+    Write(u32, u16),
+    Work(u32),
+    Supply(bool),
+    Reset,
+}
+
+// What a step answers: a word that was read, the units that were done, that it was done, or the refusal's number on document 01's card.
+pub enum Answer {
+    Word(u16),
+    Units(u32),
+    Done,
+    Refused(u32),
+}
+
+// The state after a step, and its answer.
+pub struct Next {
+    pub state: State,
+    pub answer: Answer,
+}
+
+// The commands of a first cycle.
+pub enum Command {
+    ReadArray,
+    ReadStatus,
+    ReadSignature,
+    ReadQuery,
+    Suspend,
+    Resume,
+    ClearStatus,
+    SetUpProgram,
+    SetUpErase,
+    SetUpLock,
+    Unknown,
+}
+
+// The commands of a second cycle after a lock set-up.
+pub enum LockCommand {
+    Protect,
+    Unprotect,
+    Configure,
+    Unknown,
+}
+
+// What a number means as a step: the step that it encodes, or that it encodes none.
+pub enum Decoded {
+    Valid(Step),
+    Invalid,
+}

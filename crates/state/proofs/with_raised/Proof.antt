@@ -1,0 +1,13 @@
+-- `state::with_raised` meets its contract: by what `join` ensures. Assumes nothing.
+use borrow.Author.Needs.{needs}
+use Rattle.state.proofs.with_raised.Statement.{statement}
+use Rattle.state.proofs.with_raised.Tie as tie
+
+join-requires : tie.Need-join-requires
+join-requires c κs = search needs
+
+returns : tie.Need-returns
+returns c = simp (c .join .ensures)
+
+pub with-raised-spec : {M : Type 1} → statement M
+with-raised-spec = tie.close (tie.spec join-requires returns)

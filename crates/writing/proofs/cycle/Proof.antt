@@ -1,0 +1,118 @@
+-- `writing::cycle` meets its contract: by the set-up that is pending, and what the functions that it calls ensure. Assumes nothing.
+use borrow.Author.Needs.{needs}
+use Rattle.semantics.specs.Writing.{cycle}
+use Rattle.writing.proofs.cycle.Statement.{statement}
+use Rattle.writing.proofs.cycle.Tie as tie
+
+bank-of-requires : tie.Need-bank-of-requires
+bank-of-requires c κs = search needs
+
+block-of-requires : tie.Need-block-of-requires
+block-of-requires c κs = search needs
+
+enum-told : tie.Need-enum-told
+enum-told c = search needs
+
+command-of-requires : tie.Need-command-of-requires
+command-of-requires c κs = search needs
+
+first-cycle-requires : tie.Need-first-cycle-requires
+first-cycle-requires c κs = search needs
+
+enum-told-2 : tie.Need-enum-told-2
+enum-told-2 c = search needs
+
+settle-requires : tie.Need-settle-requires
+settle-requires c κs = search needs
+
+program-cycle-requires : tie.Need-program-cycle-requires
+program-cycle-requires c κs = search needs
+
+enum-told-3 : tie.Need-enum-told-3
+enum-told-3 c = search needs
+
+settle-requires-2 : tie.Need-settle-requires-2
+settle-requires-2 c κs = search needs
+
+erase-cycle-requires : tie.Need-erase-cycle-requires
+erase-cycle-requires c κs = search needs
+
+enum-told-4 : tie.Need-enum-told-4
+enum-told-4 c = search needs
+
+settle-requires-3 : tie.Need-settle-requires-3
+settle-requires-3 c κs = search needs
+
+lock-command-of-requires : tie.Need-lock-command-of-requires
+lock-command-of-requires c κs = search needs
+
+lock-cycle-requires : tie.Need-lock-cycle-requires
+lock-cycle-requires c κs = search needs
+
+returns : tie.Need-returns
+unfolding cycle
+returns c =
+    simp (
+      c .first-cycle .ensures,
+      c .before .command-of .ensures,
+      c .before .before .before .before .before .bank-of .ensures .0,
+      c .before .before .enum-told .given .1,
+    )
+
+returns-2 : tie.Need-returns-2
+unfolding cycle
+returns-2 c =
+    simp (
+      c .program-cycle .ensures,
+      c .before .settle .ensures,
+      c .before .before .before .before .block-of .ensures .0,
+      c .before .before .before .before .before .bank-of .ensures .0,
+      c .before .before .enum-told2 .given .1,
+    )
+
+returns-3 : tie.Need-returns-3
+unfolding cycle
+returns-3 c =
+    simp (
+      c .erase-cycle .ensures,
+      c .before .settle2 .ensures,
+      c .before .before .before .before .block-of .ensures .0,
+      c .before .before .before .before .before .bank-of .ensures .0,
+      c .before .before .enum-told3 .given .1,
+    )
+
+returns-4 : tie.Need-returns-4
+unfolding cycle
+returns-4 c =
+    simp (
+      c .lock-cycle .ensures,
+      c .before .lock-command-of .ensures,
+      c .before .before .settle3 .ensures,
+      c .before .before .before .before .before .block-of .ensures .0,
+      c .before .before .before .before .before .before .bank-of .ensures .0,
+      c .before .before .before .enum-told4 .given .1,
+    )
+
+pub cycle-spec : {M : Type 1} → statement M
+cycle-spec =
+    tie.close
+    (tie.spec
+    bank-of-requires
+    block-of-requires
+    enum-told
+    command-of-requires
+    first-cycle-requires
+    enum-told-2
+    settle-requires
+    program-cycle-requires
+    enum-told-3
+    settle-requires-2
+    erase-cycle-requires
+    enum-told-4
+    settle-requires-3
+    lock-command-of-requires
+    lock-cycle-requires
+    returns
+    returns-2
+    returns-3
+    returns-4)

@@ -1,0 +1,22 @@
+-- `writing::settle` meets its contract: by what the functions that it calls ensure. Assumes nothing.
+use borrow.Author.Needs.{needs}
+use Rattle.semantics.specs.Writing.{settle}
+use Rattle.writing.proofs.settle.Statement.{statement}
+use Rattle.writing.proofs.settle.Tie as tie
+
+with-setup-requires : tie.Need-with-setup-requires
+with-setup-requires c κs = search needs
+
+with-activity-requires : tie.Need-with-activity-requires
+with-activity-requires c κs = search needs
+
+with-mode-requires : tie.Need-with-mode-requires
+with-mode-requires c κs = search needs
+
+returns : tie.Need-returns
+unfolding settle
+returns c = simp (c .with-mode .ensures, c .before .with-activity .ensures, c .before .before .with-setup .ensures)
+
+pub settle-spec : {M : Type 1} → statement M
+settle-spec =
+    tie.close (tie.spec with-setup-requires with-activity-requires with-mode-requires returns)

@@ -1,0 +1,254 @@
+//! The clerk of document 01, "The journal". He is told the part and the steps
+//! "but no device, array or answer"; nothing here comes from the model.
+
+#![allow(dead_code)] // a program that takes this module in need not use all of it
+
+use super::geometry::{Part, ADDRESSES, BLOCKS};
+use super::steps::Step;
+
+/// "a program's location and data or an erase's block".
+#[derive(Clone, Copy, Debug, PartialEq, Eq)]
+pub enum Kind {
+    Program { location: u32, data: u16 },
+    Erase { block: u32 },
+}
+
+/// "running, suspended, finished or broken off". "All but the finished are
+/// unfinished."
+#[derive(Clone, Copy, Debug, PartialEq, Eq)]
+pub enum State {
+    Running,
+    Suspended,
+    Finished,
+    BrokenOff,
+}
+
+#[derive(Clone, Copy, Debug, PartialEq, Eq)]
+pub struct Entry {
+    pub kind: Kind,
+    pub units: u32,
+    pub state: State,
+}
+
+impl Entry {
+    pub fn is_program(&self) -> bool {
+        matches!(self.kind, Kind::Program { .. })
+    }
+
+    pub fn is_finished(&self) -> bool {
+        self.state == State::Finished
+    }
+}
+
+#[derive(Clone, Copy, Debug, PartialEq, Eq)]
+enum Setup {
+    Program,
+    Erase,
+    Lock,
+}
+
+/// "He holds supply, the open blocks, the set-up and the journal".
+#[derive(Clone, Debug)]
+pub struct Clerk {
+    part: Part,
+    supply: bool,
+    open: [bool; BLOCKS],
+    setup: Option<Setup>,
+    entries: Vec<Entry>,
+    /// The places in `entries` of what runs or is suspended, at most two; kept
+    /// only so that a long journal need not be searched.
+    live: Vec<usize>,
+}
+
+impl Clerk {
+    /// "He begins with supply off, no block open, no set-up and no entry." The
+    /// part is 0 to 3; another number panics.
+    pub fn new(part: u32) -> Clerk {
+        Clerk {
+            part: Part::from_number(part).expect("a part is 0 to 3"),
+            supply: false,
+            open: [false; BLOCKS],
+            setup: None,
+            entries: Vec::new(),
+            live: Vec::new(),
+        }
+    }
+
+    /// "entries in order of acceptance".
+    pub fn entries(&self) -> &[Entry] {
+        &self.entries
+    }
+
+    pub fn supply(&self) -> bool {
+        self.supply
+    }
+
+    pub fn open_blocks(&self) -> &[bool; BLOCKS] {
+        &self.open
+    }
+
+    pub fn set_up_pending(&self) -> bool {
+        self.setup.is_some()
+    }
+
+    /// The entry that runs, if any.
+    pub fn running(&self) -> Option<&Entry> {
+        self.find(|entry| entry.state == State::Running)
+            .map(|index| &self.entries[index])
+    }
+
+    /// Takes down one step.
+    pub fn note(&mut self, step: Step) {
+        match step {
+            // "An address of 16,777,216 or more, a work count above 65,535,
+            // any read: nothing."
+            Step::Read(_) => {}
+            Step::Write(address, _) if address >= ADDRESSES => {}
+            Step::Work(count) if count > 65_535 => {}
+            Step::Write(address, data) => match self.setup.take() {
+                None => self.first_write(data),
+                Some(setup) => self.second_write(setup, address, data),
+            },
+            Step::Work(count) => self.work(count),
+            // "Supply: noted."
+            Step::Supply(on) => self.supply = on,
+            // "Reset: every block is shut, the set-up ends, what runs or is
+            // suspended is broken off."
+            Step::Reset => {
+                self.open = [false; BLOCKS];
+                self.setup = None;
+                for index in self.live.drain(..) {
+                    self.entries[index].state = State::BrokenOff;
+                }
+            }
+        }
+    }
+
+    /// "the start array with the journal applied": see `apply_to`.
+    pub fn apply(&self, start: &[u16]) -> Vec<u16> {
+        let mut array = start.to_vec();
+        self.apply_to(&mut array);
+        array
+    }
+
+    /// Applies the entries in order of acceptance. A finished program ands its
+    /// data in, an unfinished one does nothing; an erase sets to FFFFh as many
+    /// of its block's lowest words as it had units, which is the whole block
+    /// once it is finished. An array of another length than the part's panics.
+    pub fn apply_to(&self, array: &mut [u16]) {
+        assert_eq!(array.len(), self.part.array_length());
+        for entry in &self.entries {
+            match entry.kind {
+                Kind::Program { location, data } => {
+                    if entry.is_finished() {
+                        array[location as usize] &= data;
+                    }
+                }
+                Kind::Erase { block } => {
+                    let block = self.part.block(block).expect("a block of the part");
+                    let words = if entry.is_finished() {
+                        block.size
+                    } else {
+                        entry.units
+                    };
+                    let first = block.start as usize;
+                    array[first..first + words as usize].fill(0xFFFF);
+                }
+            }
+        }
+    }
+
+    /// "Work n: the running entry, if any, gets the lesser of n and the units
+    /// it lacks of 1 (program) or of its block's words (erase). Lacking none,
+    /// it is finished."
+    fn work(&mut self, count: u32) {
+        let Some(index) = self.find(|entry| entry.state == State::Running) else {
+            return;
+        };
+        let whole = match self.entries[index].kind {
+            Kind::Program { .. } => 1,
+            Kind::Erase { block } => self.part.block(block).expect("a block of the part").size,
+        };
+        let entry = &mut self.entries[index];
+        entry.units += count.min(whole - entry.units);
+        if entry.units == whole {
+            entry.state = State::Finished;
+            self.live.retain(|&other| other != index);
+        }
+    }
+
+    /// "Write, no set-up".
+    fn first_write(&mut self, data: u16) {
+        let command = data % 256;
+        if let Some(index) = self.find(|entry| entry.state == State::Running) {
+            // "B0h suspends what runs." All else here is for "If nothing runs".
+            if command == 0xB0 {
+                self.entries[index].state = State::Suspended;
+            }
+            return;
+        }
+        // Nothing runs, so what is live is suspended.
+        let program = self.find(|entry| entry.is_program());
+        let erase = self.find(|entry| !entry.is_program());
+        match command {
+            // "D0h sets the suspended program running, else the suspended erase"
+            0xD0 => {
+                if let Some(index) = program.or(erase) {
+                    self.entries[index].state = State::Running;
+                }
+            }
+            // "10h and 40h (program) and 60h (lock) become the set-up if no
+            // program is suspended, 20h (erase) if nothing is"
+            0x10 | 0x40 if program.is_none() => self.setup = Some(Setup::Program),
+            0x60 if program.is_none() => self.setup = Some(Setup::Lock),
+            0x20 if self.live.is_empty() => self.setup = Some(Setup::Erase),
+            // "Else nothing."
+            _ => {}
+        }
+    }
+
+    /// "Write, set-up: it ends." The caller has ended it.
+    fn second_write(&mut self, setup: Setup, address: u32, data: u16) {
+        let location = self.part.location(address);
+        let block = match self.part.place(location) {
+            Some(place) => place.block,
+            None => unreachable!("every location lies in a block"),
+        };
+        match (setup, data % 256) {
+            // "Lock: the protection commands D0h and 01h open and shut the
+            // block."
+            (Setup::Lock, 0xD0) => self.open[block as usize] = true,
+            (Setup::Lock, 0x01) => self.open[block as usize] = false,
+            // "Program with any data, erase with D0h"
+            (Setup::Program, _) => self.accept(block, Kind::Program { location, data }),
+            (Setup::Erase, 0xD0) => self.accept(block, Kind::Erase { block }),
+            // "Else nothing."
+            (Setup::Lock | Setup::Erase, _) => {}
+        }
+    }
+
+    /// "if supply is on, the block open and no erase of it suspended, a running
+    /// entry with 0 units is added".
+    fn accept(&mut self, block: u32, kind: Kind) {
+        let own_erase = Kind::Erase { block };
+        let erase_suspended = self
+            .find(|entry| entry.kind == own_erase && entry.state == State::Suspended)
+            .is_some();
+        if self.supply && self.open[block as usize] && !erase_suspended {
+            self.live.push(self.entries.len());
+            self.entries.push(Entry {
+                kind,
+                units: 0,
+                state: State::Running,
+            });
+        }
+    }
+
+    /// The place of the live entry for which `test` holds.
+    fn find(&self, test: impl Fn(&Entry) -> bool) -> Option<usize> {
+        self.live
+            .iter()
+            .copied()
+            .find(|&index| test(&self.entries[index]))
+    }
+}
