@@ -16,6 +16,7 @@ use Rattle.semantics.specs.declared.Step.the-variants.{Read, Write, Work
 use Rattle.semantics.specs.declared.Answer.{Answer}
 use Rattle.semantics.specs.declared.Answer.the-variants.{Word, Units, Done, Refused}
 use Rattle.semantics.specs.declared.Next.{Next}
+use Rattle.semantics.specs.declared.Reported.{Reported}
 use Rattle.semantics.specs.State.{geometry, withSupply, powerUp}
 use Rattle.semantics.specs.WellFormed.{wellFormed}
 use Rattle.semantics.specs.Reading.{readWord}
@@ -98,11 +99,6 @@ valueOf Done = 0
 valueOf (Refused n) = 0
 
 -- ---- the report of unprotected blocks (document 01: open report)
-
-pub record Reported : Type 0 where
-  pub refusal : ℕ
-  pub count : ℕ
-  pub lowest : ℕ
 
 -- "how many blocks are open and the lowest open one, 259 if none"; refused 2 where the state is not well formed, with 0 beside the number
 unfoldable pub reportedOf : State → Reported

@@ -90,6 +90,13 @@ pub struct Next {
     pub answer: Answer,
 }
 
+// The report of unprotected blocks (document 01: open report): a refusal's number or 0, how many blocks are unprotected, and the lowest of them.
+pub struct Reported {
+    pub refusal: u32,
+    pub count: u32,
+    pub lowest: u32,
+}
+
 // The commands of a first cycle.
 pub enum Command {
     ReadArray,
