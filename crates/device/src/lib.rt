@@ -97,7 +97,10 @@ impl Device {
         let part = s.part;
         let a = s.activity;
         let running = a.running;
-        let e = first_refusal(state::state_refusal(s, array.len()), state::count_refusal(count));
+        let e = first_refusal(
+            state::state_refusal(s, array.len()),
+            state::count_refusal(count),
+        );
         if e == 0 {
             let units = operation::units_done(part, running, count);
             working::apply(part, running, units, array);

@@ -1,0 +1,59 @@
+-- What it is to play a list of encoded steps on a device and an array: which steps are played, the answers that are written, and what holds of the device
+-- and of the array afterwards, demand 3 among it. Definitions only; the laws are in Laws.
+-- Assumes nothing.
+use Prim.Native.Nat.{ℕ, zero, suc, _+_, _*_, _<_}
+use mathlib.Core.List.{List, [], _∷_, _++_, map}
+use mathlib.Core.Path.{_≡_}
+use lib.ListN.{length, getD, take, drop}
+use Rattle.geometry.specs.declared.Part.{Part}
+use Rattle.geometry.specs.Blocks.{geometryOf, words}
+use Rattle.semantics.specs.declared.Step.{Step}
+use Rattle.semantics.specs.declared.Answer.{Answer}
+use Rattle.semantics.specs.declared.Decoded.{Decoded}
+use Rattle.semantics.specs.declared.Decoded.the-variants.{Valid, Invalid}
+use Rattle.semantics.specs.Steps.{numberOf, valueOf, Machine, afterAll, answersOf, fresh}
+use Rattle.semantics.specs.Encoding.{decode}
+use Rattle.semantics.specs.Recorder.{journalOf, applied}
+use Rattle.device.specs.declared.Device.{Device}
+use Rattle.playback.specs.declared.RunEnd.{RunEnd}
+
+-- the list that goes on with a step, where a number encodes one, and ends where it does not
+abbrev pub goOn : Decoded → (Step → List Step) → List Step
+goOn (Valid x) f = f x
+goOn Invalid f = []
+
+-- the steps that are played of a list of numbers, with room for n answers: up to the first number that encodes no step, and no more than there is room for
+unfoldable pub playable : List ℕ → ℕ → List Step
+playable [] n = []
+playable (c ∷ l) zero = []
+playable (c ∷ l) (suc n) = goOn (decode c) (λ x. x ∷ playable l n)
+
+-- an answer as a number of 64 bits: document 01's refusal number in the upper half, its value in the lower
+abbrev pub answerCode : Answer → ℕ
+answerCode a = numberOf a * 4294967296 + valueOf a
+
+-- the room after answers were written into it from its start: the places past them stay
+unfoldable pub roomAfter : List ℕ → List Answer → List ℕ
+roomAfter room l = map answerCode l ++ drop (length l) room
+
+abbrev pub machineOf : Device → List ℕ → Machine
+machineOf d xs = record { state = d .state; array = xs }
+
+-- DEMAND 3, of a list that is played in pieces: wherever the device and the array are what steps l₀ made of power-up and an array xs₀ of the part's length, the
+-- words after the steps l are the words of xs₀ with the journal of l₀ and l together applied. With l₀ empty it is demand 3 from power-up.
+unfoldable pub Journaled : Machine → List Step → List ℕ → Type 0
+Journaled m l ys =
+    (p : Part) (xs₀ : List ℕ) (l₀ : List Step) → length xs₀ ≡ words (geometryOf p) → afterAll (fresh p xs₀) l₀ ≡ m → (L : ℕ) → L < words (geometryOf p)
+    → getD ys L 0 ≡ applied (geometryOf p) (journalOf (geometryOf p) (l₀ ++ l)) L (getD xs₀ L 0)
+
+-- what holds after the numbers `codes` were played on a device and an array, with a room for the answers
+pub record Played (d : Device) (codes room xs : List ℕ) (r : RunEnd) (answers array : List ℕ) : Type 0 where
+  -- how many steps were played
+  pub count : r .played ≡ length (playable codes (length room))
+  -- the device and the array are those after these steps
+  pub device : r .device .state ≡ afterAll (machineOf d xs) (playable codes (length room)) .state
+  pub array-is : array ≡ afterAll (machineOf d xs) (playable codes (length room)) .array
+  -- each answer is written, and the rest of the room stays
+  pub answers-are : answers ≡ roomAfter room (answersOf (machineOf d xs) (playable codes (length room)))
+  -- and the words are the journal's
+  pub journal : Journaled (machineOf d xs) (playable codes (length room)) array
