@@ -1,0 +1,4 @@
+-- The modules of the specification.
+pub mod Text
+pub mod Room
+pub mod Cases
