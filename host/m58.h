@@ -1,7 +1,8 @@
 /*
- * Block and bank lookup for the flash model.
+ * The M58LT256K flash model, for C programs: the lookup of blocks and
+ * banks, and lists of steps played on a part.
  *
- * Three pure functions on plain numbers. Any uint32_t may be passed for
+ * THE LOOKUP is three pure functions on plain numbers. Any uint32_t may be passed for
  * either argument. They keep no state, touch no memory of the caller and
  * may be called from any number of threads at once.
  *
@@ -21,6 +22,7 @@
 #ifndef M58_H
 #define M58_H
 
+#include <stddef.h>
 #include <stdint.h>
 
 #ifdef __cplusplus
@@ -54,6 +56,63 @@ uint32_t m58_lookup_block(uint32_t part, uint32_t address);
 
 /* The bank the address lies in, 0 to 15; 0 beside a refusal. */
 uint32_t m58_lookup_bank(uint32_t part, uint32_t address);
+
+/*
+ * PLAYING. The caller keeps the device as M58_STATE_WORDS words, which
+ * m58_power_up fills, and the array as words: M58_FULL_WORDS or
+ * M58_BENCH_WORDS of them, by the part. m58_run plays a list of steps and
+ * writes one answer for each. A long list may be played in pieces: the next
+ * call goes on with the same state words and the same array.
+ *
+ * A step is one uint64_t, made by the macros below. An answer is one
+ * uint64_t: the refusal's number in the upper half, the value in the lower
+ * (the word that was read, the units of work that were done, else 0). A
+ * refused step changes neither the state nor the array.
+ *
+ * Pointers may not overlap. A null pointer is good where its count is 0.
+ */
+#define M58_STATE_WORDS 38
+
+#define M58_READ(address)        ((uint64_t)(uint32_t)(address))
+#define M58_WRITE(address, data) \
+    ((UINT64_C(1) << 48) | ((uint64_t)(uint16_t)(data) << 32) | (uint32_t)(address))
+#define M58_WORK(count)          ((UINT64_C(2) << 48) | (uint32_t)(count))
+#define M58_SUPPLY(on)           ((UINT64_C(3) << 48) | ((on) ? 1u : 0u))
+#define M58_RESET                (UINT64_C(4) << 48)
+
+#define M58_ANSWER_REFUSAL(answer) ((uint32_t)((answer) >> 32))
+#define M58_ANSWER_VALUE(answer)   ((uint32_t)(answer))
+
+/* More refusals, of steps. */
+#define M58_REFUSED_ARRAY UINT32_C(1) /* array length is not the part's */
+#define M58_REFUSED_STATE UINT32_C(2) /* state words are no well-formed device */
+#define M58_REFUSED_COUNT UINT32_C(4) /* work count above 65,535 */
+
+/*
+ * Writes the power-up state of a part into `state` and returns 1. Returns 0,
+ * and writes nothing, when the part is above M58_BENCH_TOP or state_count is
+ * not M58_STATE_WORDS.
+ */
+uint32_t m58_power_up(uint32_t part, uint64_t *state, size_t state_count);
+
+/*
+ * Plays `steps` in order and writes the answer of step i to answers[i].
+ * Returns how many steps were played: all of them, or fewer where
+ * answer_count is less than step_count, or up to the first number that is no
+ * step (made by none of the macros). Answers past that number stay as they
+ * were. Where the state words are not those of a device, every step is refused
+ * and the state stays as it was.
+ */
+size_t m58_run(uint64_t *state, size_t state_count, const uint64_t *steps,
+               size_t step_count, uint64_t *answers, size_t answer_count,
+               uint16_t *array, size_t array_count);
+
+/*
+ * The report of unprotected blocks: refusal << 32 | count << 16 | lowest.
+ * lowest is M58_BLOCKS when none is unprotected; count and lowest are 0 beside
+ * refusal M58_REFUSED_STATE.
+ */
+uint64_t m58_report(const uint64_t *state, size_t state_count);
 
 #ifdef __cplusplus
 }
