@@ -1,0 +1,379 @@
+//! Writes the steps of random lists, and random states to begin from. All is
+//! drawn from a seed, with an eye on the second model's device, so that blocks
+//! are opened and programs and erases are accepted, suspended, nested and cut
+//! far more often than by chance.
+
+use crate::library;
+use crate::second::model::{
+    Device, Erase, Flags, Mode, Operation, Part, Program, Setup, ADDRESSES, BANKS, BLOCKS,
+};
+use crate::second::steps::Step;
+
+/// SplitMix64.
+#[derive(Clone)]
+pub struct Dice(u64);
+
+impl Dice {
+    pub fn new(seed: u64) -> Dice {
+        Dice(seed)
+    }
+
+    pub fn next(&mut self) -> u64 {
+        self.0 = self.0.wrapping_add(0x9E37_79B9_7F4A_7C15);
+        let mut x = self.0;
+        x = (x ^ x >> 30).wrapping_mul(0xBF58_476D_1CE4_E5B9);
+        x = (x ^ x >> 27).wrapping_mul(0x94D0_49BB_1331_11EB);
+        x ^ x >> 31
+    }
+
+    /// A number below `limit`, which is not 0.
+    pub fn below(&mut self, limit: u64) -> u64 {
+        ((u128::from(self.next()) * u128::from(limit)) >> 64) as u64
+    }
+
+    pub fn index(&mut self, length: usize) -> usize {
+        self.below(length as u64) as usize
+    }
+
+    pub fn percent(&mut self, chance: u64) -> bool {
+        self.below(100) < chance
+    }
+
+    pub fn pick<T: Copy>(&mut self, from: &[T]) -> T {
+        from[self.index(from.len())]
+    }
+}
+
+/// The commands, and some that are none.
+const COMMANDS: [u16; 16] = [
+    0xFF, 0x70, 0x90, 0x98, 0xB0, 0xD0, 0x50, 0x10, 0x40, 0x60, 0x20, 0x01, 0x03, 0x00, 0xE8, 0x2F,
+];
+
+/// Offsets in a bank or block at which a read may find something.
+const OFFSETS: [u32; 9] = [0, 1, 2, 3, 4, 5, 0x10, 0x11, 0x12];
+
+pub struct Author {
+    dice: Dice,
+    part: Part,
+    /// The blocks the list keeps coming back to.
+    haunts: Vec<u32>,
+    /// Of a hundred steps, those drawn without a look at the device.
+    wild: u64,
+    /// Of a thousand numbers, resets and numbers that are no step.
+    resets: u64,
+    no_steps: u64,
+}
+
+impl Author {
+    pub fn new(part: Part, seed: u64) -> Author {
+        let mut dice = Dice::new(seed);
+        let mut haunts = Vec::new();
+        for _ in 0..1 + dice.below(5) {
+            haunts.push(some_block(&mut dice));
+        }
+        // Neighbours share an edge, and most often a bank.
+        if dice.percent(50) {
+            haunts.push((haunts[0] + 1) % BLOCKS as u32);
+        }
+        Author {
+            part,
+            haunts,
+            wild: dice.pick(&[0, 2, 10, 30, 100]),
+            resets: dice.pick(&[0, 2, 10, 40]),
+            no_steps: dice.pick(&[0, 0, 5, 30]),
+            dice,
+        }
+    }
+
+    /// The next number of the list: most often a step.
+    pub fn next(&mut self, device: &Device) -> u64 {
+        if self.dice.below(1000) < self.no_steps {
+            return self.no_step();
+        }
+        let step = if self.dice.below(1000) < self.resets {
+            Step::Reset
+        } else if self.dice.percent(self.wild) {
+            self.wild_step()
+        } else {
+            self.fitting_step(device)
+        };
+        library::number(step)
+    }
+
+    /// A number that no macro of m58.h makes, most often by one bit.
+    pub fn no_step(&mut self) -> u64 {
+        loop {
+            let step = self.wild_step();
+            let number = match self.dice.below(4) {
+                0 => self.dice.next(),
+                1 => library::number(step) ^ 1 << self.dice.below(64),
+                2 => library::number(step) ^ (1 + self.dice.below(0xFFFF)) << 32,
+                _ => (5 + self.dice.below(4)) << 48,
+            };
+            if library::step(number).is_none() {
+                return number;
+            }
+        }
+    }
+
+    fn wild_step(&mut self) -> Step {
+        match self.dice.below(40) {
+            0..=11 => Step::Read(self.address()),
+            12..=29 => Step::Write(self.address(), self.command()),
+            30..=36 => Step::Work(self.count(1)),
+            37..=38 => Step::Supply(self.dice.percent(70)),
+            _ => Step::Reset,
+        }
+    }
+
+    fn fitting_step(&mut self, device: &Device) -> Step {
+        match self.dice.below(100) {
+            0..=13 => return Step::Read(self.address()),
+            14 => return Step::Supply(self.dice.percent(70)),
+            15..=16 => return Step::Work(self.count(lacking(device))),
+            17..=18 => return Step::Write(self.address(), self.command()),
+            _ => {}
+        }
+        if let Some(setup) = device.setup {
+            return self.second_cycle(device, setup);
+        }
+        let commands: &[u16] = if device.running.is_some() {
+            if self.dice.percent(60) {
+                return Step::Work(self.count(lacking(device)));
+            }
+            &[0xB0, 0xB0, 0xB0, 0xD0, 0x50, 0x40, 0x60, 0x20, 0xFF, 0x70]
+        } else if device.suspended_program.is_some() {
+            &[0xD0, 0xD0, 0xD0, 0x40, 0x10, 0x60, 0x20, 0x50, 0xB0, 0xFF]
+        } else if device.suspended_erase.is_some() {
+            &[0xD0, 0xD0, 0x40, 0x10, 0x40, 0x60, 0x20, 0x50, 0xFF, 0x90]
+        } else {
+            if !device.supply && self.dice.percent(50) {
+                return Step::Supply(true);
+            }
+            if !self.haunts.iter().any(|&b| device.open[b as usize]) && self.dice.percent(50) {
+                &[0x60]
+            } else {
+                &[0x40, 0x10, 0x40, 0x20, 0x20, 0x60, 0x50, 0xD0, 0xB0, 0x70]
+            }
+        };
+        let mut command = self.dice.pick(commands);
+        if self.dice.percent(12) {
+            command = self.dice.pick(&[0xFF, 0x70, 0x90, 0x98]);
+        }
+        Step::Write(self.address(), self.dressed(command))
+    }
+
+    fn second_cycle(&mut self, device: &Device, setup: Setup) -> Step {
+        let mut address = self.address();
+        let open = |&block: &u32| device.open[block as usize];
+        if let Some(&block) = self.haunts.iter().find(|block| open(block)) {
+            // The other haunts come by the first choice.
+            if self.dice.percent(35) {
+                address = self.address_in(block);
+            }
+        }
+        if let Some(erase) = device.suspended_erase {
+            if self.dice.percent(25) {
+                address = self.address_in(erase.block);
+            }
+        }
+        let data = match setup {
+            Setup::Program => match self.dice.below(4) {
+                0 => self.command(),
+                1 => !(1 << self.dice.below(16)),
+                _ => self.dice.next() as u16,
+            },
+            Setup::Erase if self.dice.percent(85) => self.dressed(0xD0),
+            Setup::Lock if self.dice.percent(60) => self.dressed(0xD0),
+            Setup::Lock if self.dice.percent(60) => {
+                let command = self.dice.pick(&[0x01, 0x03]);
+                self.dressed(command)
+            }
+            Setup::Erase | Setup::Lock => self.command(),
+        };
+        Step::Write(address, data)
+    }
+
+    /// A command with an upper byte that says nothing.
+    fn dressed(&mut self, command: u16) -> u16 {
+        let upper = if self.dice.percent(60) {
+            0
+        } else {
+            self.dice.below(256) as u16
+        };
+        upper << 8 | command
+    }
+
+    fn command(&mut self) -> u16 {
+        let command = if self.dice.percent(80) {
+            self.dice.pick(&COMMANDS)
+        } else {
+            self.dice.below(256) as u16
+        };
+        self.dressed(command)
+    }
+
+    /// An address: most often in a haunt, now and then anywhere, at an edge,
+    /// or at and past the bound.
+    fn address(&mut self) -> u32 {
+        match self.dice.below(100) {
+            0..=74 => {
+                let block = self.dice.pick(&self.haunts);
+                self.address_in(block)
+            }
+            75..=84 => {
+                let block = some_block(&mut self.dice);
+                self.address_in(block)
+            }
+            85..=88 => {
+                let bank = self.dice.below(BANKS as u64) as u32;
+                let start = self.part.bank_start(bank).expect("a bank of the part");
+                let offset = self.dice.pick(&OFFSETS);
+                self.raised(start + offset)
+            }
+            89..=93 => self.dice.below(u64::from(ADDRESSES)) as u32,
+            94..=96 => self.dice.pick(&[0, ADDRESSES - 1, ADDRESSES - 2]),
+            97 => self
+                .dice
+                .pick(&[ADDRESSES, ADDRESSES + 1, 1 << 31, u32::MAX]),
+            _ => (u64::from(ADDRESSES) + self.dice.below((1 << 32) - u64::from(ADDRESSES))) as u32,
+        }
+    }
+
+    fn address_in(&mut self, block: u32) -> u32 {
+        let block = self.part.block(block).expect("a block of the part");
+        let offset = match self.dice.below(10) {
+            0..=3 => self.dice.pick(&OFFSETS) % block.size,
+            4..=5 => block.size - 1 - self.dice.below(2) as u32,
+            6 => self.dice.below(4) as u32, // the same few words again
+            _ => self.dice.below(u64::from(block.size)) as u32,
+        };
+        self.raised(block.start + offset)
+    }
+
+    /// The address of a location, with upper lines where the part ignores them.
+    fn raised(&mut self, location: u32) -> u32 {
+        let length = self.part.array_length() as u64;
+        let copies = u64::from(ADDRESSES) / length;
+        if self.dice.percent(50) {
+            location
+        } else {
+            location + (self.dice.below(copies) * length) as u32
+        }
+    }
+
+    /// A count of work, with an eye on the units that are lacking.
+    fn count(&mut self, lacking: u32) -> u32 {
+        let unit = self.part.unit();
+        match self.dice.below(20) {
+            0 => 0,
+            1..=3 => 1,
+            4..=6 => self.dice.below(9) as u32,
+            7 => lacking - 1,
+            8..=9 => lacking,
+            10 => lacking + 1,
+            11 => lacking / 2,
+            12 => self.dice.pick(&[unit / 4, unit / 4 - 1, unit - 1, unit]),
+            13..=14 => 65_535,
+            15..=17 => self.dice.below(u64::from(unit)) as u32,
+            18 => self.dice.below(65_536) as u32,
+            _ => self
+                .dice
+                .pick(&[65_536, 65_537, 131_071, 1 << 31, u32::MAX - 1, u32::MAX]),
+        }
+    }
+
+    /// A well-made device, mostly one that no short list reaches.
+    pub fn device(&mut self) -> Device {
+        let mut device = Device::power_up(self.part.number());
+        let dice = &mut self.dice;
+        let modes = [Mode::Array, Mode::Status, Mode::Signature, Mode::Query];
+        for mode in &mut device.modes {
+            *mode = dice.pick(&modes);
+        }
+        device.flags = Flags {
+            sr5: dice.percent(50),
+            sr4: dice.percent(50),
+            sr3: dice.percent(50),
+            sr1: dice.percent(50),
+        };
+        let density = dice.pick(&[0, 3, 50, 100]);
+        for open in &mut device.open {
+            *open = dice.percent(density);
+        }
+        device.configuration = dice.next() as u16;
+        device.supply = dice.percent(70);
+
+        let scene = self.dice.below(11);
+        // Scenes 5 to 9 have a suspended erase, and a program only beside it.
+        if (5..10).contains(&scene) {
+            device.suspended_erase = Some(self.erase());
+        }
+        let program = loop {
+            let program = self.program();
+            let place = self.part.place(program.location);
+            if device.suspended_erase.map(|e| e.block) != place.map(|p| p.block) {
+                break program;
+            }
+        };
+        match scene {
+            0 | 5 => {
+                device.setup = Some(self.dice.pick(&[Setup::Program, Setup::Lock]));
+            }
+            1 => device.setup = Some(Setup::Erase),
+            2 | 6 | 7 => device.running = Some(Operation::Program(program)),
+            3 => device.running = Some(Operation::Erase(self.erase())),
+            4 | 8 => device.suspended_program = Some(program),
+            _ => {}
+        }
+        device
+    }
+
+    fn program(&mut self) -> Program {
+        let block = self.usual_block();
+        let address = self.address_in(block);
+        Program {
+            location: self.part.location(address),
+            data: self.dice.next() as u16,
+        }
+    }
+
+    fn erase(&mut self) -> Erase {
+        let block = self.usual_block();
+        let size = self.part.block(block).expect("a block of the part").size;
+        let done = match self.dice.below(4) {
+            0 => 0,
+            1 => size - 1,
+            _ => self.dice.below(u64::from(size)) as u32,
+        };
+        Erase { block, done }
+    }
+
+    fn usual_block(&mut self) -> u32 {
+        if self.dice.percent(70) {
+            self.dice.pick(&self.haunts)
+        } else {
+            some_block(&mut self.dice)
+        }
+    }
+}
+
+/// A block, often one at an edge of the small blocks or of a bank.
+fn some_block(dice: &mut Dice) -> u32 {
+    if dice.percent(50) {
+        dice.pick(&[0, 1, 2, 3, 4, 5, 18, 19, 34, 35, 63, 64, 255, 256, 257, 258])
+    } else {
+        dice.below(BLOCKS as u64) as u32
+    }
+}
+
+/// The units that the running operation lacks; 1 where nothing runs.
+fn lacking(device: &Device) -> u32 {
+    match device.running {
+        Some(Operation::Erase(erase)) => {
+            let block = device.part.block(erase.block);
+            block.map_or(1, |block| block.size.saturating_sub(erase.done).max(1))
+        }
+        _ => 1,
+    }
+}
