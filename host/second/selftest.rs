@@ -2,8 +2,8 @@
 //! worked script, the refusal card, and random lists of steps whose array is
 //! compared with the clerk's reading. Prints one line; panics on a difference.
 //!
-//!     rustc -O --edition 2021 selftest.rs -o /tmp/selftest
-//!     /tmp/selftest [seed]
+//!     rustc -O --edition 2021 selftest.rs -o selftest
+//!     ./selftest [seed]
 
 mod geometry;
 mod journal;
