@@ -78,8 +78,8 @@ impl Author {
         Author {
             part,
             haunts,
-            wild: dice.pick(&[0, 2, 10, 30, 100]),
-            resets: dice.pick(&[0, 2, 10, 40]),
+            wild: dice.pick(&[0, 0, 2, 5, 20, 100]),
+            resets: dice.pick(&[0, 1, 5, 30]),
             no_steps: dice.pick(&[0, 0, 5, 30]),
             dice,
         }
@@ -117,11 +117,11 @@ impl Author {
     }
 
     fn wild_step(&mut self) -> Step {
-        match self.dice.below(40) {
-            0..=11 => Step::Read(self.address()),
-            12..=29 => Step::Write(self.address(), self.command()),
-            30..=36 => Step::Work(self.count(1)),
-            37..=38 => Step::Supply(self.dice.percent(70)),
+        match self.dice.below(100) {
+            0..=29 => Step::Read(self.address()),
+            30..=74 => Step::Write(self.address(), self.command()),
+            75..=93 => Step::Work(self.count(1)),
+            94..=98 => Step::Supply(self.dice.percent(70)),
             _ => Step::Reset,
         }
     }
@@ -145,7 +145,7 @@ impl Author {
         } else if device.suspended_program.is_some() {
             &[0xD0, 0xD0, 0xD0, 0x40, 0x10, 0x60, 0x20, 0x50, 0xB0, 0xFF]
         } else if device.suspended_erase.is_some() {
-            &[0xD0, 0xD0, 0x40, 0x10, 0x40, 0x60, 0x20, 0x50, 0xFF, 0x90]
+            &[0xD0, 0x40, 0x10, 0x40, 0x40, 0x60, 0x60, 0x20, 0x50, 0x90]
         } else {
             if !device.supply && self.dice.percent(50) {
                 return Step::Supply(true);
@@ -153,7 +153,7 @@ impl Author {
             if !self.haunts.iter().any(|&b| device.open[b as usize]) && self.dice.percent(50) {
                 &[0x60]
             } else {
-                &[0x40, 0x10, 0x40, 0x20, 0x20, 0x60, 0x50, 0xD0, 0xB0, 0x70]
+                &[0x40, 0x10, 0x40, 0x40, 0x20, 0x20, 0x20, 0x60, 0x50, 0xD0]
             }
         };
         let mut command = self.dice.pick(commands);
@@ -165,15 +165,15 @@ impl Author {
 
     fn second_cycle(&mut self, device: &Device, setup: Setup) -> Step {
         let mut address = self.address();
-        let open = |&block: &u32| device.open[block as usize];
-        if let Some(&block) = self.haunts.iter().find(|block| open(block)) {
-            // The other haunts come by the first choice.
-            if self.dice.percent(35) {
-                address = self.address_in(block);
-            }
+        let haunts = self.haunts.iter().copied();
+        let open: Vec<u32> = haunts.filter(|&b| device.open[b as usize]).collect();
+        if !open.is_empty() && setup != Setup::Lock && self.dice.percent(70) {
+            let block = self.dice.pick(&open);
+            address = self.address_in(block);
         }
         if let Some(erase) = device.suspended_erase {
-            if self.dice.percent(25) {
+            // A damaged state may name no block.
+            if erase.block < BLOCKS as u32 && self.dice.percent(15) {
                 address = self.address_in(erase.block);
             }
         }

@@ -80,11 +80,7 @@ pub fn encode(device: &Device) -> Words {
 }
 
 fn put_program(words: &mut Words, at: usize, program: Program) {
-    words[at..at + 3].copy_from_slice(&[
-        1,
-        u64::from(program.location),
-        u64::from(program.data),
-    ]);
+    words[at..at + 3].copy_from_slice(&[1, u64::from(program.location), u64::from(program.data)]);
 }
 
 fn put_erase(words: &mut Words, at: usize, kind: u64, erase: Erase) {

@@ -1,25 +1,20 @@
 -- Laws of playing a list step by step. Assumes nothing.
-use Prim.Native.Nat.{ℕ, zero, suc, _+_, _*_, _≤_, _<_}
-use mathlib.Core.List.{List, [], _∷_, _++_, map}
+use Prim.Native.Nat.{ℕ, zero, suc, _≤_, _<_}
+use mathlib.Core.List.{List, [], _∷_, _++_}
 use mathlib.Core.Path.{_≡_, refl, sym, ap, _∙_, subst}
-use mathlib.Core.Logic.{_⊎_, inl, inr}
 use native.Mathlib.Omega.{arith}
-use lib.ListN.{length, getD, take, drop, set, length-append, length-drop}
-use lib.Seq.{take-length, take-append-seam, drop-cons}
-use Rattle.geometry.specs.declared.Part.{Part}
-use Rattle.geometry.specs.Blocks.{geometryOf, words}
+use lib.ListN.{length, getD, take, set}
+use lib.Seq.{take-length}
 use Rattle.semantics.specs.declared.Step.{Step}
 use Rattle.semantics.specs.declared.Answer.{Answer}
 use Rattle.semantics.specs.declared.Decoded.{Decoded}
 use Rattle.semantics.specs.declared.Decoded.the-variants.{Valid, Invalid}
-use Rattle.semantics.specs.Steps.{stepOf, arrayOf, Machine, after, afterAll, answersOf, fresh}
+use Rattle.semantics.specs.Steps.{stepOf, Machine, after, afterAll, answersOf, fresh}
 use Rattle.semantics.specs.Encoding.{decode}
-use Rattle.semantics.specs.Recorder.{journalOf}
-use Rattle.semantics.specs.Theorem.{demand-3}
+use Rattle.semantics.specs.Standing.{Demand3, demand-3-whole}
 use Rattle.device.specs.declared.Device.{Device}
 use Rattle.device.specs.declared.Outcome.{Outcome}
 use Rattle.device.specs.Outcomes.{outcome, arrayOut}
-use Rattle.playback.specs.declared.RunEnd.{RunEnd}
 use Rattle.playback.specs.Playback.{goOn, playable, answerCode, roomAfter, machineOf, Journaled, Played}
 
 -- ---- lists of steps
@@ -123,8 +118,9 @@ sofar-next d₀ codes room xs i d answers array x o array′ s p q e f h =
 -- demand 3 holds of whatever was played
 journaled : (m : Machine) (l : List Step) → Journaled m l (afterAll m l .array)
 unfolding Journaled
-journaled m l p xs₀ l₀ h e L k =
-    ap (λ (y : Machine). getD (afterAll y l .array) L 0) (sym e) ∙ ap (λ (y : Machine). getD (y .array) L 0) (sym (afterAll-append l₀ l (fresh p xs₀))) ∙ demand-3 p (l₀ ++ l) xs₀ h L k
+journaled m l p xs₀ l₀ h e =
+    subst (λ (ys : List ℕ). Demand3 p (l₀ ++ l) xs₀ ys)
+    (ap (λ (y : Machine). y .array) (afterAll-append l₀ l (fresh p xs₀)) ∙ ap (λ (y : Machine). afterAll y l .array) e) (demand-3-whole p (l₀ ++ l) xs₀ h)
 
 -- nothing more is played: the end
 pub sofar-end : (d₀ : Device) (codes room xs : List ℕ) (i : ℕ) (d : Device) (answers array : List ℕ) → Sofar d₀ codes room xs i d answers array

@@ -1,10 +1,10 @@
 -- What it is to play a list of encoded steps on a device and an array: which steps are played, the answers that are written, and what holds of the device
 -- and of the array afterwards, demand 3 among it. Definitions only; the laws are in Laws.
 -- Assumes nothing.
-use Prim.Native.Nat.{ℕ, zero, suc, _+_, _*_, _<_}
+use Prim.Native.Nat.{ℕ, zero, suc, _+_, _*_}
 use mathlib.Core.List.{List, [], _∷_, _++_, map}
 use mathlib.Core.Path.{_≡_}
-use lib.ListN.{length, getD, take, drop}
+use lib.ListN.{length, drop}
 use Rattle.geometry.specs.declared.Part.{Part}
 use Rattle.geometry.specs.Blocks.{geometryOf, words}
 use Rattle.semantics.specs.declared.Step.{Step}
@@ -13,7 +13,7 @@ use Rattle.semantics.specs.declared.Decoded.{Decoded}
 use Rattle.semantics.specs.declared.Decoded.the-variants.{Valid, Invalid}
 use Rattle.semantics.specs.Steps.{numberOf, valueOf, Machine, afterAll, answersOf, fresh}
 use Rattle.semantics.specs.Encoding.{decode}
-use Rattle.semantics.specs.Recorder.{journalOf, applied}
+use Rattle.semantics.specs.Standing.{Demand3}
 use Rattle.device.specs.declared.Device.{Device}
 use Rattle.playback.specs.declared.RunEnd.{RunEnd}
 
@@ -39,12 +39,11 @@ roomAfter room l = map answerCode l ++ drop (length l) room
 abbrev pub machineOf : Device → List ℕ → Machine
 machineOf d xs = record { state = d .state; array = xs }
 
--- DEMAND 3, of a list that is played in pieces: wherever the device and the array are what steps l₀ made of power-up and an array xs₀ of the part's length, the
--- words after the steps l are the words of xs₀ with the journal of l₀ and l together applied. With l₀ empty it is demand 3 from power-up.
+-- DEMAND 3, of a list that is played in pieces: wherever the device and the array are what steps l₀ made of power-up and an array xs₀ of the part's length,
+-- demand 3 holds whole of the steps l₀ and l together: the length, every word, and every entry of their journal. With l₀ empty it is demand 3 from power-up.
 unfoldable pub Journaled : Machine → List Step → List ℕ → Type 0
 Journaled m l ys =
-    (p : Part) (xs₀ : List ℕ) (l₀ : List Step) → length xs₀ ≡ words (geometryOf p) → afterAll (fresh p xs₀) l₀ ≡ m → (L : ℕ) → L < words (geometryOf p)
-    → getD ys L 0 ≡ applied (geometryOf p) (journalOf (geometryOf p) (l₀ ++ l)) L (getD xs₀ L 0)
+    (p : Part) (xs₀ : List ℕ) (l₀ : List Step) → length xs₀ ≡ words (geometryOf p) → afterAll (fresh p xs₀) l₀ ≡ m → Demand3 p (l₀ ++ l) xs₀ ys
 
 -- what holds after the numbers `codes` were played on a device and an array, with a room for the answers
 pub record Played (d : Device) (codes room xs : List ℕ) (r : RunEnd) (answers array : List ℕ) : Type 0 where
@@ -55,5 +54,5 @@ pub record Played (d : Device) (codes room xs : List ℕ) (r : RunEnd) (answers 
   pub array-is : array ≡ afterAll (machineOf d xs) (playable codes (length room)) .array
   -- each answer is written, and the rest of the room stays
   pub answers-are : answers ≡ roomAfter room (answersOf (machineOf d xs) (playable codes (length room)))
-  -- and the words are the journal's
+  -- and demand 3 holds
   pub journal : Journaled (machineOf d xs) (playable codes (length room)) array

@@ -2,34 +2,37 @@
 -- from power-up with real commands. A wrong number in the table is refused.
 -- Assumes nothing.
 use Prim.Native.Nat.{ℕ, zero, suc, _+_, _*_}
-use mathlib.Core.Bool.{Bool, true, false, cond, _&&_}
+use mathlib.Core.Bool.{Bool, true, _&&_}
 use mathlib.Core.List.{List, [], _∷_, _++_}
-use lib.Dec.{T, eqb, ltb, leb}
+use lib.Dec.{T, eqb}
 use lib.ListN.{replicate}
 use Rattle.geometry.specs.declared.Part.{Part}
-use Rattle.geometry.specs.declared.Part.the-variants.{FullBottom, FullTop, BenchBottom, BenchTop}
+use Rattle.geometry.specs.declared.Part.the-variants.{BenchBottom}
 use Rattle.geometry.specs.Blocks.{mirror, blockFrom, blockOf, bankOf, sizeOf, startFrom, startOf, bankStart, blockOffset, bankOffset, bankOfBlock, lookupOf}
 use Rattle.protection.specs.Words.{bit, bitAt, isUnprotected, withUnprotected, spareZero, allProtected}
 use Rattle.semantics.specs.declared.Step.{Step}
 use Rattle.semantics.specs.declared.Step.the-variants.{Read, Write, Work, Supply, Reset}
 use Rattle.semantics.specs.declared.Answer.{Answer}
+use Rattle.semantics.specs.declared.State.{State}
 use Rattle.semantics.specs.declared.Answer.the-variants.{Word, Units, Done, Refused}
 use Rattle.semantics.specs.State.{powerUp}
 use Rattle.semantics.specs.WellFormed.{runningAlone, programAlone, eraseAlone, eraseFits, runningFits, programFits, suspendedEraseFits, allFit, runningApart, programApart, apart, activityFormed, wellFormed}
 use Rattle.semantics.specs.Reading.{runsIn, statusWord, signatureWord, queryWord, readIn, readWord}
 use Rattle.semantics.specs.Writing.{commandOf, resume, accepts, setUp, clearStatus, firstCycle, programCycle, eraseCycle, lockCommandOf, lockCycle, settle, cycle, written}
 use Rattle.semantics.specs.Working.{unitsLeft, unitsDone, runningAfter, wordAfter, tabulate, arrayAfter, worked, workedArray}
-use Rattle.semantics.specs.Steps.{locationRefusal, addressRefusal, countRefusal, stepRefusal, stateRefusal, firstRefusal, refusalOf, accepted, acceptedArray, stepOf, arrayOf, Machine, after, fresh}
+use Rattle.semantics.specs.Steps.{locationRefusal, addressRefusal, countRefusal, stepRefusal, stateRefusal, firstRefusal, refusalOf, accepted, acceptedArray, stepOf, arrayOf, reportedOf, Machine, after, fresh}
 
 infixl 20 _⟶_
 -- a step, and what it answers
 pub data Exchange : Type 0 where
   _⟶_ : Step → Answer → Exchange
 
--- an address of a part, by its number, lies in a block and a bank; or: from power-up, on an array, each step answers so
+-- an address of a part, by its number, lies in a block and a bank; or: from power-up, on an array, each step answers so; or: after such steps, so many blocks
+-- are reported unprotected, and this as the lowest
 pub data Case : Type 0 where
   lies : ℕ → ℕ → ℕ → ℕ → Case
   plays : Part → List ℕ → List Exchange → Case
+  reports : Part → List ℕ → List Exchange → ℕ → ℕ → Case
 
 -- answers apart by their kind and number
 abbrev code : Answer → ℕ
@@ -38,29 +41,40 @@ code (Units n) = 4 * n + 1
 code Done = 2
 code (Refused n) = 4 * n + 3
 
-abbrev playsOut : Machine → List Exchange → Bool
-playsOut m [] = true
-playsOut m ((x ⟶ a) ∷ l) = eqb (code (stepOf (m .state) (m .array) x .answer)) (code a) && playsOut (after m x) l
+-- each step answers so, and what the last one leaves passes a test
+abbrev playsOut : Machine → List Exchange → (State → Bool) → Bool
+playsOut m [] f = f (m .state)
+playsOut m ((x ⟶ a) ∷ l) f = eqb (code (stepOf (m .state) (m .array) x .answer)) (code a) && playsOut (after m x) l f
+
+abbrev reported : ℕ → ℕ → State → Bool
+reported n b s = eqb (reportedOf s .refusal) 0 && (eqb (reportedOf s .count) n && eqb (reportedOf s .lowest) b)
 
 abbrev pub holds : Case → Bool
 holds (lies p a b k) = eqb (lookupOf p a .refusal) 0 && (eqb (lookupOf p a .block) b && eqb (lookupOf p a .bank) k)
-holds (plays p xs l) = playsOut (fresh p xs) l
+holds (plays p xs l) = playsOut (fresh p xs) l (λ s. true)
+holds (reports p xs l n b) = playsOut (fresh p xs) l (reported n b)
 
 abbrev pub every : List Case → Bool
 every [] = true
 every (c ∷ l) = holds c && every l
 
 -- n words from address a on read w
-abbrev reads : ℕ → ℕ → ℕ → List Exchange
+abbrev pub reads : ℕ → ℕ → ℕ → List Exchange
 reads a zero w = []
 reads a (suc n) w = (Read a ⟶ Word w) ∷ reads (suc a) n w
 
 -- supply on, and the block of an address unprotected
-abbrev prepared : ℕ → List Exchange
+abbrev pub prepared : ℕ → List Exchange
 prepared a = (Supply true ⟶ Done) ∷ (Write a 0x60 ⟶ Done) ∷ (Write a 0xD0 ⟶ Done) ∷ []
 
-abbrev bench : ℕ → List ℕ
+-- an array of a bench part that has the word w everywhere
+abbrev pub bench : ℕ → List ℕ
 bench w = replicate 16384 w
+
+-- an exchange at the lowest address of each of n banks of the bench bottom part, from address a on
+abbrev pub inBanks : ℕ → ℕ → (ℕ → Exchange) → List Exchange
+inBanks a zero f = []
+inBanks a (suc n) f = f a ∷ inBanks (a + 0x400) n f
 
 abbrev pub cases : List Case
 cases =
@@ -92,10 +106,11 @@ cases =
     -- (11) bench bottom, block 4 all 0000, erase, work 10, reset: ten words FFFF, 54 words 0000
     ∷ plays BenchBottom (bench 0x0000)
     (prepared 0x40 ++ (Write 0x40 0x20 ⟶ Done) ∷ (Write 0x40 0xD0 ⟶ Done) ∷ (Work 10 ⟶ Units 10) ∷ (Reset ⟶ Done) ∷ (reads 0x40 10 0xFFFF ++ reads 0x4A 54 0x0000))
-    -- (12) set-up 40h, then FFh to an open block: 00FF is programmed, no mode goes to array (bank 0 shows status until FFh, bank 1 after it too)
+    -- (12) set-up 40h, then FFh to an unprotected block, with all 16 banks in status mode before: after the program's one unit every bank still shows the
+    -- status word, so that no mode went to array; and the word is 00FF
     ∷ plays BenchBottom (bench 0xFFFF)
-    (prepared 0x40 ++ (Write 0x400 0x70 ⟶ Done) ∷ (Write 0x40 0x40 ⟶ Done) ∷ (Write 0x40 0x00FF ⟶ Done) ∷ (Work 1 ⟶ Units 1) ∷ (Read 0x40 ⟶ Word 0x80)
-    ∷ (Read 0x400 ⟶ Word 0x80) ∷ (Write 0x40 0xFF ⟶ Done) ∷ (Read 0x40 ⟶ Word 0x00FF) ∷ [])
+    (prepared 0x40 ++ (inBanks 0 16 (λ a. Write a 0x70 ⟶ Done)) ++ (Write 0x40 0x40 ⟶ Done) ∷ (Write 0x40 0x00FF ⟶ Done) ∷ (Work 1 ⟶ Units 1)
+    ∷ (inBanks 0 16 (λ a. Read a ⟶ Word 0x80)) ++ (Write 0x40 0xFF ⟶ Done) ∷ (Read 0x40 ⟶ Word 0x00FF) ∷ [])
     ∷ []
 
 pub cases-hold : T (every cases)

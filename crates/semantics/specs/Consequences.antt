@@ -1,23 +1,28 @@
--- What the steps come to, one by one, in document 01's words: a refusal changes nothing; read changes nothing, and only work changes a word; flags stay until
--- 50h or reset, and never block a command; left running, a program ends at 1 unit and an erase at the size of its block.
+-- What the steps come to, one by one, in document 01's words: which refusal comes, and that it changes nothing; read changes nothing, and only work changes a
+-- word; which writes change a mode; flags stay until 50h or reset, and never block a command; work looks at neither supply nor protection; left running, a
+-- program ends at 1 unit and an erase at the size of its block.
 -- Assumes nothing.
 use mathlib.Core.Path.{_≡_, refl, sym, ap, _∙_, subst}
 use mathlib.Core.List.{List, [], _∷_}
-use mathlib.Core.Bool.{Bool, true, false, cond, not, _&&_, _||_, true≢false}
+use mathlib.Core.Bool.{Bool, true, false, cond, not, _||_, true≢false}
 use mathlib.Core.Logic.{_⊎_, inl, inr}
-use Prim.Native.Nat.{ℕ, zero, suc, _+_, _-_, _≤_, _<_, _%_, min}
+use Prim.Native.Nat.{ℕ, suc, _+_, _-_, _≤_, _<_, _%_, min}
 use native.Mathlib.Omega.{arith}
 use lib.Dec.{ltb, leb, eqb, eqb·suc-zero}
-use lib.ListN.{length, getD}
-use borrow.Author.Tests.{eqb-true, eqb-false, ltb-true, ltb-false, lt-ltb, le-ltb, le-leb, lt-leb}
+use lib.ListN.{length, getD, set}
+use lib.Seq.{getD-set-other}
+use borrow.Author.Tests.{eqb-true, ltb-true, ltb-false, lt-ltb, le-ltb, le-leb, lt-leb, eq-eqb, ne-eqb}
+use Rattle.geometry.specs.declared.Part.{Part}
 use Rattle.geometry.specs.declared.Geometry.{Geometry}
-use Rattle.geometry.specs.Blocks.{Sound, geometryOf, words, location, blockOf, bankOf, sizeOf}
+use Rattle.geometry.specs.Blocks.{geometryOf, words, blocks, location, blockOf, bankOf, sizeOf}
 use Rattle.geometry.specs.Laws as laws
 use Rattle.protection.specs.Words.{isUnprotected}
 use Rattle.semantics.specs.declared.Setup.{Setup}
 use Rattle.semantics.specs.declared.Setup.the-variants as setup
 use Rattle.semantics.specs.declared.Running.{Running}
 use Rattle.semantics.specs.declared.Running.the-variants as running
+use Rattle.semantics.specs.declared.Activity.{Activity}
+use Rattle.semantics.specs.declared.Bank.{Bank}
 use Rattle.semantics.specs.declared.Command.{Command}
 use Rattle.semantics.specs.declared.Command.the-variants as command
 use Rattle.semantics.specs.declared.LockCommand.{LockCommand}
@@ -28,13 +33,16 @@ use Rattle.semantics.specs.declared.Step.{Step}
 use Rattle.semantics.specs.declared.Step.the-variants.{Read, Write, Work, Supply, Reset}
 use Rattle.semantics.specs.declared.Answer.{Answer}
 use Rattle.semantics.specs.declared.Answer.the-variants.{Word, Units, Done, Refused}
-use Rattle.semantics.specs.declared.Mode.the-variants.{Status}
-use Rattle.semantics.specs.State.{geometry, runs, withFlags, withActivity, withSetup, withMode, withSupply, noFlags, joined, flagsOf, raise, powerUp}
-use Rattle.semantics.specs.WellFormed.{erasing, wellFormed}
-use Rattle.semantics.specs.Writing.{commandOf, accepts, setUp, clearStatus, firstCycle, programCycle, eraseCycle, lockCommandOf, lockCycle, settle, cycle, written}
+use Rattle.semantics.specs.declared.Mode.{Mode}
+use Rattle.semantics.specs.declared.Mode.the-variants.{Array, Status, Signature, Query}
+use Rattle.semantics.specs.State.{geometry, runs, modeOf, withFlags, withActivity, withSetup, withMode, withProtection, withSupply, noFlags, joined}
+use Rattle.semantics.specs.WellFormed.{pending, erasing, runningAlone, programAlone, eraseAlone, eraseFits, runningFits, allFit, activityFormed, wellFormed}
+use Rattle.semantics.specs.Writing.{commandOf, resume, accepts, setUp, clearStatus, firstCycle, programCycle, eraseCycle, lockCommandOf, lockCycle, settle, cycle, written}
 use Rattle.semantics.specs.Working.{unitsLeft, unitsDone, runningAfter, worked, workedArray}
-use Rattle.semantics.specs.Steps.{countRefusal, stepRefusal, stateRefusal, firstRefusal, refusalOf, next, accepted, acceptedArray, stepOf, arrayOf, valueOf, Machine, after, afterAll}
-use Rattle.semantics.specs.Invariant.{Kept, kept-step, state-good, step-done, count-good, count-bad, step-refused, length-kept}
+use Rattle.semantics.specs.Steps.{stepRefusal, stateRefusal, firstRefusal, refusalOf, next, accepted, acceptedArray, stepOf, arrayOf, numberOf, reportedOf, Machine, after, afterAll, fresh}
+use Rattle.semantics.specs.Engine.{and-true-l, and-true-r, not-true}
+use Rattle.semantics.specs.Invariant.{kept-step, state-good, step-done, count-good, count-bad, step-refused, length-kept}
+use Rattle.semantics.specs.Theorem.{reached, reached-formed}
 use Rattle.semantics.specs.Kept.{keeps}
 
 -- ---- refusals
@@ -43,6 +51,36 @@ use Rattle.semantics.specs.Kept.{keeps}
 pub refusal-changes-nothing : (s : State) (xs : List ℕ) (x : Step) (n : ℕ) → refusalOf s (length xs) x ≡ suc n → (stepOf s xs x ≡ next s (Refused (suc n))) × (arrayOf s xs x ≡ xs)
 unfolding stepOf arrayOf
 refusal-changes-nothing s xs x n h = (rw (h, eqb·suc-zero n), rw (h, eqb·suc-zero n))
+
+-- the number of the answer is the refusal, 0 where there is none
+pub answer-number : (s : State) (xs : List ℕ) (x : Step) → numberOf (stepOf s xs x .answer) ≡ refusalOf s (length xs) x
+unfolding stepOf accepted
+answer-number s xs x = go (eqb (refusalOf s (length xs) x) 0) refl
+  where
+    none : (x : Step) → numberOf (accepted s xs x .answer) ≡ 0
+    none (Read a) = refl
+    none (Write a w) = refl
+    none (Work n) = refl
+    none (Supply on) = refl
+    none Reset = refl
+
+    go : (b : Bool) → eqb (refusalOf s (length xs) x) 0 ≡ b → numberOf ((cond b (accepted s xs x) (next s (Refused (refusalOf s (length xs) x)))) .answer) ≡ refusalOf s (length xs) x
+    go true e = none x ∙ sym (eqb-true (refusalOf s (length xs) x) 0 e)
+    go false e = refl
+
+-- "array length is not 256u": every step is refused 1, whatever the state
+pub refusal-1 : (s : State) (n : ℕ) (x : Step) → (n ≡ words (geometry s) → ⊥) → refusalOf s n x ≡ 1
+unfolding refusalOf firstRefusal stateRefusal
+refusal-1 s n x h = rw (ne-eqb n (words (geometry s)) h)
+
+-- "state not well made", on an array of the part's length: every step is refused 2, and so is the report of unprotected blocks
+pub refusal-2 : (s : State) (n : ℕ) (x : Step) → n ≡ words (geometry s) → wellFormed s ≡ false → refusalOf s n x ≡ 2
+unfolding refusalOf firstRefusal stateRefusal
+refusal-2 s n x h f = rw (eq-eqb n (words (geometry s)) h, f)
+
+pub report-refused : (s : State) → wellFormed s ≡ false → reportedOf s ≡ record { refusal = 2; count = 0; lowest = 0 }
+unfolding reportedOf
+report-refused s f = rw f
 
 -- ---- what a step leaves
 
@@ -75,6 +113,138 @@ supply-changes-no-word s xs on = same-array s xs (Supply on) refl
 pub reset-changes-no-word : (s : State) (xs : List ℕ) → arrayOf s xs Reset ≡ xs
 unfolding acceptedArray
 reset-changes-no-word s xs = same-array s xs Reset refl
+
+-- ---- modes
+
+-- the banks m have the modes of the banks l, but for that of bank k
+record Marked (k : ℕ) (l m : List Bank) : Type 0 where
+  stays : (j : ℕ) → (j ≡ k → ⊥) → (getD m j (record { mode = Array })) .mode ≡ (getD l j (record { mode = Array })) .mode
+
+marked-same : (k : ℕ) (l : List Bank) → Marked k l l
+marked-same k l = record { stays = λ j n. refl }
+
+marked-set : (k : ℕ) (m : Mode) (l : List Bank) → Marked k l (set l k (record { mode = m }))
+marked-set k m l = record { stays = λ j n. ap (λ (b : Bank). b .mode) (getD-set-other l k j (record { mode = m }) (record { mode = Array }) n) }
+
+marked-cond : (k : ℕ) (l : List Bank) (b : Bool) (x y : State) → Marked k l (x .banks) → Marked k l (y .banks) → Marked k l ((cond b x y) .banks)
+marked-cond k l true x y p q = p
+marked-cond k l false x y p q = q
+
+marked-setup : (s : State) (k : ℕ) (c : Setup) → Marked k (s .banks) (setUp s k c .banks)
+unfolding setUp
+marked-setup s k c = marked-cond k (s .banks) (accepts (s .activity) c) _ _ (marked-set k Status (s .banks)) (marked-same k (s .banks))
+
+marked-first : (s : State) (k : ℕ) (c : Command) → Marked k (s .banks) (firstCycle s k c .banks)
+unfolding firstCycle clearStatus
+marked-first s k command.ReadArray = marked-set k Array (s .banks)
+marked-first s k command.ReadStatus = marked-set k Status (s .banks)
+marked-first s k command.ReadSignature = marked-set k Signature (s .banks)
+marked-first s k command.ReadQuery = marked-set k Query (s .banks)
+marked-first s k command.Suspend = marked-same k (s .banks)
+marked-first s k command.Resume = marked-same k (s .banks)
+marked-first s k command.ClearStatus = marked-cond k (s .banks) (runs (s .activity .running)) _ _ (marked-same k (s .banks)) (marked-same k (s .banks))
+marked-first s k command.SetUpProgram = marked-setup s k setup.Program
+marked-first s k command.SetUpErase = marked-setup s k setup.Erase
+marked-first s k command.SetUpLock = marked-setup s k setup.Lock
+marked-first s k command.Unknown = marked-same k (s .banks)
+
+marked-lock : (s : State) (k b a : ℕ) (c : LockCommand) → Marked k (s .banks) (lockCycle (settle s k) b a c .banks)
+unfolding lockCycle settle
+marked-lock s k b a lock.Protect = marked-set k Status (s .banks)
+marked-lock s k b a lock.Unprotect = marked-set k Status (s .banks)
+marked-lock s k b a lock.Configure = marked-set k Status (s .banks)
+marked-lock s k b a lock.Unknown = marked-set k Status (s .banks)
+
+marked-cycle : (s : State) (c : Setup) (l a w : ℕ) → Marked (bankOf (geometry s) l) (s .banks) (cycle s c l a w .banks)
+unfolding cycle programCycle eraseCycle settle
+marked-cycle s setup.Nothing l a w = marked-first s _ (commandOf (w % 256))
+marked-cycle s setup.Program l a w =
+    marked-cond _ (s .banks) (not (s .supply)) _ _ (marked-set _ Status (s .banks))
+    (marked-cond _ (s .banks) (not (isUnprotected (s .unprotected) (blockOf (geometry s) l))) _ _ (marked-set _ Status (s .banks))
+    (marked-cond _ (s .banks) (erasing (s .activity .erase) (blockOf (geometry s) l)) _ _ (marked-set _ Status (s .banks)) (marked-set _ Status (s .banks))))
+marked-cycle s setup.Erase l a w =
+    marked-cond _ (s .banks) (not (eqb (w % 256) 0xD0)) _ _ (marked-set _ Status (s .banks))
+    (marked-cond _ (s .banks) (not (s .supply)) _ _ (marked-set _ Status (s .banks))
+    (marked-cond _ (s .banks) (not (isUnprotected (s .unprotected) (blockOf (geometry s) l))) _ _ (marked-set _ Status (s .banks)) (marked-set _ Status (s .banks))))
+marked-cycle s setup.Lock l a w = marked-lock s _ _ a (lockCommandOf (w % 256))
+
+-- "the addressed bank's mode becomes ..", "puts the bank of its own address in status mode": a write changes no mode but that of the addressed bank
+pub modes-stay : (s : State) (xs : List ℕ) (a w k : ℕ) → (k ≡ bankOf (geometry s) (location (geometry s) a) → ⊥) → modeOf (stepOf s xs (Write a w) .state) k ≡ modeOf s k
+unfolding stepOf accepted written
+modes-stay s xs a w k n = go (eqb (refusalOf s (length xs) (Write a w)) 0)
+  where
+    go : (b : Bool) → modeOf ((cond b (accepted s xs (Write a w)) (next s (Refused (refusalOf s (length xs) (Write a w))))) .state) k ≡ modeOf s k
+    go true = marked-cycle s (s .activity .setup) (location (geometry s) a) a w .stays k n
+    go false = refl
+
+-- the first cycles that change a mode: FFh, 70h, 90h, 98h, and a set-up that is accepted
+abbrev pub ChangesMode : Activity → Command → Type 0
+ChangesMode x command.ReadArray = Unit {0}
+ChangesMode x command.ReadStatus = Unit {0}
+ChangesMode x command.ReadSignature = Unit {0}
+ChangesMode x command.ReadQuery = Unit {0}
+ChangesMode x command.Suspend = ⊥
+ChangesMode x command.Resume = ⊥
+ChangesMode x command.ClearStatus = ⊥
+ChangesMode x command.SetUpProgram = accepts x setup.Program ≡ true
+ChangesMode x command.SetUpErase = accepts x setup.Erase ≡ true
+ChangesMode x command.SetUpLock = accepts x setup.Lock ≡ true
+ChangesMode x command.Unknown = ⊥
+
+banks-cond : (b : Bool) (l : List Bank) (x y : State) → x .banks ≡ l → y .banks ≡ l → (cond b x y) .banks ≡ l
+banks-cond true l x y p q = p
+banks-cond false l x y p q = q
+
+banks-setup : (s : State) (k : ℕ) (c : Setup) → (accepts (s .activity) c ≡ true → ⊥) → setUp s k c .banks ≡ s .banks
+unfolding setUp
+banks-setup s k c n = go (accepts (s .activity) c) refl
+  where
+    go : (b : Bool) → accepts (s .activity) c ≡ b → (cond b (withMode (withActivity s (withSetup (s .activity) c)) k Status) s) .banks ≡ s .banks
+    go true e = absurd (n e)
+    go false e = refl
+
+banks-first : (s : State) (k : ℕ) (c : Command) → (ChangesMode (s .activity) c → ⊥) → firstCycle s k c .banks ≡ s .banks
+unfolding firstCycle clearStatus
+banks-first s k command.ReadArray n = absurd (n tt)
+banks-first s k command.ReadStatus n = absurd (n tt)
+banks-first s k command.ReadSignature n = absurd (n tt)
+banks-first s k command.ReadQuery n = absurd (n tt)
+banks-first s k command.Suspend n = refl
+banks-first s k command.Resume n = refl
+banks-first s k command.ClearStatus n = banks-cond (runs (s .activity .running)) _ _ _ refl refl
+banks-first s k command.SetUpProgram n = banks-setup s k setup.Program n
+banks-first s k command.SetUpErase n = banks-setup s k setup.Erase n
+banks-first s k command.SetUpLock n = banks-setup s k setup.Lock n
+banks-first s k command.Unknown n = refl
+
+-- "no other write but FFh, 70h, 90h and 98h changes a mode": with no set-up pending, B0h, D0h, 50h, a set-up that is not accepted and any other command change none
+pub modes-all-stay : (s : State) (xs : List ℕ) (a w : ℕ) → s .activity .setup ≡ setup.Nothing → (ChangesMode (s .activity) (commandOf (w % 256)) → ⊥)
+    → stepOf s xs (Write a w) .state .banks ≡ s .banks
+unfolding stepOf accepted written cycle
+modes-all-stay s xs a w e n = go (eqb (refusalOf s (length xs) (Write a w)) 0)
+  where
+    l : ℕ
+    l = location (geometry s) a
+
+    go : (b : Bool) → (cond b (accepted s xs (Write a w)) (next s (Refused (refusalOf s (length xs) (Write a w))))) .state .banks ≡ s .banks
+    go true = ap (λ (c : Setup). cycle s c l a w .banks) e ∙ banks-first s (bankOf (geometry s) l) (commandOf (w % 256)) n
+    go false = refl
+
+-- ---- work
+
+-- "Supply is looked at only when an operation is accepted", and so is protection: whatever they are, work does the same and answers the same
+pub work-looks-at-neither : (s : State) (on : Bool) (ws : List ℕ) (n : ℕ) (xs : List ℕ)
+    → (workedArray (withSupply s on) n xs ≡ workedArray s n xs) × (accepted (withSupply s on) xs (Work n) ≡ next (withSupply (worked s n) on) (accepted s xs (Work n) .answer))
+    × (workedArray (withProtection s ws) n xs ≡ workedArray s n xs) × (accepted (withProtection s ws) xs (Work n) ≡ next (withProtection (worked s n) ws) (accepted s xs (Work n) .answer))
+unfolding workedArray worked accepted
+work-looks-at-neither s on ws n xs = (refl, refl, refl, refl)
+
+-- "Protecting a block whose erase is suspended does not stop that erase when resumed.": nor does supply off
+pub resume-looks-at-neither : (s : State) (on : Bool) (ws : List ℕ) (k : ℕ)
+    → (firstCycle (withSupply s on) k command.Resume ≡ withSupply (firstCycle s k command.Resume) on)
+    × (firstCycle (withProtection s ws) k command.Resume ≡ withProtection (firstCycle s k command.Resume) ws)
+unfolding firstCycle
+resume-looks-at-neither s on ws k = (refl, refl)
 
 -- ---- flags
 
@@ -130,13 +300,13 @@ stay-lock s k b a lock.Configure = stay-same _ _ refl
 stay-lock s k b a lock.Unknown = stay-joined _ _ _ refl
 
 -- the write is 50h with no set-up pending
-abbrev pub Clears : Setup → ℕ → Type 0
-Clears setup.Nothing w = commandOf (w % 256) ≡ command.ClearStatus
-Clears setup.Program w = ⊥
-Clears setup.Erase w = ⊥
-Clears setup.Lock w = ⊥
+abbrev pub ClearCommand : Setup → ℕ → Type 0
+ClearCommand setup.Nothing w = commandOf (w % 256) ≡ command.ClearStatus
+ClearCommand setup.Program w = ⊥
+ClearCommand setup.Erase w = ⊥
+ClearCommand setup.Lock w = ⊥
 
-stay-cycle : (s : State) (c : Setup) (l a w : ℕ) → (Clears c w → ⊥) → Stay (s .flags) (cycle s c l a w .flags)
+stay-cycle : (s : State) (c : Setup) (l a w : ℕ) → (ClearCommand c w → ⊥) → Stay (s .flags) (cycle s c l a w .flags)
 unfolding cycle programCycle eraseCycle settle
 stay-cycle s setup.Nothing l a w n = stay-first s _ (commandOf (w % 256)) n
 stay-cycle s setup.Program l a w n =
@@ -149,15 +319,15 @@ stay-cycle s setup.Erase l a w n =
     (stay-cond _ (not (isUnprotected (s .unprotected) (blockOf (geometry s) l))) _ _ (stay-joined _ _ _ refl) (stay-same _ _ refl)))
 stay-cycle s setup.Lock l a w n = stay-lock s _ _ a _
 
--- the step clears the flags: a reset, or 50h with no set-up pending
-abbrev pub ClearsFlags : State → Step → Type 0
-ClearsFlags s (Read a) = ⊥
-ClearsFlags s (Write a w) = Clears (s .activity .setup) w
-ClearsFlags s (Work n) = ⊥
-ClearsFlags s (Supply on) = ⊥
-ClearsFlags s Reset = Unit {0}
+-- the step may clear the flags: a reset, or 50h with no set-up pending. (Refused, neither does; nor does 50h while something runs.)
+abbrev pub MayClear : State → Step → Type 0
+MayClear s (Read a) = ⊥
+MayClear s (Write a w) = ClearCommand (s .activity .setup) w
+MayClear s (Work n) = ⊥
+MayClear s (Supply on) = ⊥
+MayClear s Reset = Unit {0}
 
-stay-accepted : (s : State) (xs : List ℕ) (x : Step) → (ClearsFlags s x → ⊥) → Stay (s .flags) (accepted s xs x .state .flags)
+stay-accepted : (s : State) (xs : List ℕ) (x : Step) → (MayClear s x → ⊥) → Stay (s .flags) (accepted s xs x .state .flags)
 unfolding accepted written worked
 stay-accepted s xs (Read a) n = stay-same _ _ refl
 stay-accepted s xs (Write a w) n = stay-cycle s (s .activity .setup) _ a w n
@@ -166,7 +336,7 @@ stay-accepted s xs (Supply on) n = stay-same _ _ refl
 stay-accepted s xs Reset n = absurd (n tt)
 
 -- "Flags once set stay until 50h or reset"
-pub flags-stay : (s : State) (xs : List ℕ) (x : Step) → (ClearsFlags s x → ⊥) → Stay (s .flags) (stepOf s xs x .state .flags)
+pub flags-stay : (s : State) (xs : List ℕ) (x : Step) → (MayClear s x → ⊥) → Stay (s .flags) (stepOf s xs x .state .flags)
 unfolding stepOf
 flags-stay s xs x n = go (eqb (refusalOf s (length xs) x) 0)
   where
@@ -241,11 +411,32 @@ alike-refusal : (s : State) (f : Flags) (n : ℕ) (x : Step) → refusalOf (with
 unfolding refusalOf stateRefusal wellFormed
 alike-refusal s f n x = refl
 
--- whatever the flags are, a step does the same, but for the flags themselves
+-- the units that an answer tells of
+abbrev pub toldBy : Answer → ℕ
+toldBy (Word w) = 0
+toldBy (Units n) = n
+toldBy Done = 0
+toldBy (Refused n) = 0
+
+alike-told : (s : State) (f : Flags) (xs : List ℕ) (x : Step) → toldBy (accepted (withFlags s f) xs x .answer) ≡ toldBy (accepted s xs x .answer)
+unfolding accepted
+alike-told s f xs (Read a) = refl
+alike-told s f xs (Write a w) = refl
+alike-told s f xs (Work n) = refl
+alike-told s f xs (Supply on) = refl
+alike-told s f xs Reset = refl
+
+-- whatever the flags are, a step does the same, but for the flags themselves: the same state, the same array, the same refusal and as many units told
 pub flags-never-block : (s : State) (f : Flags) (xs : List ℕ) (x : Step)
     → (unflagged (stepOf (withFlags s f) xs x .state) ≡ unflagged (stepOf s xs x .state)) × (arrayOf (withFlags s f) xs x ≡ arrayOf s xs x)
+    × (numberOf (stepOf (withFlags s f) xs x .answer) ≡ numberOf (stepOf s xs x .answer)) × (toldBy (stepOf (withFlags s f) xs x .answer) ≡ toldBy (stepOf s xs x .answer))
 unfolding stepOf arrayOf
-flags-never-block s f xs x = (rw (alike-refusal s f (length xs) x) (go (eqb (refusalOf s (length xs) x) 0)), rw (alike-refusal s f (length xs) x) (go₂ (eqb (refusalOf s (length xs) x) 0)))
+flags-never-block s f xs x = (
+  rw (alike-refusal s f (length xs) x) (go (eqb n 0)),
+  rw (alike-refusal s f (length xs) x) (go₂ (eqb n 0)),
+  answer-number (withFlags s f) xs x ∙ alike-refusal s f (length xs) x ∙ sym (answer-number s xs x),
+  rw (alike-refusal s f (length xs) x) (go₃ (eqb n 0)),
+)
   where
     n : ℕ
     n = refusalOf s (length xs) x
@@ -257,6 +448,10 @@ flags-never-block s f xs x = (rw (alike-refusal s f (length xs) x) (go (eqb (ref
     go₂ : (b : Bool) → cond b (acceptedArray (withFlags s f) xs x) xs ≡ cond b (acceptedArray s xs x) xs
     go₂ true = alike-array s f xs x
     go₂ false = refl
+
+    go₃ : (b : Bool) → toldBy ((cond b (accepted (withFlags s f) xs x) (next (withFlags s f) (Refused n))) .answer) ≡ toldBy ((cond b (accepted s xs x) (next s (Refused n))) .answer)
+    go₃ true = alike-told s f xs x
+    go₃ false = refl
 
 -- ---- progress
 
@@ -285,23 +480,6 @@ module _ (g : Geometry) where
       go true e = omega (arith, ltb-true m (sizeOf g b) e)
       go false e = omega (arith, ltb-false m (sizeOf g b) e)
 
-  whole-after : (r : Running) (n : ℕ) → Whole g r → Whole g (runningAfter g r (unitsDone g r n))
-  unfolding runningAfter unitsDone unitsLeft
-  whole-after running.Idle n h = tt
-  whole-after (running.Program l w) n h = go (ltb (min n 1) 1)
-    where
-      go : (b : Bool) → Whole g (cond b (running.Program l w) running.Idle)
-      go true = tt
-      go false = tt
-  whole-after (running.Erase b k) n h = go (ltb (k + min n (sizeOf g b - k)) (sizeOf g b)) refl
-    where
-      m : ℕ
-      m = k + min n (sizeOf g b - k)
-
-      go : (t : Bool) → ltb m (sizeOf g b) ≡ t → Whole g (cond t (running.Erase b m) running.Idle)
-      go true e = ltb-true m (sizeOf g b) e
-      go false e = tt
-
   -- something runs exactly where units are left
   runs-left : (r : Running) → Whole g r → runs r ≡ ltb 0 (unitsLeft g r)
   unfolding unitsLeft
@@ -317,17 +495,18 @@ module _ (g : Geometry) where
       let z : k + min 0 (sizeOf g b - k) ≡ k = omega arith in
       rw (z, lt-ltb k (sizeOf g b) h)
 
--- steps that leave what runs running: work, reads and supply
-abbrev pub Leaves : Step → Type 0
-Leaves (Read a) = Unit {0}
-Leaves (Write a w) = ⊥
-Leaves (Work n) = Unit {0}
-Leaves (Supply on) = Unit {0}
-Leaves Reset = ⊥
+-- the steps that leave what runs running: work, reads and supply; and, while something runs, every write but B0h
+abbrev pub Leaves : State → Step → Type 0
+Leaves s (Read a) = Unit {0}
+Leaves s (Write a w) = (runs (s .activity .running) ≡ true) × (w % 256 ≡ 0xB0 → ⊥)
+Leaves s (Work n) = Unit {0}
+Leaves s (Supply on) = Unit {0}
+Leaves s Reset = ⊥
 
-abbrev pub LeavesAll : List Step → Type 0
-LeavesAll [] = Unit {0}
-LeavesAll (x ∷ l) = Leaves x × LeavesAll l
+-- each step of a list is such a step of the state that it finds
+abbrev pub LeavesAll : Machine → List Step → Type 0
+LeavesAll m [] = Unit {0}
+LeavesAll m (x ∷ l) = Leaves (m .state) x × LeavesAll (after m x) l
 
 -- the units that a step offers: a refused count offers none
 abbrev pub offered : Step → ℕ
@@ -341,13 +520,7 @@ abbrev pub offeredAll : List Step → ℕ
 offeredAll [] = 0
 offeredAll (x ∷ l) = offered x + offeredAll l
 
--- the units that an answer tells of
-abbrev pub toldBy : Answer → ℕ
-toldBy (Word w) = 0
-toldBy (Units n) = n
-toldBy Done = 0
-toldBy (Refused n) = 0
-
+-- the units that the answers tell of
 abbrev pub toldAll : Machine → List Step → ℕ
 toldAll m [] = 0
 toldAll m (x ∷ l) = toldBy (stepOf (m .state) (m .array) x .answer) + toldAll (after m x) l
@@ -357,14 +530,120 @@ pub record Good (m : Machine) : Type 0 where
   pub size : length (m .array) ≡ words (geometry (m .state))
   pub five : length (m .state .unprotected) ≡ 5
   pub formed : wellFormed (m .state) ≡ true
-  pub whole : Whole (geometry (m .state)) (m .state .activity .running)
+
+-- whatever is reached from power-up is such
+pub reached-good : (p : Part) (l : List Step) (xs : List ℕ) → length xs ≡ words (geometryOf p) → Good (afterAll (fresh p xs) l)
+reached-good p l xs h =
+    let a = reached p l xs h in
+    record { size = a .size ∙ ap (λ (q : Part). words (geometryOf q)) (sym (a .part)); five = a .five; formed = reached-formed p l xs h }
+
+-- and stays such
+pub good-after : (m : Machine) (x : Step) → Good m → Good (after m x)
+good-after m x o =
+    let k = kept-step (m .state) (m .array) x (o .five) in
+    record {
+      size = length-kept (m .state) (m .array) x ∙ o .size ∙ ap (λ (p : Part). words (geometryOf p)) (sym (k .part));
+      five = k .five ∙ o .five;
+      formed = keeps (m .state) (m .array) x (o .five) (o .formed);
+    }
+
+-- what is well formed, by the two parts that are used here
+formed-alone : (s : State) → wellFormed s ≡ true → runningAlone (s .activity) ≡ true
+unfolding wellFormed activityFormed
+formed-alone s f = and-true-l (runningAlone (s .activity)) _ (and-true-l (activityFormed (geometry s) (s .activity)) _ f)
+
+formed-fits : (s : State) → wellFormed s ≡ true → runningFits (geometry s) (s .activity .running) ≡ true
+unfolding wellFormed activityFormed allFit
+formed-fits s f =
+    and-true-l (runningFits (geometry s) (s .activity .running)) _
+    (and-true-l (allFit (geometry s) (s .activity)) _
+    (and-true-r (eraseAlone (s .activity)) _ (and-true-r (programAlone (s .activity)) _ (and-true-r (runningAlone (s .activity)) _ (and-true-l (activityFormed (geometry s) (s .activity)) _ f)))))
+
+fits-whole : (g : Geometry) (r : Running) → runningFits g r ≡ true → Whole g r
+unfolding runningFits eraseFits
+fits-whole g running.Idle h = tt
+fits-whole g (running.Program l w) h = tt
+fits-whole g (running.Erase b n) h = ltb-true n (sizeOf g b) (and-true-r (ltb b (blocks g)) _ h)
+
+good-whole : (m : Machine) → Good m → Whole (geometry (m .state)) (m .state .activity .running)
+good-whole m o = fits-whole (geometry (m .state)) (m .state .activity .running) (formed-fits (m .state) (o .formed))
+
+-- while something runs no set-up is pending
+no-setup : (a : Activity) → runningAlone a ≡ true → runs (a .running) ≡ true → a .setup ≡ setup.Nothing
+unfolding runningAlone
+no-setup a h r = none (a .setup) (not-true _ (and-true-l (not (pending (a .setup))) _ (rw r at h)))
+  where
+    none : (c : Setup) → pending c ≡ false → c ≡ setup.Nothing
+    none setup.Nothing e = refl
+    none setup.Program e = absurd (true≢false e)
+    none setup.Erase e = absurd (true≢false e)
+    none setup.Lock e = absurd (true≢false e)
+
+-- ---- a write while something runs
+
+abbrev isSuspend : Command → Bool
+isSuspend command.ReadArray = false
+isSuspend command.ReadStatus = false
+isSuspend command.ReadSignature = false
+isSuspend command.ReadQuery = false
+isSuspend command.Suspend = true
+isSuspend command.Resume = false
+isSuspend command.ClearStatus = false
+isSuspend command.SetUpProgram = false
+isSuspend command.SetUpErase = false
+isSuspend command.SetUpLock = false
+isSuspend command.Unknown = false
+
+either-not : (b : Bool) (x y : Command) → isSuspend x ≡ false → isSuspend y ≡ false → isSuspend (cond b x y) ≡ false
+either-not true x y p q = p
+either-not false x y p q = q
+
+only-B0 : (c : ℕ) → (c ≡ 0xB0 → ⊥) → isSuspend (commandOf c) ≡ false
+unfolding commandOf
+only-B0 c n =
+    rw (ne-eqb c 0xB0 n)
+    (either-not (eqb c 0xFF) _ _ refl (either-not (eqb c 0x70) _ _ refl (either-not (eqb c 0x90) _ _ refl (either-not (eqb c 0x98) _ _ refl
+    (either-not (eqb c 0xD0) _ _ refl (either-not (eqb c 0x50) _ _ refl (either-not (eqb c 0x10) _ _ refl (either-not (eqb c 0x40) _ _ refl
+    (either-not (eqb c 0x60) _ _ refl (either-not (eqb c 0x20) _ _ refl refl))))))))))
+
+running-cond : (b : Bool) (r : Running) (x y : State) → x .activity .running ≡ r → y .activity .running ≡ r → (cond b x y) .activity .running ≡ r
+running-cond true r x y p q = p
+running-cond false r x y p q = q
+
+running-setup : (s : State) (k : ℕ) (c : Setup) → setUp s k c .activity .running ≡ s .activity .running
+unfolding setUp
+running-setup s k c = running-cond (accepts (s .activity) c) _ _ _ refl refl
+
+-- while something runs, every command but B0h leaves it running
+running-first : (s : State) (k : ℕ) (c : Command) → isSuspend c ≡ false → runs (s .activity .running) ≡ true → firstCycle s k c .activity .running ≡ s .activity .running
+unfolding firstCycle clearStatus resume
+running-first s k command.ReadArray n r = refl
+running-first s k command.ReadStatus n r = refl
+running-first s k command.ReadSignature n r = refl
+running-first s k command.ReadQuery n r = refl
+running-first s k command.Suspend n r = absurd (true≢false n)
+running-first s k command.Resume n r = rw r
+running-first s k command.ClearStatus n r = running-cond (runs (s .activity .running)) _ _ _ refl refl
+running-first s k command.SetUpProgram n r = running-setup s k setup.Program
+running-first s k command.SetUpErase n r = running-setup s k setup.Erase
+running-first s k command.SetUpLock n r = running-setup s k setup.Lock
+running-first s k command.Unknown n r = refl
+
+running-written : (s : State) (a w : ℕ) → wellFormed s ≡ true → runs (s .activity .running) ≡ true → (w % 256 ≡ 0xB0 → ⊥) → written s a w .activity .running ≡ s .activity .running
+unfolding written cycle
+running-written s a w f r n =
+    let l : ℕ = location (geometry s) a in
+    ap (λ (c : Setup). cycle s c l a w .activity .running) (no-setup (s .activity) (formed-alone s f) r)
+    ∙ running-first s (bankOf (geometry s) l) (commandOf (w % 256)) (only-B0 (w % 256) n) r
+
+-- ---- one step, and a list of them
 
 -- one such step
 record Moves (s : State) (xs : List ℕ) (x : Step) (n : ℕ) : Type 0 where
   runs-on : stepOf s xs x .state .activity .running ≡ runningAfter (geometry s) (s .activity .running) (unitsDone (geometry s) (s .activity .running) n)
   tells : toldBy (stepOf s xs x .answer) ≡ unitsDone (geometry s) (s .activity .running) n
 
-module _ (s : State) (xs : List ℕ) (good : stateRefusal s (length xs) ≡ 0) (whole : Whole (geometry s) (s .activity .running)) where
+module _ (s : State) (xs : List ℕ) (formed : wellFormed s ≡ true) (good : stateRefusal s (length xs) ≡ 0) (whole : Whole (geometry s) (s .activity .running)) where
   none-told : (n : ℕ) → n ≡ 0 → 0 ≡ unitsDone (geometry s) (s .activity .running) n
   unfolding unitsDone
   none-told n h = omega arith
@@ -396,26 +675,30 @@ module _ (s : State) (xs : List ℕ) (good : stateRefusal s (length xs) ≡ 0) (
       go true = refl
       go false = refl
 
-  moves : (x : Step) → Leaves x → Moves s xs x (offered x)
+  moves-write : (a w : ℕ) → runs (s .activity .running) ≡ true → (w % 256 ≡ 0xB0 → ⊥) → Moves s xs (Write a w) 0
+  unfolding stepOf accepted
+  moves-write a w r n = record {
+    runs-on = go (eqb (refusalOf s (length xs) (Write a w)) 0) ∙ sym (idle-units (geometry s) (s .activity .running) whole);
+    tells = go₂ (eqb (refusalOf s (length xs) (Write a w)) 0) ∙ none-told 0 refl;
+  }
+    where
+      go : (b : Bool) → (cond b (accepted s xs (Write a w)) (next s (Refused (refusalOf s (length xs) (Write a w))))) .state .activity .running ≡ s .activity .running
+      go true = running-written s a w formed r n
+      go false = refl
+
+      go₂ : (b : Bool) → toldBy ((cond b (accepted s xs (Write a w)) (next s (Refused (refusalOf s (length xs) (Write a w))))) .answer) ≡ 0
+      go₂ true = refl
+      go₂ false = refl
+
+  moves : (x : Step) → Leaves s x → Moves s xs x (offered x)
   moves (Read a) h = moves-read a
   moves (Work n) h = moves-work n (laws.order 65535 n)
   moves (Supply on) h = moves-supply on
-  moves (Write a w) h = absurd h
+  moves (Write a w) h = moves-write a w (h .0) (h .1)
   moves Reset h = absurd h
 
-good-state : (m : Machine) → Good m → stateRefusal (m .state) (length (m .array)) ≡ 0
-good-state m o = state-good (m .state) (length (m .array)) (o .size) (o .formed)
-
-good-after : (m : Machine) (x : Step) → Leaves x → Good m → Good (after m x)
-good-after m x h o =
-    let k = kept-step (m .state) (m .array) x (o .five) in
-    let v = moves (m .state) (m .array) (good-state m o) (o .whole) x h in
-    record {
-      size = length-kept (m .state) (m .array) x ∙ o .size ∙ ap (λ p. words (geometryOf p)) (sym (k .part));
-      five = k .five ∙ o .five;
-      formed = keeps (m .state) (m .array) x (o .five) (o .formed);
-      whole = rw (k .part, v .runs-on) (whole-after (geometry (m .state)) (m .state .activity .running) (offered x) (o .whole));
-    }
+good-moves : (m : Machine) (x : Step) → Leaves (m .state) x → Good m → Moves (m .state) (m .array) x (offered x)
+good-moves m x h o = moves (m .state) (m .array) (o .formed) (state-good (m .state) (length (m .array)) (o .size) (o .formed)) (good-whole m o) x h
 
 less-left : (u a b : ℕ) → ltb b (u - a) ≡ ltb (a + b) u
 less-left u a b = go (laws.order (a + b) u)
@@ -427,21 +710,22 @@ less-left u a b = go (laws.order (a + b) u)
 abbrev left : Machine → ℕ
 left m = unitsLeft (geometry (m .state)) (m .state .activity .running)
 
-left-step : (m : Machine) (x : Step) → Leaves x → Good m → left (after m x) ≡ left m - offered x
+left-step : (m : Machine) (x : Step) → Leaves (m .state) x → Good m → left (after m x) ≡ left m - offered x
 left-step m x h o =
     let k = kept-step (m .state) (m .array) x (o .five) in
-    let v = moves (m .state) (m .array) (good-state m o) (o .whole) x h in
-    rw (k .part, v .runs-on) (left-after (geometry (m .state)) (m .state .activity .running) (offered x) (o .whole))
+    let v = good-moves m x h o in
+    rw (k .part, v .runs-on) (left-after (geometry (m .state)) (m .state .activity .running) (offered x) (good-whole m o))
 
 -- "Left running, a program ends at 1 unit and an erase at the size of its block, counted over all work steps.": after steps that leave it running, the units that
--- were told come to what was offered, or to what was left where that is less; and it runs on exactly where less was offered than was left
-pub progress : (l : List Step) (m : Machine) → LeavesAll l → Good m
+-- were told come to what was offered, or to what was left where that is less; and it runs on exactly where less was offered than was left. By reached-good this
+-- holds of whatever is reached from power-up
+pub progress : (l : List Step) (m : Machine) → LeavesAll m l → Good m
     → (toldAll m l ≡ min (offeredAll l) (unitsLeft (geometry (m .state)) (m .state .activity .running)))
     × (runs (afterAll m l .state .activity .running) ≡ ltb (offeredAll l) (unitsLeft (geometry (m .state)) (m .state .activity .running)))
 unfolding unitsDone
-progress [] m h o = (omega arith, runs-left (geometry (m .state)) (m .state .activity .running) (o .whole))
+progress [] m h o = (omega arith, runs-left (geometry (m .state)) (m .state .activity .running) (good-whole m o))
 progress (x ∷ l) m h o =
-    let r = progress l (after m x) (h .1) (good-after m x (h .0) o) in
+    let r = progress l (after m x) (h .1) (good-after m x o) in
     let e = left-step m x (h .0) o in
-    let v = moves (m .state) (m .array) (good-state m o) (o .whole) x (h .0) in
+    let v = good-moves m x (h .0) o in
     (omega (arith, v .tells, r .0, e), r .1 ∙ ap (λ (n : ℕ). ltb (offeredAll l) n) e ∙ less-left (left m) (offered x) (offeredAll l))

@@ -17,9 +17,9 @@ use Rattle.semantics.specs.declared.Step.the-variants.{Read, Write, Work
 use Rattle.semantics.specs.Layout.{inside, only, fits}
 use Rattle.semantics.specs.Entries as entries
 use Rattle.semantics.specs.Entries.{Entry, entry, Live, live, resting, anyRuns, anySuspended, anyLive, None}
-use Rattle.semantics.specs.Recorder.{Operation, program, erase, Setup, no-setup, program-setup, erase-setup, lock-setup, Event, nothing, supplied, was-reset, units, suspend, resume-program, resume-erase, begin, protect, accept}
+use Rattle.semantics.specs.Recorder.{Operation, program, erase, Setup, no-setup, program-setup, erase-setup, lock-setup, Event, nothing, supplied, was-reset, units, suspend, resume-program, resume-erase, setup-is, unprotected-is, accept}
 use Rattle.semantics.specs.Recorder.{Conditions, conditions-after, rule, base, len, put, kinds, isProgram, isErase, isEraseOf, isAny, blockIn, Recorder, beginning, event, journal-after, first-cycle, cycle, acceptable}
-use Rattle.semantics.specs.Recorder.{Command, commandOf, suspend-command, confirm-command, program-command, lock-command, erase-command, other-command}
+use Rattle.semantics.specs.Recorder.{Command, commandOf, suspend-command, resume-command, program-command, lock-command, erase-command, other-command}
 
 pub or-false-l : (a b : Bool) → (a || b) ≡ false → a ≡ false
 or-false-l true b e = cc
@@ -82,8 +82,8 @@ module _ (g : Geometry) where
   engine-after suspend e = engine false (stack e)
   engine-after resume-program e = engine (some? (stack e)) (stack e)
   engine-after resume-erase e = engine (some? (stack e)) (stack e)
-  engine-after (begin s) e = e
-  engine-after (protect b o) e = e
+  engine-after (setup-is s) e = e
+  engine-after (unprotected-is b o) e = e
   engine-after (accept k) e = engine true (live k 0 ∷ stack e)
 
   abbrev pub words-worked : ℕ → Engine → (ℕ → ℕ) → ℕ → ℕ
@@ -99,8 +99,8 @@ module _ (g : Geometry) where
   words-after suspend e m = m
   words-after resume-program e m = m
   words-after resume-erase e m = m
-  words-after (begin s) e m = m
-  words-after (protect b o) e m = m
+  words-after (setup-is s) e m = m
+  words-after (unprotected-is b o) e m = m
   words-after (accept k) e m = m
 
 -- ---- what the rules guarantee of an event
@@ -123,8 +123,8 @@ module _ (g : Geometry) where
     ok-suspend : s ≡ no-setup → Ok s r h suspend
     ok-resume-program : s ≡ no-setup → r ≡ false → h isProgram ≡ true → Ok s r h resume-program
     ok-resume-erase : s ≡ no-setup → r ≡ false → h isProgram ≡ false → h isErase ≡ true → Ok s r h resume-erase
-    ok-begin : (t : Setup) → Ready t r h → Ok s r h (begin t)
-    ok-protect : (b : ℕ) (o : Bool) → Ok s r h (protect b o)
+    ok-setup : (t : Setup) → Ready t r h → Ok s r h (setup-is t)
+    ok-unprotected : (b : ℕ) (o : Bool) → Ok s r h (unprotected-is b o)
     ok-program : (k : Operation) → base g k < words g → isErase k ≡ false → 0 < len g k → ((L : ℕ) → InK k L → blockOf g L ≡ blockIn g k)
         → r ≡ false → h isProgram ≡ false → h (isEraseOf g (blockIn g k)) ≡ false → Ok s r h (accept k)
     ok-erase : (b : ℕ) → startOf g b < words g → r ≡ false → h isAny ≡ false → 0 < sizeOf g b → Ok s r h (accept (erase b))
@@ -137,19 +137,19 @@ module _ (g : Geometry) where
     either true f g = f refl
     either false f g = g refl
 
-    idle-prog : (t : Setup) → ((r ≡ false) × (h isProgram ≡ false) → Ready t r h) → Ok s r h (cond (r || h isProgram) nothing (begin t))
+    idle-prog : (t : Setup) → ((r ≡ false) × (h isProgram ≡ false) → Ready t r h) → Ok s r h (cond (r || h isProgram) nothing (setup-is t))
     idle-prog t f =
-        either (r || h isProgram) (λ e. ok-nothing) (λ e. ok-begin t (f (or-false-l r (h isProgram) e, or-false-r r (h isProgram) e)))
+        either (r || h isProgram) (λ e. ok-nothing) (λ e. ok-setup t (f (or-false-l r (h isProgram) e, or-false-r r (h isProgram) e)))
 
     first-ok : (d : Conditions) → s ≡ no-setup → (c : Command) → Ok s r h (first-cycle g d r h c)
     first-ok d z suspend-command = either r (λ e. ok-suspend z) (λ e. ok-nothing)
-    first-ok d z confirm-command =
+    first-ok d z resume-command =
         either r (λ e. ok-nothing) (λ er. either (h isProgram) (λ ep. ok-resume-program z er ep)
         (λ ep. either (h isErase) (λ ee. ok-resume-erase z er ep ee) (λ e. ok-nothing)))
     first-ok d z program-command = idle-prog program-setup (λ x. x)
     first-ok d z lock-command = idle-prog lock-setup (λ x. x)
     first-ok d z erase-command =
-        either (r || h isAny) (λ e. ok-nothing) (λ e. ok-begin erase-setup (or-false-l r (h isAny) e, or-false-r r (h isAny) e))
+        either (r || h isAny) (λ e. ok-nothing) (λ e. ok-setup erase-setup (or-false-l r (h isAny) e, or-false-r r (h isAny) e))
     first-ok d z other-command = ok-nothing
 
     unheld : (d : Conditions) (b : ℕ) → acceptable g d r h b ≡ true → h (isEraseOf g b) ≡ false
@@ -158,15 +158,15 @@ module _ (g : Geometry) where
     second-ok : (sound : Sound g) (d : Conditions) (t : Setup) → s ≡ t → Ready t r h → (l c w : ℕ) → l < words g → Ok s r h (cycle g d r h t l c w)
     second-ok sound d no-setup z y l c w q = first-ok d z (commandOf c)
     second-ok sound d lock-setup z y l c w q =
-        either (eqb c 0xD0) (λ e. ok-protect _ _) (λ e. either (eqb c 0x01) (λ e. ok-protect _ _) (λ e. ok-begin no-setup tt))
+        either (eqb c 0xD0) (λ e. ok-unprotected _ _) (λ e. either (eqb c 0x01) (λ e. ok-unprotected _ _) (λ e. ok-setup no-setup tt))
     second-ok sound d program-setup z y l c w q =
         either (acceptable g d r h (blockOf g l))
         (λ e. ok-program (program l w) q refl (omega arith) (program-in l w) (y .0) (y .1) (unheld d (blockOf g l) e))
-        (λ e. ok-begin no-setup tt)
+        (λ e. ok-setup no-setup tt)
     second-ok sound d erase-setup z y l c w q =
         either (eqb c 0xD0 && acceptable g d r h (blockOf g l))
         (λ e. ok-erase (blockOf g l) (omega (arith, inside g sound l q)) (y .0) (y .1) (omega (arith, inside g sound l q)))
-        (λ e. ok-begin no-setup tt)
+        (λ e. ok-setup no-setup tt)
 
   pub rule-ok : (sound : Sound g) (d : Conditions) (r : Bool) (h : (Operation → Bool) → Bool) → Ready (d .setup) r h → (s : Step) → Ok (d .setup) r h (rule g d r h s)
   rule-ok sound d r h y (Read a) = ok-nothing
@@ -317,8 +317,8 @@ module _ (g : Geometry) where
       record { match = match-resume-program e j x y (s .match, s .order); order = s .order; inside = s .inside; ready = ready-none _ _ _ z }
   sim-do sound d e j v (ok-resume-erase z x y w) s =
       record { match = match-resume-erase e j x y w (s .match, s .order); order = s .order; inside = s .inside; ready = ready-none _ _ _ z }
-  sim-do sound d e j v (ok-begin t y) s = record { match = s .match; order = s .order; inside = s .inside; ready = y }
-  sim-do sound d e j v (ok-protect b o) s = record { match = s .match; order = s .order; inside = s .inside; ready = tt }
+  sim-do sound d e j v (ok-setup t y) s = record { match = s .match; order = s .order; inside = s .inside; ready = y }
+  sim-do sound d e j v (ok-unprotected b o) s = record { match = s .match; order = s .order; inside = s .inside; ready = tt }
   sim-do sound d e j v (ok-program k q a b c x y z) s =
       let f = fit-program sound k e j a b c x y z (s .match, s .order) in record { match = f .0; order = f .1; inside = (q, s .inside); ready = tt }
   sim-do sound d e j v (ok-erase b q x y z) s =
@@ -350,8 +350,8 @@ module _ (g : Geometry) where
   words-after-ok suspend d e j m L w s h = still entries.paused (entries.paused-same (kinds g)) j (m L) L w h
   words-after-ok resume-program d e j m L w s h = still (entries.resumed isProgram) (entries.resumed-same (kinds g) isProgram) j (m L) L w h
   words-after-ok resume-erase d e j m L w s h = still (entries.resumed isErase) (entries.resumed-same (kinds g) isErase) j (m L) L w h
-  words-after-ok (begin t) d e j m L w s h = h
-  words-after-ok (protect b o) d e j m L w s h = h
+  words-after-ok (setup-is t) d e j m L w s h = h
+  words-after-ok (unprotected-is b o) d e j m L w s h = h
   words-after-ok (accept k) d e j m L w s h = h ∙ sym (entries.effect-zero (kinds g) k L (After j L w))
 
   -- what the journal says of running and suspended operations is what the engine says

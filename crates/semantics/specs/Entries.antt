@@ -10,12 +10,13 @@ use lib.Dec.{ltb, leb, eqb}
 use borrow.Author.Tests.{leb-true, leb-false, eq-eqb, ne-eqb}
 use Rattle.semantics.specs.Numbers.{within, within-in, within-out, within-true, within-false}
 
-pub data Standing : Type 0 where
-  running suspended finished broken-off : Standing
+-- how an entry stands
+pub data Phase : Type 0 where
+  running suspended finished broken-off : Phase
 
--- an operation that was accepted, the units that it received, and how it stands
+-- an operation that was accepted, the units that it received, and its phase
 pub data Entry (K : Type 0) : Type 0 where
-  entry : K → ℕ → Standing → Entry K
+  entry : K → ℕ → Phase → Entry K
 
 -- an operation under way: running or suspended
 pub data Live (K : Type 0) : Type 0 where
@@ -90,10 +91,11 @@ module _ (κ : Kinds) where
   abbrev pub effect : K → ℕ → ℕ → ℕ → ℕ
   effect k u L w = cond (within (base k) u L) (put k (L - base k) w) w
 
-  -- the word at L after the journal, which has the latest entry first; w is the word at the start
+  -- what the units of an entry make of the word w at L
   abbrev pub applied : Entry K → ℕ → ℕ → ℕ
   applied (entry k u t) L w = effect k u L w
 
+  -- the word at L after the journal, which has the latest entry first; w is the word at the start
   abbrev pub after : List (Entry K) → ℕ → ℕ → ℕ
   after [] L w = w
   after (e ∷ j) L w = applied e L (after j L w)
@@ -227,7 +229,7 @@ module _ (κ : Kinds) where
   abandoned-same (entry k u finished) L w = refl
   abandoned-same (entry k u broken-off) L w = refl
 
-  -- burning what an entry does not cover, before the entry or after it, is the same
+  -- units on words that an entry does not cover make the same before the entry as after it
   advanced-past : (k k′ : K) (u u′ n L w : ℕ) → u + n ≤ len k → u′ ≤ len k′ → (In k′ L → In k L → ⊥)
       → effect k′ u′ L (cond (within (base k + u) n L) (put k (L - base k) w) w)
       ≡ cond (within (base k + u) n L) (put k (L - base k) (effect k′ u′ L w)) (effect k′ u′ L w)

@@ -40,7 +40,7 @@ use Rattle.semantics.specs.Writing.{commandOf, suspended, resumedErase, 
 use Rattle.semantics.specs.Working.{unitsLeft, unitsDone, runningAfter, wordAfter, worked}
 use Rattle.semantics.specs.Entries.{Live, live, anyLive}
 use Rattle.semantics.specs.Recorder as recorder
-use Rattle.semantics.specs.Recorder.{Operation, Event, nothing, supplied, was-reset, units, suspend, resume-program, resume-erase, begin, protect, accept, Conditions, conditions-after, rule, isProgram, isErase, isEraseOf, isAny, first-cycle, cycle, base, len, put, kinds, no-setup, program-setup, erase-setup, lock-setup}
+use Rattle.semantics.specs.Recorder.{Operation, Event, nothing, supplied, was-reset, units, suspend, resume-program, resume-erase, setup-is, unprotected-is, accept, Conditions, conditions-after, rule, isProgram, isErase, isEraseOf, isAny, first-cycle, cycle, base, len, put, kinds, no-setup, program-setup, erase-setup, lock-setup}
 use Rattle.semantics.specs.Engine.{Engine, engine, busy, stack, held?, some?, engine-after, engine-worked, words-after, words-worked, Ready}
 
 -- ---- the device as the recorder would see it
@@ -180,7 +180,7 @@ bears command.ReadStatus = recorder.other-command
 bears command.ReadSignature = recorder.other-command
 bears command.ReadQuery = recorder.other-command
 bears command.Suspend = recorder.suspend-command
-bears command.Resume = recorder.confirm-command
+bears command.Resume = recorder.resume-command
 bears command.ClearStatus = recorder.other-command
 bears command.SetUpProgram = recorder.program-command
 bears command.SetUpErase = recorder.erase-command
@@ -219,7 +219,7 @@ module _ (c : ℕ) where
                       t₅ false e₅ = rw (e₁, e₂, e₃, e₄, e₅) (rest (eqb c 0xB0) (eqb c 0xD0) (eqb c 0x10) (eqb c 0x40) (eqb c 0x60) (eqb c 0x20))
                         where
                           rest : (a b d e f h : Bool)
-                              → cond a recorder.suspend-command (cond b recorder.confirm-command (cond (d || e) recorder.program-command (cond f recorder.lock-command (cond h recorder.erase-command recorder.other-command))))
+                              → cond a recorder.suspend-command (cond b recorder.resume-command (cond (d || e) recorder.program-command (cond f recorder.lock-command (cond h recorder.erase-command recorder.other-command))))
                               ≡ bears (cond a command.Suspend (cond b command.Resume (cond false command.ClearStatus (cond d command.SetUpProgram (cond e command.SetUpProgram (cond f command.SetUpLock (cond h command.SetUpErase command.Unknown)))))))
                           rest true b d e f h = refl
                           rest false true d e f h = refl
@@ -275,7 +275,7 @@ module _ (g : Geometry) where
 
   -- a set-up is accepted by the device exactly where the recorder begins it
   follows-setup : (s : State) (k : ℕ) (c : Setup) (d : recorder.Setup) → setupOf c ≡ d → (b : Bool) → accepts (s .activity) c ≡ not b
-      → Follows (cond b nothing (begin d)) s (setUp s k c)
+      → Follows (cond b nothing (setup-is d)) s (setUp s k c)
   unfolding setUp
   follows-setup s k c d z true e = rw e (refl, refl, λ m. refl)
   follows-setup s k c d z false e = rw e (ap (λ (i : recorder.Setup). record { supply = s .supply; unprotected = λ b. isUnprotected (s .unprotected) b; setup = i }) z, refl, λ m. refl)
@@ -311,7 +311,7 @@ module _ (g : Geometry) where
   -- ---- second cycles
 
   follows-program : (s : State) (c : Setup) (p : SuspendedProgram) (e : SuspendedErase) (k b l w : ℕ) (x y z : Bool) → s .supply ≡ x → isUnprotected (s .unprotected) b ≡ y → erasing e b ≡ z
-      → Follows (cond (x && (y && not z)) (accept (recorder.program l w)) (begin no-setup)) (at s c running.Idle p e) (programCycle (settle (at s c running.Idle p e) k) b l w)
+      → Follows (cond (x && (y && not z)) (accept (recorder.program l w)) (setup-is no-setup)) (at s c running.Idle p e) (programCycle (settle (at s c running.Idle p e) k) b l w)
   unfolding programCycle settle
   follows-program s c p e k b l w false y z hx hy hz = rw hx (refl, refl, λ m. refl)
   follows-program s c p e k b l w true false z hx hy hz = rw (hx, hy) (refl, refl, λ m. refl)
@@ -319,7 +319,7 @@ module _ (g : Geometry) where
   follows-program s c p e k b l w true true false hx hy hz = rw (hx, hy, hz) (refl, refl, λ m. refl)
 
   follows-erase : (s : State) (c : Setup) (k b d : ℕ) (t x y : Bool) → eqb d 0xD0 ≡ t → s .supply ≡ x → isUnprotected (s .unprotected) b ≡ y
-      → Follows (cond (t && (x && (y && true))) (accept (recorder.erase b)) (begin no-setup)) (at s c running.Idle program.Nothing erase.Nothing)
+      → Follows (cond (t && (x && (y && true))) (accept (recorder.erase b)) (setup-is no-setup)) (at s c running.Idle program.Nothing erase.Nothing)
       (eraseCycle (settle (at s c running.Idle program.Nothing erase.Nothing) k) b d)
   unfolding eraseCycle settle
   follows-erase s c k b d false x y ht hx hy = rw ht (refl, refl, λ m. refl)
@@ -333,7 +333,7 @@ module _ (g : Geometry) where
 
   follows-lock : (s : State) (c : Setup) (r : Running) (p : SuspendedProgram) (e : SuspendedErase) (k b address d : ℕ) → length (s .unprotected) ≡ 5 → b < 259
       → (x y z : Bool) → eqb d 0x01 ≡ x → eqb d 0xD0 ≡ y → eqb d 0x03 ≡ z
-      → Follows (cond y (protect b true) (cond x (protect b false) (begin no-setup))) (at s c r p e) (lockCycle (settle (at s c r p e) k) b address (lockCommandOf d))
+      → Follows (cond y (unprotected-is b true) (cond x (unprotected-is b false) (setup-is no-setup))) (at s c r p e) (lockCycle (settle (at s c r p e) k) b address (lockCommandOf d))
   unfolding lockCycle lockCommandOf settle
   follows-lock s c r p e k b address d h i true true z hx hy hz = absurd (omega (arith, eqb-true d 0x01 hx, eqb-true d 0xD0 hy))
   follows-lock s c r p e k b address d h i true false z hx hy hz =

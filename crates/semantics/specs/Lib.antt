@@ -7,6 +7,7 @@ pub mod Working
 pub mod Arrays
 pub mod Steps
 pub mod Cases
+pub mod FurtherCases
 pub mod Encoding
 pub mod Entries
 pub mod Recorder

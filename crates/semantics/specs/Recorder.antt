@@ -1,5 +1,7 @@
 -- The recorder (document 01: clerk) and the journal that it draws up: document 01, "The journal", and nothing else. It is told the part and, of
 -- each step, which of the five it is and its numbers. No device, array or answer enters: the device's definitions are not used here.
+-- Of `base`, `len` and `put` the recorder uses `len` alone, for the units that an entry lacks; `base` and `put` serve the proof. What an entry makes of a word is
+-- said by `reading`.
 -- Assumes nothing.
 use mathlib.Core.List.{List, [], _∷_, map, foldl, reverse}
 use mathlib.Core.Bool.{Bool, true, false, cond, not, _&&_, _||_}
@@ -10,7 +12,7 @@ use Rattle.geometry.specs.declared.Geometry.{Geometry}
 use Rattle.geometry.specs.Blocks.{words, location, blockOf, startOf, sizeOf}
 use Rattle.semantics.specs.declared.Step.{Step}
 use Rattle.semantics.specs.declared.Step.the-variants.{Read, Write, Work, Supply, Reset}
-use Rattle.semantics.specs.Entries.{Entry, entry, Standing, running, suspended, finished, broken-off, Kinds, worked, paused, resumed, abandoned, anyRuns, anySuspended}
+use Rattle.semantics.specs.Entries.{Entry, entry, running, suspended, finished, broken-off, Kinds, worked, paused, resumed, abandoned, anyRuns, anySuspended}
 
 -- ---- the journal, and what it makes of a word
 
@@ -19,20 +21,23 @@ pub data Operation : Type 0 where
   program : ℕ → ℕ → Operation
   erase : ℕ → Operation
 
--- what the document says of each operation's words: "1 (program) or .. its block's words (erase)"
 module _ (g : Geometry) where
+  -- the first word of an operation: for the proof
   abbrev pub base : Operation → ℕ
   base (program l w) = l
   base (erase b) = startOf g b
 
+  -- the units of an operation: "1 (program) or .. its block's words (erase)"
   abbrev pub len : Operation → ℕ
   len (program l w) = 1
   len (erase b) = sizeOf g b
 
+  -- what a unit makes of the word x at its place i: for the proof
   abbrev pub put : Operation → ℕ → ℕ → ℕ
   put (program l w) i x = bitAnd x w
   put (erase b) i x = 0xFFFF
 
+  -- the three together, as Entries takes them
   abbrev pub kinds : Kinds
   kinds = record { K = Operation; base = base; len = len; put = put }
 
@@ -75,7 +80,8 @@ no-conditions = record { supply = false; unprotected = λ b. false; setup = no-s
 abbrev pub beginning : Recorder
 beginning = record { conditions = no-conditions; journal = [] }
 
--- what a step comes to for the recorder
+-- what a step comes to for the recorder. `setup-is s`: the pending set-up is s from here on. `unprotected-is b v`: block b is unprotected (v true) or protected
+-- (v false) from here on, and the set-up ends. `accept k`: an entry of k is added, and the set-up ends
 pub data Event : Type 0 where
   nothing : Event
   supplied : Bool → Event
@@ -83,8 +89,8 @@ pub data Event : Type 0 where
   units : ℕ → Event
   suspend : Event
   resume-program resume-erase : Event
-  begin : Setup → Event
-  protect : ℕ → Bool → Event
+  setup-is : Setup → Event
+  unprotected-is : ℕ → Bool → Event
   accept : Operation → Event
 
 abbrev pub isErase : Operation → Bool
@@ -99,12 +105,12 @@ isAny k = true
 
 -- the commands of a write with no set-up that bear on the journal
 pub data Command : Type 0 where
-  suspend-command confirm-command program-command lock-command erase-command other-command : Command
+  suspend-command resume-command program-command lock-command erase-command other-command : Command
 
 abbrev pub commandOf : ℕ → Command
 commandOf c =
     cond (eqb c 0xB0) suspend-command
-    (cond (eqb c 0xD0) confirm-command
+    (cond (eqb c 0xD0) resume-command
     (cond (eqb c 0x10 || eqb c 0x40) program-command
     (cond (eqb c 0x60) lock-command
     (cond (eqb c 0x20) erase-command other-command))))
@@ -128,19 +134,19 @@ module _ (g : Geometry) where
     -- (program) and 60h (lock) become the set-up if no program is suspended, 20h (erase) if nothing is. Else nothing."
     abbrev pub first-cycle : Command → Event
     first-cycle suspend-command = cond runs suspend nothing
-    first-cycle confirm-command = cond runs nothing (cond (held isProgram) resume-program (cond (held isErase) resume-erase nothing))
-    first-cycle program-command = cond (runs || held isProgram) nothing (begin program-setup)
-    first-cycle lock-command = cond (runs || held isProgram) nothing (begin lock-setup)
-    first-cycle erase-command = cond (runs || held isAny) nothing (begin erase-setup)
+    first-cycle resume-command = cond runs nothing (cond (held isProgram) resume-program (cond (held isErase) resume-erase nothing))
+    first-cycle program-command = cond (runs || held isProgram) nothing (setup-is program-setup)
+    first-cycle lock-command = cond (runs || held isProgram) nothing (setup-is lock-setup)
+    first-cycle erase-command = cond (runs || held isAny) nothing (setup-is erase-setup)
     first-cycle other-command = nothing
 
     -- "Write, set-up: it ends. Lock: the protection commands D0h and 01h open and shut the block. Program with any data, erase with D0h: if supply is
     -- on, the block open and no erase of it suspended, a running entry with 0 units is added. Else nothing.": at location l, command c, data w
     abbrev pub cycle : Setup → ℕ → ℕ → ℕ → Event
     cycle no-setup l c w = first-cycle (commandOf c)
-    cycle lock-setup l c w = cond (eqb c 0xD0) (protect (blockOf g l) true) (cond (eqb c 0x01) (protect (blockOf g l) false) (begin no-setup))
-    cycle program-setup l c w = cond (acceptable (blockOf g l)) (accept (program l w)) (begin no-setup)
-    cycle erase-setup l c w = cond (eqb c 0xD0 && acceptable (blockOf g l)) (accept (erase (blockOf g l))) (begin no-setup)
+    cycle lock-setup l c w = cond (eqb c 0xD0) (unprotected-is (blockOf g l) true) (cond (eqb c 0x01) (unprotected-is (blockOf g l) false) (setup-is no-setup))
+    cycle program-setup l c w = cond (acceptable (blockOf g l)) (accept (program l w)) (setup-is no-setup)
+    cycle erase-setup l c w = cond (eqb c 0xD0 && acceptable (blockOf g l)) (accept (erase (blockOf g l))) (setup-is no-setup)
 
     -- "An address of 16,777,216 or more, a work count above 65,535, any read: nothing."
     abbrev pub rule : Step → Event
@@ -159,8 +165,8 @@ conditions-after (units n) d = d
 conditions-after suspend d = d
 conditions-after resume-program d = d
 conditions-after resume-erase d = d
-conditions-after (begin s) d = record { supply = d .supply; unprotected = d .unprotected; setup = s }
-conditions-after (protect b v) d = record { supply = d .supply; unprotected = λ c. cond (eqb c b) v (d .unprotected c); setup = no-setup }
+conditions-after (setup-is s) d = record { supply = d .supply; unprotected = d .unprotected; setup = s }
+conditions-after (unprotected-is b v) d = record { supply = d .supply; unprotected = λ c. cond (eqb c b) v (d .unprotected c); setup = no-setup }
 conditions-after (accept k) d = record { supply = d .supply; unprotected = d .unprotected; setup = no-setup }
 
 module _ (g : Geometry) where
@@ -174,8 +180,8 @@ module _ (g : Geometry) where
   journal-after suspend j = map paused j
   journal-after resume-program j = map (resumed isProgram) j
   journal-after resume-erase j = map (resumed isErase) j
-  journal-after (begin s) j = j
-  journal-after (protect b v) j = j
+  journal-after (setup-is s) j = j
+  journal-after (unprotected-is b v) j = j
   journal-after (accept k) j = entry k 0 running ∷ j
 
   -- the event of a step, from the recorder's own journal

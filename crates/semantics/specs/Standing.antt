@@ -1,11 +1,11 @@
--- What demand 3 comes to, in the user's words: what stands in the journal was accepted with supply on and its block unprotected; a block that no step
--- unprotected keeps its words; a 0 turns to 1 only by an erase.
+-- DEMAND 3 whole (demand-3-whole): the words, and that every entry of the journal was accepted with supply on and its block unprotected. And what it comes
+-- to: a block that no step unprotected keeps its words; a 0 turns to 1 only by an erase.
 -- Assumes nothing.
 use mathlib.Core.Path.{_≡_, refl, sym, ap, _∙_, subst}
 use mathlib.Core.List.{List, [], _∷_, _++_, map}
-use mathlib.Core.Bool.{Bool, true, false, cond, not, _&&_, _||_, true≢false, false≢true}
+use mathlib.Core.Bool.{Bool, true, false, cond, _&&_, _||_, true≢false, false≢true}
 use mathlib.Core.Logic.{_⊎_, inl, inr}
-use Prim.Native.Nat.{ℕ, _+_, _-_, _≤_, _<_, _%_, _/_, _^_, min}
+use Prim.Native.Nat.{ℕ, suc, _-_, _≤_, _<_, _%_, _/_, _^_}
 use native.Mathlib.Omega.{arith}
 use lib.Dec.{ltb, leb, eqb}
 use lib.Bits.{bitAnd, and-shr, and-step}
@@ -13,19 +13,20 @@ use lib.ListN.{length, getD}
 use borrow.Author.Tests.{eqb-true, eqb-false}
 use Rattle.geometry.specs.declared.Part.{Part}
 use Rattle.geometry.specs.declared.Geometry.{Geometry}
-use Rattle.geometry.specs.Blocks.{Sound, geometryOf, words, location, blockOf, startOf, sizeOf}
+use Rattle.geometry.specs.Blocks.{Sound, geometryOf, words, blockOf, startOf, sizeOf}
 use Rattle.geometry.specs.Laws as laws
 use Rattle.semantics.specs.declared.Step.{Step}
 use Rattle.semantics.specs.declared.Step.the-variants.{Read, Write, Work, Supply, Reset}
-use Rattle.semantics.specs.Numbers.{within}
-use Rattle.semantics.specs.Steps.{Machine, afterAll, fresh}
-use Rattle.semantics.specs.Entries.{Entry, entry, Standing, running, suspended, finished, broken-off, worked, paused, resumed, abandoned, anyRuns, anySuspended}
-use Rattle.semantics.specs.Recorder.{Operation, program, erase, Setup, no-setup, program-setup, erase-setup, lock-setup, Event, nothing, supplied, was-reset, units, suspend, resume-program, resume-erase, begin, protect, accept}
-use Rattle.semantics.specs.Recorder.{Conditions, conditions-after, rule, base, len, put, kinds, isProgram, isErase, isEraseOf, isAny, blockIn, Recorder, beginning, recorded, recordedAll, journalOf, event, journal-after, first-cycle, cycle, acceptable, reading}
-use Rattle.semantics.specs.Recorder.{Command, commandOf, suspend-command, confirm-command, program-command, lock-command, erase-command, other-command}
-use Rattle.semantics.specs.Engine.{and-true-l, and-true-r, After}
-use Rattle.semantics.specs.Invariant.{wordsOf}
-use Rattle.semantics.specs.Theorem.{readings, readings-applied, demand-3, reached}
+use Rattle.semantics.specs.Numbers.{within, within-true}
+use Rattle.semantics.specs.Layout.{only}
+use Rattle.semantics.specs.Steps.{afterAll, fresh}
+use Rattle.semantics.specs.Entries as entries
+use Rattle.semantics.specs.Entries.{Entry, entry, Phase, running, suspended, finished, broken-off, Live, worked, paused, resumed, abandoned, anyRuns, anySuspended}
+use Rattle.semantics.specs.Recorder.{Operation, program, erase, Setup, no-setup, program-setup, erase-setup, lock-setup, Event, nothing, supplied, was-reset, units, suspend, resume-program, resume-erase, setup-is, unprotected-is, accept}
+use Rattle.semantics.specs.Recorder.{Conditions, conditions-after, rule, len, kinds, isProgram, isErase, isAny, blockIn, Recorder, beginning, recorded, recordedAll, journalOf, event, journal-after, first-cycle, cycle, acceptable, reading, applied}
+use Rattle.semantics.specs.Recorder.{Command, commandOf, suspend-command, resume-command, program-command, lock-command, erase-command, other-command}
+use Rattle.semantics.specs.Engine.{and-true-l, and-true-r, Matches, After}
+use Rattle.semantics.specs.Theorem.{readings, readings-applied, demand-3, reached, reached-length}
 
 -- bit i of a word
 abbrev pub bit : ℕ → ℕ → ℕ
@@ -40,11 +41,11 @@ module _ (g : Geometry) where
   Quiet suspend = Unit {0}
   Quiet resume-program = Unit {0}
   Quiet resume-erase = Unit {0}
-  Quiet (begin s) = Unit {0}
-  Quiet (protect b o) = Unit {0}
+  Quiet (setup-is s) = Unit {0}
+  Quiet (unprotected-is b o) = Unit {0}
   Quiet (accept k) = ⊥
 
-  -- an operation is accepted only with supply on and its block open
+  -- an operation is accepted only with supply on and its block unprotected
   data Why (d : Conditions) : Event → Type 0 where
     because : (k : Operation) → d .supply ≡ true → d .unprotected (blockIn g k) ≡ true → Why d (accept k)
     quiet : (v : Event) → Quiet v → Why d v
@@ -56,7 +57,7 @@ module _ (g : Geometry) where
 
     why-first : (c : Command) → Why d (first-cycle g d r h c)
     why-first suspend-command = which r (λ e. quiet _ tt) (λ e. quiet _ tt)
-    why-first confirm-command = which r (λ e. quiet _ tt) (λ e. which (h isProgram) (λ e. quiet _ tt) (λ e. which (h isErase) (λ e. quiet _ tt) (λ e. quiet _ tt)))
+    why-first resume-command = which r (λ e. quiet _ tt) (λ e. which (h isProgram) (λ e. quiet _ tt) (λ e. which (h isErase) (λ e. quiet _ tt) (λ e. quiet _ tt)))
     why-first program-command = which (r || h isProgram) (λ e. quiet _ tt) (λ e. quiet _ tt)
     why-first lock-command = which (r || h isProgram) (λ e. quiet _ tt) (λ e. quiet _ tt)
     why-first erase-command = which (r || h isAny) (λ e. quiet _ tt) (λ e. quiet _ tt)
@@ -85,20 +86,24 @@ module _ (g : Geometry) where
   abbrev pub operation-of : Entry Operation → Operation
   operation-of (entry k u t) = k
 
-  -- the journal has an entry of the operation k
-  abbrev pub Holds : Operation → List (Entry Operation) → Type 0
-  Holds k [] = ⊥
-  Holds k (e ∷ j) = (k ≡ operation-of e) ⊎ Holds k j
+  -- entry n of the journal, counted from the oldest, which is entry 0, is of the operation k
+  abbrev pub Holds : Operation → ℕ → List (Entry Operation) → Type 0
+  Holds k n [] = ⊥
+  Holds k n (e ∷ j) = ((k ≡ operation-of e) × (length j ≡ n)) ⊎ Holds k n j
 
-  -- k was accepted at one of the steps, with supply on and its block open there; c is the clerk before the steps
-  pub data Accepted (k : Operation) : Recorder → List Step → Type 0 where
-    here : (c : Recorder) (s : Step) (l : List Step) → event g s c ≡ accept k → c .conditions .supply ≡ true → c .conditions .unprotected (blockIn g k) ≡ true → Accepted k c (s ∷ l)
-    later : (c : Recorder) (s : Step) (l : List Step) → Accepted k (recorded g c s) l → Accepted k c (s ∷ l)
+  -- k was accepted as entry n at one of the steps, with supply on and its block unprotected there; c is the recorder before the steps
+  pub data Accepted (k : Operation) (n : ℕ) : Recorder → List Step → Type 0 where
+    here : (c : Recorder) (s : Step) (l : List Step) → event g s c ≡ accept k → length (c .journal) ≡ n → c .conditions .supply ≡ true → c .conditions .unprotected (blockIn g k) ≡ true → Accepted k n c (s ∷ l)
+    later : (c : Recorder) (s : Step) (l : List Step) → Accepted k n (recorded g c s) l → Accepted k n c (s ∷ l)
 
-  holds-map : (k : Operation) (f : Entry Operation → Entry Operation) → ((e : Entry Operation) → operation-of (f e) ≡ operation-of e) → (j : List (Entry Operation)) → Holds k (map f j) → Holds k j
-  holds-map k f h [] x = x
-  holds-map k f h (e ∷ j) (inl x) = inl (x ∙ h e)
-  holds-map k f h (e ∷ j) (inr x) = inr (holds-map k f h j x)
+  length-map : (f : Entry Operation → Entry Operation) (j : List (Entry Operation)) → length (map f j) ≡ length j
+  length-map f [] = refl
+  length-map f (e ∷ j) = ap suc (length-map f j)
+
+  holds-map : (k : Operation) (n : ℕ) (f : Entry Operation → Entry Operation) → ((e : Entry Operation) → operation-of (f e) ≡ operation-of e) → (j : List (Entry Operation)) → Holds k n (map f j) → Holds k n j
+  holds-map k n f h [] x = x
+  holds-map k n f h (e ∷ j) (inl x) = inl (x .0 ∙ h e, sym (length-map f j) ∙ x .1)
+  holds-map k n f h (e ∷ j) (inr x) = inr (holds-map k n f h j x)
 
   operation-worked : (n : ℕ) (e : Entry Operation) → operation-of (worked (kinds g) n e) ≡ operation-of e
   operation-worked n (entry k u running) = refl
@@ -124,59 +129,59 @@ module _ (g : Geometry) where
   operation-abandoned (entry k u finished) = refl
   operation-abandoned (entry k u broken-off) = refl
 
-  holds-do : (k : Operation) (v : Event) (j : List (Entry Operation)) → Holds k (journal-after g v j) → Holds k j ⊎ (v ≡ accept k)
-  holds-do k nothing j x = inl x
-  holds-do k (supplied b) j x = inl x
-  holds-do k was-reset j x = inl (holds-map k abandoned operation-abandoned j x)
-  holds-do k (units n) j x = inl (holds-map k (worked (kinds g) n) (operation-worked n) j x)
-  holds-do k suspend j x = inl (holds-map k paused operation-paused j x)
-  holds-do k resume-program j x = inl (holds-map k (resumed isProgram) (operation-resumed isProgram) j x)
-  holds-do k resume-erase j x = inl (holds-map k (resumed isErase) (operation-resumed isErase) j x)
-  holds-do k (begin s) j x = inl x
-  holds-do k (protect b o) j x = inl x
-  holds-do k (accept i) j (inl x) = inr (ap accept (sym x))
-  holds-do k (accept i) j (inr x) = inl x
+  holds-do : (k : Operation) (n : ℕ) (v : Event) (j : List (Entry Operation)) → Holds k n (journal-after g v j) → Holds k n j ⊎ ((v ≡ accept k) × (length j ≡ n))
+  holds-do k n nothing j x = inl x
+  holds-do k n (supplied b) j x = inl x
+  holds-do k n was-reset j x = inl (holds-map k n abandoned operation-abandoned j x)
+  holds-do k n (units m) j x = inl (holds-map k n (worked (kinds g) m) (operation-worked m) j x)
+  holds-do k n suspend j x = inl (holds-map k n paused operation-paused j x)
+  holds-do k n resume-program j x = inl (holds-map k n (resumed isProgram) (operation-resumed isProgram) j x)
+  holds-do k n resume-erase j x = inl (holds-map k n (resumed isErase) (operation-resumed isErase) j x)
+  holds-do k n (setup-is s) j x = inl x
+  holds-do k n (unprotected-is b o) j x = inl x
+  holds-do k n (accept i) j (inl x) = inr (ap accept (sym (x .0)), x .1)
+  holds-do k n (accept i) j (inr x) = inl x
 
   why-accept : (d : Conditions) (k : Operation) → Why d (accept k) → (d .supply ≡ true) × (d .unprotected (blockIn g k) ≡ true)
   why-accept d k (because _ x y) = (x, y)
   why-accept d k (quiet _ x) = absurd x
 
-  here-if : (k : Operation) (c : Recorder) (s : Step) (l : List Step) → event g s c ≡ accept k → Accepted k c (s ∷ l)
-  here-if k c s l e =
+  here-if : (k : Operation) (n : ℕ) (c : Recorder) (s : Step) (l : List Step) → event g s c ≡ accept k → length (c .journal) ≡ n → Accepted k n c (s ∷ l)
+  here-if k n c s l e z =
       let w = why-accept (c .conditions) k (subst (λ v. Why (c .conditions) v) e (why (c .conditions) (anyRuns (c .journal)) (λ p. anySuspended p (c .journal)) s)) in
-      here c s l e (w .0) (w .1)
+      here c s l e z (w .0) (w .1)
 
   -- every entry was accepted so
-  pub stands : (k : Operation) (l : List Step) (c : Recorder) → Holds k ((recordedAll g c l) .journal) → Holds k (c .journal) ⊎ Accepted k c l
-  stands k [] c x = inl x
-  stands k (s ∷ l) c x = go (stands k l (recorded g c s) x)
+  pub stands : (k : Operation) (n : ℕ) (l : List Step) (c : Recorder) → Holds k n ((recordedAll g c l) .journal) → Holds k n (c .journal) ⊎ Accepted k n c l
+  stands k n [] c x = inl x
+  stands k n (s ∷ l) c x = go (stands k n l (recorded g c s) x)
     where
-      go₂ : Holds k (c .journal) ⊎ (event g s c ≡ accept k) → Holds k (c .journal) ⊎ Accepted k c (s ∷ l)
+      go₂ : Holds k n (c .journal) ⊎ ((event g s c ≡ accept k) × (length (c .journal) ≡ n)) → Holds k n (c .journal) ⊎ Accepted k n c (s ∷ l)
       go₂ (inl y) = inl y
-      go₂ (inr e) = inr (here-if k c s l e)
+      go₂ (inr e) = inr (here-if k n c s l (e .0) (e .1))
 
-      go : Holds k ((recorded g c s) .journal) ⊎ Accepted k (recorded g c s) l → Holds k (c .journal) ⊎ Accepted k c (s ∷ l)
+      go : Holds k n ((recorded g c s) .journal) ⊎ Accepted k n (recorded g c s) l → Holds k n (c .journal) ⊎ Accepted k n c (s ∷ l)
       go (inr a) = inr (later c s l a)
-      go (inl y) = go₂ (holds-do k (event g s c) (c .journal) y)
+      go (inl y) = go₂ (holds-do k n (event g s c) (c .journal) y)
 
-  pub stands₀ : (k : Operation) (l : List Step) → Holds k ((recordedAll g beginning l) .journal) → Accepted k beginning l
-  stands₀ k l x = go (stands k l beginning x)
+  pub stands₀ : (k : Operation) (n : ℕ) (l : List Step) → Holds k n ((recordedAll g beginning l) .journal) → Accepted k n beginning l
+  stands₀ k n l x = go (stands k n l beginning x)
     where
-      go : ⊥ ⊎ Accepted k beginning l → Accepted k beginning l
+      go : ⊥ ⊎ Accepted k n beginning l → Accepted k n beginning l
       go (inl y) = absurd y
       go (inr a) = a
 
-  -- no step opens b
+  -- no step unprotects b
   abbrev pub NeverUnprotected : ℕ → List Step → Recorder → Type 0
   NeverUnprotected b [] c = Unit {0}
-  NeverUnprotected b (s ∷ l) c = (event g s c ≡ protect b true → ⊥) × NeverUnprotected b l (recorded g c s)
+  NeverUnprotected b (s ∷ l) c = (event g s c ≡ unprotected-is b true → ⊥) × NeverUnprotected b l (recorded g c s)
 
-  stays-protected : (d : Conditions) (b c : ℕ) (o : Bool) → d .unprotected b ≡ false → (protect c o ≡ protect b true → ⊥) → (t : Bool) → eqb b c ≡ t → cond t o (d .unprotected b) ≡ false
+  stays-protected : (d : Conditions) (b c : ℕ) (o : Bool) → d .unprotected b ≡ false → (unprotected-is c o ≡ unprotected-is b true → ⊥) → (t : Bool) → eqb b c ≡ t → cond t o (d .unprotected b) ≡ false
   stays-protected d b c o h n false e = h
   stays-protected d b c false h n true e = refl
-  stays-protected d b c true h n true e = absurd (n (ap (λ (i : ℕ). protect i true) (sym (eqb-true b c e))))
+  stays-protected d b c true h n true e = absurd (n (ap (λ (i : ℕ). unprotected-is i true) (sym (eqb-true b c e))))
 
-  protected-after : (v : Event) (d : Conditions) (b : ℕ) → d .unprotected b ≡ false → (v ≡ protect b true → ⊥) → (conditions-after v d) .unprotected b ≡ false
+  protected-after : (v : Event) (d : Conditions) (b : ℕ) → d .unprotected b ≡ false → (v ≡ unprotected-is b true → ⊥) → (conditions-after v d) .unprotected b ≡ false
   protected-after nothing d b h n = h
   protected-after (supplied x) d b h n = h
   protected-after was-reset d b h n = refl
@@ -184,14 +189,14 @@ module _ (g : Geometry) where
   protected-after suspend d b h n = h
   protected-after resume-program d b h n = h
   protected-after resume-erase d b h n = h
-  protected-after (begin s) d b h n = h
-  protected-after (protect c o) d b h n = stays-protected d b c o h n (eqb b c) refl
+  protected-after (setup-is s) d b h n = h
+  protected-after (unprotected-is c o) d b h n = stays-protected d b c o h n (eqb b c) refl
   protected-after (accept k) d b h n = h
 
-  never-accepted : (b : ℕ) (k : Operation) (c : Recorder) (l : List Step) → c .conditions .unprotected b ≡ false → NeverUnprotected b l c → Accepted k c l → blockIn g k ≡ b → ⊥
-  never-accepted b k c l h n (here _ s i e x y) z = true≢false (sym (rw z at y) ∙ h)
-  never-accepted b k c l h n (later _ s i a) z =
-      never-accepted b k (recorded g c s) i (protected-after (event g s c) (c .conditions) b h (n .0)) (n .1) a z
+  never-accepted : (b : ℕ) (k : Operation) (n : ℕ) (c : Recorder) (l : List Step) → c .conditions .unprotected b ≡ false → NeverUnprotected b l c → Accepted k n c l → blockIn g k ≡ b → ⊥
+  never-accepted b k m c l h n (here _ s i e q x y) z = true≢false (sym (rw z at y) ∙ h)
+  never-accepted b k m c l h n (later _ s i a) z =
+      never-accepted b k m (recorded g c s) i (protected-after (event g s c) (c .conditions) b h (n .0)) (n .1) a z
 
   off : (w v : ℕ) (t : Bool) → (t ≡ true → ⊥) → cond t v w ≡ w
   off w v true h = absurd (h refl)
@@ -207,24 +212,47 @@ module _ (g : Geometry) where
   free (entry (erase b) u suspended) L w h = off w 65535 (eqb (blockOf g L) b && ltb (L - startOf g b) u) (λ e. h (sym (eqb-true (blockOf g L) b (and-true-l _ _ e))))
   free (entry (erase b) u broken-off) L w h = off w 65535 (eqb (blockOf g L) b && ltb (L - startOf g b) u) (λ e. h (sym (eqb-true (blockOf g L) b (and-true-l _ _ e))))
 
-  free-all : (j : List (Entry Operation)) (L w : ℕ) → ((k : Operation) → Holds k j → blockIn g k ≡ blockOf g L → ⊥) → readings g j L w ≡ w
+  free-all : (j : List (Entry Operation)) (L w : ℕ) → ((k : Operation) (n : ℕ) → Holds k n j → blockIn g k ≡ blockOf g L → ⊥) → readings g j L w ≡ w
   free-all [] L w h = refl
-  free-all (e ∷ j) L w h = free e L (readings g j L w) (h (operation-of e) (inl refl)) ∙ free-all j L w (λ k x. h k (inr x))
+  free-all (e ∷ j) L w h = free e L (readings g j L w) (h (operation-of e) (length j) (inl (refl, refl))) ∙ free-all j L w (λ k n x. h k n (inr x))
 
-  -- where no step unprotects its block, a word is in the journal's hands not at all
+  -- where no step unprotects its block, the journal leaves a word as it is
   never-read : (l : List Step) (L x : ℕ) → NeverUnprotected (blockOf g L) l beginning → readings g (journalOf g l) L x ≡ x
-  never-read l L x n = free-all (journalOf g l) L x (λ k h. never-accepted (blockOf g L) k beginning l refl n (stands₀ k l h))
+  never-read l L x n = free-all (journalOf g l) L x (λ k m h. never-accepted (blockOf g L) k m beginning l refl n (stands₀ k m l h))
 
   -- ---- single bits
 
   and-bit : (w d i : ℕ) → bit (bitAnd w d) i ≤ bit w i
   and-bit w d i = rw (and-shr w d i) (omega (arith, and-step (w / 2 ^ i) (d / 2 ^ i)))
 
-  -- an erase of L's block in the journal that has reached L
+  -- the journal has an erase of L's block that has had more units than words of the block lie below L
   abbrev pub Erased : List (Entry Operation) → ℕ → Type 0
   Erased [] L = ⊥
   Erased (entry (program l d) u t ∷ j) L = Erased j L
-  Erased (entry (erase b) u t ∷ j) L = (within (startOf g b) u L ≡ true) ⊎ Erased j L
+  Erased (entry (erase b) u t ∷ j) L = ((b ≡ blockOf g L) × (L - startOf g b < u)) ⊎ Erased j L
+
+  -- the same by the run of words that an erase has reached
+  abbrev Reached : List (Entry Operation) → ℕ → Type 0
+  Reached [] L = ⊥
+  Reached (entry (program l d) u t ∷ j) L = Reached j L
+  Reached (entry (erase b) u t ∷ j) L = (within (startOf g b) u L ≡ true) ⊎ Reached j L
+
+  reached-word : Sound g → (b u L : ℕ) → u ≤ sizeOf g b → within (startOf g b) u L ≡ true → (b ≡ blockOf g L) × (L - startOf g b < u)
+  reached-word sound b u L h e = let i = within-true (startOf g b) u L e in (sym (only g sound b L (i .0) (omega arith)), omega arith)
+
+  module _ (sound : Sound g) (L : ℕ) where
+    reached-more : (k : Operation) (u : ℕ) (t : Phase) (j : List (Entry Operation)) → u ≤ len g k → (Reached j L → Erased j L) → Reached (entry k u t ∷ j) L → Erased (entry k u t ∷ j) L
+    reached-more (program l d) u t j h f x = f x
+    reached-more (erase b) u t j h f (inl x) = inl (reached-word sound b u L h x)
+    reached-more (erase b) u t j h f (inr x) = inr (f x)
+
+    -- an entry has no more units than it has words, so that what it has reached lies in its block
+    reached-erased : {r : Bool} {s : List (Live Operation)} {j : List (Entry Operation)} → Matches g r s j → Reached j L → Erased j L
+    reached-erased entries.start x = x
+    reached-erased (entries.done {j = j} k u e a m) x = reached-more k u finished j (omega arith) (reached-erased m) x
+    reached-erased (entries.lost {j = j} k u e a m) x = reached-more k u broken-off j (omega arith) (reached-erased m) x
+    reached-erased (entries.runs {j = j} k u e a m) x = reached-more k u running j (omega arith) (reached-erased m) x
+    reached-erased (entries.waits {j = j} k u e a m) x = reached-more k u suspended j (omega arith) (reached-erased m) x
 
   prog-bit : (t : Bool) (x d i : ℕ) → bit (cond t (bitAnd x d) x) i ≤ bit x i
   prog-bit true x d i = and-bit x d i
@@ -234,28 +262,28 @@ module _ (g : Geometry) where
   eras-bit true x w i E h f = inl refl
   eras-bit false x w i E h f = inr (f h)
 
-  -- a bit that is 0 at the start is 1 at the end only where an erase of the word's block reached it
-  pub zero-to-one : (j : List (Entry Operation)) (L w i : ℕ) → bit w i < bit (After g j L w) i → Erased j L
+  -- a bit that is 0 at the start is 1 at the end only where an erase reached the word
+  zero-to-one : (j : List (Entry Operation)) (L w i : ℕ) → bit w i < bit (After g j L w) i → Reached j L
   zero-to-one [] L w i h = omega arith
   zero-to-one (entry (program l d) u t ∷ j) L w i h = zero-to-one j L w i (omega (arith, prog-bit (within l u L) (After g j L w) d i))
   zero-to-one (entry (erase b) u t ∷ j) L w i h =
-      eras-bit (within (startOf g b) u L) (After g j L w) w i (Erased j L) h (λ x. zero-to-one j L w i x)
+      eras-bit (within (startOf g b) u L) (After g j L w) w i (Reached j L) h (λ x. zero-to-one j L w i x)
 
-  -- ---- "the last protection command for its block, since power-up or the last reset, had opened it"
+  -- ---- the last protection command for a block since power-up or the last reset
 
-  -- no step resets, and none protects or opens b
+  -- no step resets, and none protects or unprotects b
   abbrev pub Undisturbed : ℕ → Recorder → List Step → Type 0
   Undisturbed b c [] = Unit {0}
   Undisturbed b c (s ∷ l) =
-      (event g s c ≡ was-reset → ⊥) × ((o : Bool) → event g s c ≡ protect b o → ⊥) × Undisturbed b (recorded g c s) l
+      (event g s c ≡ was-reset → ⊥) × ((o : Bool) → event g s c ≡ unprotected-is b o → ⊥) × Undisturbed b (recorded g c s) l
 
-  -- one of the steps opened b, and none after it resets, protects b or opens it again
+  -- one of the steps unprotected b, and none after it resets, protects b or unprotects it again
   pub data LastUnprotected (b : ℕ) : Recorder → List Step → Type 0 where
-    at-this : (c : Recorder) (s : Step) (l : List Step) → event g s c ≡ protect b true → Undisturbed b (recorded g c s) l → LastUnprotected b c (s ∷ l)
+    at-this : (c : Recorder) (s : Step) (l : List Step) → event g s c ≡ unprotected-is b true → Undisturbed b (recorded g c s) l → LastUnprotected b c (s ∷ l)
     at-later : (c : Recorder) (s : Step) (l : List Step) → LastUnprotected b (recorded g c s) l → LastUnprotected b c (s ∷ l)
 
   abbrev Touch : ℕ → Event → Conditions → Type 0
-  Touch b v d = (v ≡ protect b true) ⊎ ((d .unprotected b ≡ true) × (v ≡ was-reset → ⊥) × ((o : Bool) → v ≡ protect b o → ⊥))
+  Touch b v d = (v ≡ unprotected-is b true) ⊎ ((d .unprotected b ≡ true) × (v ≡ was-reset → ⊥) × ((o : Bool) → v ≡ unprotected-is b o → ⊥))
 
   -- a constructor tells an event apart
   abbrev tag : Event → ℕ
@@ -266,18 +294,18 @@ module _ (g : Geometry) where
   tag suspend = 4
   tag resume-program = 5
   tag resume-erase = 6
-  tag (begin s) = 7
-  tag (protect b o) = 8
+  tag (setup-is s) = 7
+  tag (unprotected-is b o) = 8
   tag (accept k) = 9
 
   apart-tag : (v w : Event) → (tag v ≡ tag w → ⊥) → v ≡ w → ⊥
   apart-tag v w n e = n (ap tag e)
 
-  touch-protect : (b c : ℕ) (o : Bool) (d : Conditions) (t : Bool) → eqb b c ≡ t → cond t o (d .unprotected b) ≡ true → Touch b (protect c o) d
-  touch-protect b c true d true e h = inl (ap (λ (i : ℕ). protect i true) (sym (eqb-true b c e)))
+  touch-protect : (b c : ℕ) (o : Bool) (d : Conditions) (t : Bool) → eqb b c ≡ t → cond t o (d .unprotected b) ≡ true → Touch b (unprotected-is c o) d
+  touch-protect b c true d true e h = inl (ap (λ (i : ℕ). unprotected-is i true) (sym (eqb-true b c e)))
   touch-protect b c false d true e h = absurd (false≢true h)
   touch-protect b c o d false e h =
-      inr (h, apart-tag (protect c o) was-reset (λ x. omega arith), λ p x. eqb-false b c e (sym (block-name x)))
+      inr (h, apart-tag (unprotected-is c o) was-reset (λ x. omega arith), λ p x. eqb-false b c e (sym (block-name x)))
     where
       name-of : Event → ℕ
       name-of nothing = b
@@ -287,11 +315,11 @@ module _ (g : Geometry) where
       name-of suspend = b
       name-of resume-program = b
       name-of resume-erase = b
-      name-of (begin s) = b
-      name-of (protect i q) = i
+      name-of (setup-is s) = b
+      name-of (unprotected-is i q) = i
       name-of (accept k) = b
 
-      block-name : {p : Bool} → protect c o ≡ protect b p → c ≡ b
+      block-name : {p : Bool} → unprotected-is c o ≡ unprotected-is b p → c ≡ b
       block-name x = ap name-of x
 
   touch : (v : Event) (d : Conditions) (b : ℕ) → (conditions-after v d) .unprotected b ≡ true → Touch b v d
@@ -302,8 +330,8 @@ module _ (g : Geometry) where
   touch suspend d b h = inr (h, apart-tag _ _ (λ x. omega arith), λ o. apart-tag _ _ (λ x. omega arith))
   touch resume-program d b h = inr (h, apart-tag _ _ (λ x. omega arith), λ o. apart-tag _ _ (λ x. omega arith))
   touch resume-erase d b h = inr (h, apart-tag _ _ (λ x. omega arith), λ o. apart-tag _ _ (λ x. omega arith))
-  touch (begin s) d b h = inr (h, apart-tag _ _ (λ x. omega arith), λ o. apart-tag _ _ (λ x. omega arith))
-  touch (protect c o) d b h = touch-protect b c o d (eqb b c) refl h
+  touch (setup-is s) d b h = inr (h, apart-tag _ _ (λ x. omega arith), λ o. apart-tag _ _ (λ x. omega arith))
+  touch (unprotected-is c o) d b h = touch-protect b c o d (eqb b c) refl h
   touch (accept k) d b h = inr (h, apart-tag _ _ (λ x. omega arith), λ o. apart-tag _ _ (λ x. omega arith))
 
   pub unprotected-since : (b : ℕ) (l : List Step) (c : Recorder) → (recordedAll g c l) .conditions .unprotected b ≡ true
@@ -322,52 +350,72 @@ module _ (g : Geometry) where
 
   -- ---- where an operation was accepted: the steps before it, the step, and those after it
 
-  pub record Split (k : Operation) (c : Recorder) (l : List Step) : Type 0 where
+  pub record Split (k : Operation) (n : ℕ) (c : Recorder) (l : List Step) : Type 0 where
     pub before : List Step
     pub step : Step
     pub later : List Step
     pub whole : l ≡ before ++ (step ∷ later)
     pub accepts : event g step (recordedAll g c before) ≡ accept k
+    pub place : length (recordedAll g c before .journal) ≡ n
     pub supply-on : recordedAll g c before .conditions .supply ≡ true
     pub unprotected : recordedAll g c before .conditions .unprotected (blockIn g k) ≡ true
 
-  split : (k : Operation) (c : Recorder) (l : List Step) → Accepted k c l → Split k c l
-  split k c l (here _ s i e x y) = record { before = []; step = s; later = i; whole = refl; accepts = e; supply-on = x; unprotected = y }
-  split k c l (later _ s i a) =
-      let r = split k (recorded g c s) i a in
-      record { before = s ∷ r .before; step = r .step; later = r .later; whole = ap (λ (m : List Step). s ∷ m) (r .whole); accepts = r .accepts; supply-on = r .supply-on; unprotected = r .unprotected }
+  split : (k : Operation) (n : ℕ) (c : Recorder) (l : List Step) → Accepted k n c l → Split k n c l
+  split k n c l (here _ s i e q x y) = record { before = []; step = s; later = i; whole = refl; accepts = e; place = q; supply-on = x; unprotected = y }
+  split k n c l (later _ s i a) =
+      let r = split k n (recorded g c s) i a in
+      record { before = s ∷ r .before; step = r .step; later = r .later; whole = ap (λ (m : List Step). s ∷ m) (r .whole); accepts = r .accepts; place = r .place; supply-on = r .supply-on; unprotected = r .unprotected }
 
 -- ---- the theorems
 
--- the entry of an operation stands: at the step that accepted it supply was on, and the last protection command for its block since power-up or the last
--- reset had unprotected it
-pub record Stands (g : Geometry) (k : Operation) (l : List Step) : Type 0 where
+-- entry n of the journal, which is of the operation k, stands: at the step that accepted it, when the journal had n entries, supply was on, and the last
+-- protection command for its block since power-up or the last reset had unprotected it
+pub record Stands (g : Geometry) (k : Operation) (n : ℕ) (l : List Step) : Type 0 where
   pub before : List Step
   pub step : Step
   pub later : List Step
   pub whole : l ≡ before ++ (step ∷ later)
   pub accepts : event g step (recordedAll g beginning before) ≡ accept k
+  pub place : length (recordedAll g beginning before .journal) ≡ n
   pub supply-on : recordedAll g beginning before .conditions .supply ≡ true
   pub last-unprotected : LastUnprotected g (blockIn g k) beginning before
 
 -- every entry of the journal stands so
-pub every-entry-stands : (g : Geometry) (k : Operation) (l : List Step) → Holds g k (journalOf g l) → Stands g k l
-every-entry-stands g k l h = go (split g k beginning l (stands₀ g k l h))
+pub every-entry-stands : (g : Geometry) (k : Operation) (n : ℕ) (l : List Step) → Holds g k n (journalOf g l) → Stands g k n l
+every-entry-stands g k n l h = go (split g k n beginning l (stands₀ g k n l h))
   where
     last : (b : ℕ) (i : List Step) → LastUnprotected g b beginning i ⊎ ((false ≡ true) × Undisturbed g b beginning i) → LastUnprotected g b beginning i
     last b i (inl x) = x
     last b i (inr x) = absurd (false≢true (x .0))
 
-    go : Split g k beginning l → Stands g k l
+    go : Split g k n beginning l → Stands g k n l
     go r = record {
       before = r .before;
       step = r .step;
       later = r .later;
       whole = r .whole;
       accepts = r .accepts;
+      place = r .place;
       supply-on = r .supply-on;
       last-unprotected = last (blockIn g k) (r .before) (unprotected-since g (blockIn g k) (r .before) beginning (r .unprotected));
     }
+
+-- what demand 3 says of the array ys that a list l of steps makes of power-up of the part p on the array xs
+pub record Demand3 (p : Part) (l : List Step) (xs ys : List ℕ) : Type 0 where
+  -- the array is as long as it was
+  pub length-same : length ys ≡ length xs
+  -- every word is the word at the start with the journal of the list applied in order of acceptance
+  pub word : (L : ℕ) → L < words (geometryOf p) → getD ys L 0 ≡ applied (geometryOf p) (journalOf (geometryOf p) l) L (getD xs L 0)
+  -- and every entry of the journal stands
+  pub stands : (k : Operation) (n : ℕ) → Holds (geometryOf p) k n (journalOf (geometryOf p) l) → Stands (geometryOf p) k n l
+
+-- DEMAND 3, as one claim: for every part p, every list l of the five steps, refused ones included, and every array xs of the part's length
+pub demand-3-whole : (p : Part) (l : List Step) (xs : List ℕ) → length xs ≡ words (geometryOf p) → Demand3 p l xs (afterAll (fresh p xs) l .array)
+demand-3-whole p l xs h = record {
+  length-same = reached-length p l xs h ∙ sym h;
+  word = demand-3 p l xs h;
+  stands = λ k n. every-entry-stands (geometryOf p) k n l;
+}
 
 -- a block that no step unprotected keeps every word
 pub protected-keeps : (p : Part) (l : List Step) (xs : List ℕ) → length xs ≡ words (geometryOf p) → (L : ℕ) → L < words (geometryOf p)
@@ -375,8 +423,9 @@ pub protected-keeps : (p : Part) (l : List Step) (xs : List ℕ) → length xs �
 protected-keeps p l xs h L k n =
     demand-3 p l xs h L k ∙ readings-applied (geometryOf p) (laws.sound p) (journalOf (geometryOf p) l) L (getD xs L 0) ∙ never-read (geometryOf p) l L (getD xs L 0) n
 
--- a bit goes from 0 to 1 only by an erase of its block that reached the word
+-- a bit goes from 0 to 1 only by an erase of the word's block that has reached the word
 pub only-erases-set : (p : Part) (l : List Step) (xs : List ℕ) → length xs ≡ words (geometryOf p) → (L i : ℕ) → L < words (geometryOf p)
     → bit (getD xs L 0) i < bit (getD (afterAll (fresh p xs) l .array) L 0) i → Erased (geometryOf p) (journalOf (geometryOf p) l) L
 only-erases-set p l xs h L i k b =
-    zero-to-one (geometryOf p) (journalOf (geometryOf p) l) L (getD xs L 0) i (rw (reached p l xs h .word L k) at b)
+    reached-erased (geometryOf p) (laws.sound p) L (reached p l xs h .sim .match)
+    (zero-to-one (geometryOf p) (journalOf (geometryOf p) l) L (getD xs L 0) i (rw (reached p l xs h .word L k) at b))

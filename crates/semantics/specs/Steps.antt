@@ -62,7 +62,7 @@ refusalOf s n x = firstRefusal (stateRefusal s n) (stepRefusal (geometry s) x)
 abbrev pub next : State → Answer → Next
 next s a = record { state = s; answer = a }
 
--- the state, and the answer, of a step that is not refused. "Reset gives the power-up state but keeps the supply"
+-- the state after, and the answer of, a step that is accepted, that is, not refused. "Reset gives the power-up state but keeps the supply"
 unfoldable pub accepted : State → List ℕ → Step → Next
 accepted s xs (Read address) = next s (Word (readWord s xs (location (geometry s) address)))
 accepted s xs (Write address w) = next (written s address w) Done
@@ -70,7 +70,7 @@ accepted s xs (Work n) = next (worked s n) (Units (unitsDone (geometry s) (s .ac
 accepted s xs (Supply on) = next (withSupply s on) Done
 accepted s xs Reset = next (withSupply (powerUp (s .part)) (s .supply)) Done
 
--- only work touches the array
+-- the array after a step that is not refused: only work touches it
 unfoldable pub acceptedArray : State → List ℕ → Step → List ℕ
 acceptedArray s xs (Read address) = xs
 acceptedArray s xs (Write address w) = xs

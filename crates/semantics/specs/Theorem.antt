@@ -1,5 +1,5 @@
--- DEMAND 3: after any list of the five steps from power-up, refused ones included, every word of the array is its starting word with the journal
--- applied in order of acceptance. The journal is drawn up from the steps alone (Recorder).
+-- The words of demand 3: after any list of the five steps from power-up, refused ones included, every word of the array is its starting word with the journal
+-- applied in order of acceptance. The journal is drawn up from the steps alone (Recorder). Demand 3 whole is demand-3-whole of Standing.
 -- Assumes nothing.
 use mathlib.Core.Path.{_≡_, refl, sym, ap, _∙_}
 use mathlib.Core.List.{List, [], _∷_, foldl, reverse, reverseAux}
@@ -63,7 +63,7 @@ module _ (g : Geometry) (sound : Sound g) where
       go true e false f = let y = ltb-false (L - startOf g b) u f in sym (within-out (startOf g b) u L (λ a c. omega arith))
       go false e v f = sym (within-out (startOf g b) u L (λ x y. eqb-false (blockOf g L) b e (only g sound b L x (omega arith))))
 
-  -- what the standing of an entry says of its units
+  -- what the phase of an entry says of its units
   abbrev Whole : Entry Operation → Type 0
   Whole (entry k u finished) = u ≡ len g k
   Whole (entry k u running) = u < len g k
@@ -111,8 +111,8 @@ agree-words p xs₀ m c a L h =
 pub reached : (p : Part) (l : List Step) (xs : List ℕ) → length xs ≡ words (geometryOf p) → Agree p xs (afterAll (fresh p xs) l) (recordedAll (geometryOf p) beginning l)
 reached p l xs h = agree-all p xs l (fresh p xs) beginning (agree-fresh p xs h)
 
--- DEMAND 3. For every part p, every list l of steps and every array xs of the part's length: the word at every location L after the list is the word
--- there at the start with the journal of the list applied in order of acceptance.
+-- The words of demand 3. For every part p, every list l of steps and every array xs of the part's length: the word at every location L after the list is the
+-- word there at the start with the journal of the list applied in order of acceptance.
 pub demand-3 : (p : Part) (l : List Step) (xs : List ℕ) → length xs ≡ words (geometryOf p) → (L : ℕ) → L < words (geometryOf p)
     → getD (afterAll (fresh p xs) l .array) L 0 ≡ applied (geometryOf p) (journalOf (geometryOf p) l) L (getD xs L 0)
 demand-3 p l xs h L k = agree-words p xs (afterAll (fresh p xs) l) (recordedAll (geometryOf p) beginning l) (reached p l xs h) L k

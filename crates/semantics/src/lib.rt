@@ -90,7 +90,8 @@ pub struct Next {
     pub answer: Answer,
 }
 
-// The report of unprotected blocks (document 01: open report): a refusal's number or 0, how many blocks are unprotected, and the lowest of them.
+// The report of unprotected blocks (document 01: open report): a refusal's number or 0, how many blocks are unprotected, and the lowest of them, 259 where there
+// is none; all 0 beside a refusal.
 pub struct Reported {
     pub refusal: u32,
     pub count: u32,

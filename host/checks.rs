@@ -1,0 +1,536 @@
+//! Checks that need no chance: power-up, states that are not well made, each
+//! state word changed to many values, and memory of other counts.
+
+use crate::library::{self, STATE_WORDS};
+use crate::pair::{Difference, Pair, Start};
+use crate::second::model::{
+    lookup, Device, Erase, Flags, Mode, Operation, Part, Program, Setup, ADDRESSES, BLOCKS,
+};
+use crate::second::steps::Step;
+use crate::state::{self, Words};
+
+const UNTOUCHED: u64 = 0xDEAD_BEEF_DEAD_BEEF;
+
+/// A check that failed: which one, and what is not equal.
+pub struct Failure {
+    pub check: String,
+    pub difference: Difference,
+}
+
+type Checked = Result<(), Failure>;
+
+fn failure(check: &str, what: &str, expected: u64, got: u64) -> Failure {
+    Failure {
+        check: check.to_string(),
+        difference: Difference {
+            step: 0,
+            what: what.to_string(),
+            expected: format!("{expected:X}h"),
+            got: format!("{got:X}h"),
+        },
+    }
+}
+
+fn same(check: &str, what: &str, expected: u64, got: u64) -> Checked {
+    if expected == got {
+        Ok(())
+    } else {
+        Err(failure(check, what, expected, got))
+    }
+}
+
+/// The lookup at the edges of all blocks, and refused.
+pub fn check_lookup() -> Result<u64, Failure> {
+    let mut asked = 0;
+    for part in [0, 1, 2, 3, 4, 5, 1 << 31, u32::MAX] {
+        let layout = Part::from_number(part).unwrap_or(Part::FullBottom);
+        let mut addresses = vec![ADDRESSES - 1, ADDRESSES, ADDRESSES + 1, 1 << 31, u32::MAX];
+        for block in 0..BLOCKS as u32 {
+            let block = layout.block(block).expect("a block of the part");
+            addresses.extend([block.start, block.start + 1, block.start + block.size - 1]);
+        }
+        for address in addresses {
+            let (refusal, block, bank) = lookup(part, address);
+            let expected = (u32::from(refusal), block, bank);
+            let got = library::lookup(part, address);
+            if expected != got {
+                return Err(Failure {
+                    check: format!("lookup of {address:06X} on part {part}"),
+                    difference: Difference {
+                        step: 0,
+                        what: "refusal, block and bank".to_string(),
+                        expected: format!("{expected:?}"),
+                        got: format!("{got:?}"),
+                    },
+                });
+            }
+            asked += 1;
+        }
+    }
+    Ok(asked)
+}
+
+/// m58_power_up with good and bad parts and counts.
+pub fn check_power_up() -> Checked {
+    for part in [0, 1, 2, 3, 4, 5, 255, 1 << 31, u32::MAX] {
+        for count in [0, 1, STATE_WORDS - 1, STATE_WORDS, STATE_WORDS + 1, 64] {
+            let check = format!("power-up of part {part} with {count} state words");
+            // Room past the count shows a write outside.
+            let mut state = [UNTOUCHED; 80];
+            let given = library::power_up(part, &mut state[8..8 + count]);
+            let mut expected = [UNTOUCHED; 80];
+            let good = part < 4 && count == STATE_WORDS;
+            if good {
+                let words = state::encode(&Device::power_up(part));
+                expected[8..8 + count].copy_from_slice(&words);
+            }
+            same(&check, "what it returns", u64::from(good), u64::from(given))?;
+            for (place, (&expected, &got)) in expected.iter().zip(&state).enumerate() {
+                let what = format!("word {place} less 8 of the memory");
+                same(&check, &what, expected, got)?;
+            }
+        }
+        let check = format!("power-up of part {part} with a null pointer");
+        let given = library::power_up_of_nothing(part);
+        same(&check, "what it returns", 0, u64::from(given))?;
+    }
+    Ok(())
+}
+
+/// Null pointers with the count 0, one at a time and all together.
+pub fn check_null(pair: &mut Pair) -> Checked {
+    let part = pair.part().number();
+    let device = Device::power_up(part);
+    let steps = [library::number(Step::Supply(true)); 2];
+    let mut array = vec![0x1234; pair.part().array_length()];
+    for missing in 0..16 {
+        let check = format!("null pointers of part {part}, choice {missing:04b}");
+        let mut state = state::encode(&device);
+        let mut answers = [UNTOUCHED; 2];
+        let lent = |bit: u32| missing >> bit & 1 == 0;
+        let played = library::run_lent(
+            lent(0).then_some(&mut state),
+            lent(1).then_some(&steps),
+            lent(2).then_some(&mut answers),
+            lent(3).then_some(&mut array),
+        );
+        let plays = lent(1) && lent(2);
+        same(
+            &check,
+            "steps played",
+            if plays { 2 } else { 0 },
+            played as u64,
+        )?;
+        // With no state and no array, document 01 does not say which of the
+        // two refusals is due.
+        let due: &[u64] = match (plays, lent(0), lent(3)) {
+            (false, ..) => &[UNTOUCHED],
+            (true, true, true) => &[0],
+            (true, true, false) => &[1 << 32],
+            (true, false, _) => &[1 << 32, 2 << 32],
+        };
+        for answer in answers {
+            if !due.contains(&answer) {
+                return Err(failure(&check, "answer", due[0], answer));
+            }
+        }
+        let mut expected = device.clone();
+        expected.supply = plays && lent(0) && lent(3);
+        for (place, (expected, got)) in state::encode(&expected).into_iter().zip(state).enumerate()
+        {
+            let what = format!("state word {place} ({})", state::name(place));
+            same(&check, &what, expected, got)?;
+        }
+    }
+    let got = library::report_of_nothing();
+    same("report of no state", "report", 2 << 32, got)
+}
+
+/// Steps of all five kinds, good and refused; tried on states.
+fn probes(part: Part) -> Vec<u64> {
+    let last = part.array_length() as u32 - 1;
+    let steps = [
+        Step::Read(0),
+        Step::Read(last),
+        Step::Read(ADDRESSES),
+        Step::Work(65_536),
+        Step::Write(ADDRESSES, 0x00FF),
+        Step::Work(1),
+        Step::Read(part.unit() + 2),
+        Step::Write(last, 0x0090),
+        Step::Work(65_535),
+        Step::Write(part.unit(), 0x00D0),
+        Step::Work(3),
+        Step::Write(0, 0x00B0),
+        Step::Supply(true),
+        Step::Read(part.unit()),
+        Step::Write(0, 0x0060),
+        Step::Write(0, 0x00D0),
+        Step::Reset,
+        Step::Supply(false),
+    ];
+    steps.map(library::number).to_vec()
+}
+
+/// Plays the probes from some state words in one call.
+fn probe(pair: &mut Pair, words: &[u64], array: usize, whole: bool) -> Result<(), Difference> {
+    let numbers = probes(pair.part());
+    pair.begin_on_same_array(Start::Words(words.to_vec()))?;
+    let mut call = pair.call(numbers.len(), array);
+    for number in numbers {
+        pair.add(&mut call, number);
+    }
+    pair.check(call, whole)
+}
+
+/// States that are not well made, by document 01's sentence, and state words
+/// that are of no device. Here the refusal is not taken from the second model:
+/// every step must be refused 2 by both, and nothing may change.
+pub fn check_ill_made(pair: &mut Pair) -> Result<usize, Failure> {
+    let part = pair.part();
+    let good = part.array_length();
+    let states = ill_made(part);
+    for (name, words) in &states {
+        let check = format!("{name}, on part {}", part.number());
+        let fail = |difference| Failure {
+            check: check.clone(),
+            difference,
+        };
+        let device = state::decode(words);
+        let (refused, steps) = (pair.counts.refused[2], pair.counts.steps);
+        probe(pair, words, good, true).map_err(fail)?;
+        let refused = pair.counts.refused[2] - refused;
+        let steps = pair.counts.steps - steps;
+        same(
+            &check,
+            "steps refused 2 by the second model",
+            steps,
+            refused,
+        )?;
+        // A wrong array as well: the lowest number is 1 where there is a part.
+        for length in [good - 1, good + 1, 0] {
+            let refused = pair.counts.refused[1];
+            probe(pair, words, length, false).map_err(fail)?;
+            let refused = pair.counts.refused[1] - refused;
+            let due = if device.is_some() { steps } else { 0 };
+            same(&check, "steps refused 1 by the second model", due, refused)?;
+        }
+    }
+    pair.finish().map_err(|difference| Failure {
+        check: "array after the states that are not well made".to_string(),
+        difference,
+    })?;
+    Ok(states.len())
+}
+
+fn ill_made(part: Part) -> Vec<(String, Words)> {
+    let size = |block: u32| part.block(block).expect("a block of the part").size;
+    let start = |block: u32| part.block(block).expect("a block of the part").start;
+    let words = part.array_length() as u32;
+    let program = Program {
+        location: start(100) + 7,
+        data: 0x1234,
+    };
+    let erase = Erase {
+        block: 200,
+        done: 5,
+    };
+    let base = Device {
+        open: [true; BLOCKS],
+        supply: true,
+        ..Device::power_up(part.number())
+    };
+    let mut states: Vec<(String, Words)> = Vec::new();
+    let mut device = |name: &str, change: &dyn Fn(&mut Device)| {
+        let mut device = base.clone();
+        change(&mut device);
+        states.push((name.to_string(), state::encode(&device)));
+    };
+    for setup in [Setup::Program, Setup::Erase, Setup::Lock] {
+        device(&format!("program runs with {setup:?} set-up"), &|d| {
+            d.running = Some(Operation::Program(program));
+            d.setup = Some(setup);
+        });
+        device(&format!("erase runs with {setup:?} set-up"), &|d| {
+            d.running = Some(Operation::Erase(erase));
+            d.setup = Some(setup);
+        });
+        device(&format!("program suspended with {setup:?} set-up"), &|d| {
+            d.suspended_program = Some(program);
+            d.setup = Some(setup);
+        });
+    }
+    device("program runs with a suspended program", &|d| {
+        d.running = Some(Operation::Program(program));
+        d.suspended_program = Some(Program {
+            location: 3,
+            data: 0,
+        });
+    });
+    device("erase runs with a suspended program", &|d| {
+        d.running = Some(Operation::Erase(erase));
+        d.suspended_program = Some(program);
+    });
+    device("erase runs with a suspended erase", &|d| {
+        d.running = Some(Operation::Erase(erase));
+        d.suspended_erase = Some(Erase { block: 9, done: 0 });
+    });
+    device("erase set-up with a suspended erase", &|d| {
+        d.setup = Some(Setup::Erase);
+        d.suspended_erase = Some(erase);
+    });
+    for block in [0, 3, 4, 200, 258] {
+        for more in [0, 1, 1 << 20] {
+            let done = size(block) + more;
+            let erase = Erase { block, done };
+            device(&format!("erase of {block} runs, {done} done"), &|d| {
+                d.running = Some(Operation::Erase(erase));
+            });
+            device(&format!("erase of {block} suspended, {done} done"), &|d| {
+                d.suspended_erase = Some(erase);
+            });
+        }
+        for offset in [0, size(block) - 1] {
+            let program = Program {
+                location: start(block) + offset,
+                data: 0,
+            };
+            let erase = Erase { block, done: 0 };
+            device(&format!("program runs in suspended erase {block}"), &|d| {
+                d.running = Some(Operation::Program(program));
+                d.suspended_erase = Some(erase);
+            });
+            device(&format!("program suspended in erase {block}"), &|d| {
+                d.suspended_program = Some(program);
+                d.suspended_erase = Some(erase);
+            });
+        }
+    }
+    for block in [259, 260, 320, 1 << 16, u32::MAX] {
+        let erase = Erase { block, done: 0 };
+        device(&format!("erase of block {block} runs"), &|d| {
+            d.running = Some(Operation::Erase(erase));
+        });
+        device(&format!("erase of block {block} suspended"), &|d| {
+            d.suspended_erase = Some(erase);
+        });
+    }
+    for location in [words, words + 1, words * 2, 1 << 31, u32::MAX] {
+        let program = Program { location, data: 0 };
+        device(&format!("program at {location} runs"), &|d| {
+            d.running = Some(Operation::Program(program));
+        });
+        device(&format!("program at {location} suspended"), &|d| {
+            d.suspended_program = Some(program);
+        });
+    }
+
+    // Words of no device, where the part is still known.
+    let mut word = |name: &str, place: usize, value: u64| {
+        let mut words = state::encode(&base);
+        words[place] = value;
+        states.push((format!("{name}, word {place} is {value:X}h"), words));
+    };
+    for value in [4, 5, 1 << 8, 1 << 16, 1 << 32, u64::MAX] {
+        for bank in 0..16 {
+            word("mode", state::MODES + bank, value);
+        }
+        word("set-up", state::SETUP, value);
+        word("running", state::RUNNING, value);
+    }
+    word("running", state::RUNNING, 3);
+    for value in [2, 3, 1 << 8, 1 << 32, u64::MAX] {
+        word("suspended program", state::SUSPENDED_PROGRAM, value);
+        word("suspended erase", state::SUSPENDED_ERASE, value);
+        for flag in 0..4 {
+            word("flag", state::FLAGS + flag, value);
+        }
+        word("supply", state::SUPPLY, value);
+    }
+    for value in [1, 4, 1 << 32, u64::MAX] {
+        for first in [
+            state::RUNNING,
+            state::SUSPENDED_PROGRAM,
+            state::SUSPENDED_ERASE,
+        ] {
+            word("unused place", first + 1, value);
+            word("unused place", first + 2, value);
+        }
+    }
+    for value in [1 << 16, 1 << 32, u64::MAX] {
+        word("configuration register", state::CONFIGURATION, value);
+    }
+    for bit in 3..64 {
+        word("spare protection bit", state::PROTECTION + 4, 7 | 1 << bit);
+    }
+
+    // Numbers too long for their place, but right if they were cut short.
+    let mut long = |name: &str, device: &Device, place: usize, bit: u32| {
+        let mut words = state::encode(device);
+        words[place] |= 1 << bit;
+        states.push((format!("{name}, word {place} with bit {bit}"), words));
+    };
+    let mut device = base.clone();
+    device.running = Some(Operation::Program(program));
+    device.suspended_erase = Some(erase);
+    for bit in [32, 63] {
+        long(
+            "running program's location",
+            &device,
+            state::RUNNING + 1,
+            bit,
+        );
+        long(
+            "suspended erase's block",
+            &device,
+            state::SUSPENDED_ERASE + 1,
+            bit,
+        );
+        long(
+            "suspended erase's count",
+            &device,
+            state::SUSPENDED_ERASE + 2,
+            bit,
+        );
+    }
+    for bit in [16, 32, 63] {
+        long("running program's data", &device, state::RUNNING + 2, bit);
+    }
+    let mut device = base.clone();
+    device.suspended_program = Some(program);
+    for bit in [32, 63] {
+        let place = state::SUSPENDED_PROGRAM + 1;
+        long("suspended program's location", &device, place, bit);
+    }
+    for bit in [16, 32, 63] {
+        let place = state::SUSPENDED_PROGRAM + 2;
+        long("suspended program's data", &device, place, bit);
+    }
+    let mut device = base.clone();
+    device.running = Some(Operation::Erase(erase));
+    for bit in [32, 63] {
+        long("running erase's block", &device, state::RUNNING + 1, bit);
+        long("running erase's count", &device, state::RUNNING + 2, bit);
+    }
+    states
+}
+
+/// States to change words of: one of each shape that a device can have.
+fn shapes(part: Part) -> Vec<Device> {
+    let start = |block: u32| part.block(block).expect("a block of the part").start;
+    let program = Some(Program {
+        location: start(100) + 7,
+        data: 0xF0F1,
+    });
+    let erase = Some(Erase {
+        block: 99,
+        done: 10,
+    });
+    let running_program = program.map(Operation::Program);
+    let running_erase = erase.map(Operation::Erase);
+    let mut open = [false; BLOCKS];
+    for block in [0, 63, 64, 99, 100, 258] {
+        open[block] = true;
+    }
+    let mut busy = Device {
+        open,
+        supply: true,
+        configuration: 0x1234,
+        flags: Flags {
+            sr5: true,
+            sr1: true,
+            ..Flags::default()
+        },
+        ..Device::power_up(part.number())
+    };
+    busy.modes[3] = Mode::Status;
+    busy.modes[6] = Mode::Signature;
+    busy.modes[15] = Mode::Query;
+
+    let mut shapes = vec![Device::power_up(part.number())];
+    for (setup, running, suspended_program, suspended_erase) in [
+        (None, None, None, None),
+        (Some(Setup::Program), None, None, None),
+        (Some(Setup::Erase), None, None, None),
+        (Some(Setup::Lock), None, None, None),
+        (None, running_program, None, None),
+        (None, running_erase, None, None),
+        (None, None, program, None),
+        (None, None, None, erase),
+        (None, running_program, None, erase),
+        (None, None, program, erase),
+        (Some(Setup::Program), None, None, erase),
+        (Some(Setup::Lock), None, None, erase),
+    ] {
+        shapes.push(Device {
+            setup,
+            running,
+            suspended_program,
+            suspended_erase,
+            ..busy.clone()
+        });
+    }
+    shapes
+}
+
+/// Every word of the 38 changed alone to many values. Where the changed words
+/// are of a device, the second model says what is due; elsewhere every step is
+/// refused and nothing changes. Gives the number of changed states.
+pub fn check_each_word(pair: &mut Pair) -> Result<u64, Failure> {
+    let part = pair.part();
+    let length = part.array_length();
+    let words = length as u64;
+    let unit = u64::from(part.unit());
+    let block = part.block(99).expect("a block of the part");
+    let (start, size) = (u64::from(block.start), u64::from(block.size));
+    let mut changed = 0;
+    for (shape, device) in shapes(part).into_iter().enumerate() {
+        let original = state::encode(&device);
+        for place in 0..STATE_WORDS {
+            let old = original[place];
+            let mut values: Vec<u64> = (0..64).map(|bit| old ^ 1 << bit).collect();
+            values.extend(0..8);
+            values.extend([old.wrapping_add(1), old.wrapping_sub(1), !old, u64::MAX]);
+            values.extend([unit / 4 - 1, unit / 4, unit - 1, unit, 15, 16, 17]);
+            values.extend([size - 1, size, start, start + size - 1, start + size]);
+            values.extend([98, 99, 100, 257, 258, 259, 0xFFFF, 0x1_0000]);
+            values.extend([words - 1, words, words + 1, 1 << 24, u64::from(u32::MAX)]);
+            values.sort_unstable();
+            values.dedup();
+            values.retain(|&value| value != old);
+            for value in values {
+                let mut damaged = original;
+                damaged[place] = value;
+                let whole = !pair.is_full();
+                probe(pair, &damaged, length, whole).map_err(|difference| Failure {
+                    check: format!(
+                        "shape {shape} of part {}, word {place} changed to {value:X}h",
+                        part.number()
+                    ),
+                    difference,
+                })?;
+                changed += 1;
+            }
+        }
+        // A full array is compared once for each shape.
+        pair.finish().map_err(|difference| Failure {
+            check: format!("array after shape {shape} of part {}", part.number()),
+            difference,
+        })?;
+    }
+    Ok(changed)
+}
+
+/// State words of other counts than 38: every step is refused.
+pub fn check_state_counts(pair: &mut Pair) -> Checked {
+    let part = pair.part();
+    for count in [0, 1, 17, STATE_WORDS - 1, STATE_WORDS + 1, 2 * STATE_WORDS] {
+        let mut words = state::encode(&Device::power_up(part.number())).to_vec();
+        words.resize(count, 0);
+        probe(pair, &words, part.array_length(), true).map_err(|difference| Failure {
+            check: format!("{count} state words, on part {}", part.number()),
+            difference,
+        })?;
+    }
+    Ok(())
+}

@@ -1,0 +1,590 @@
+//! The library and the second model side by side, on one part. Both get the
+//! same state, the same array and the same numbers; after each call of m58_run
+//! everything that the call could have changed is compared.
+
+use crate::author::Dice;
+use crate::library;
+use crate::second::journal::Clerk;
+use crate::second::model::{Device, Operation, Part};
+use crate::second::steps::Step;
+use crate::state;
+
+/// Cells kept on both sides of lent memory, so that a write outside is seen.
+const MARGIN: usize = 16;
+
+/// What lies in answers and margins before a call.
+const UNTOUCHED: u64 = 0xA5A5_5A5A_C3C3_3C3C;
+
+/// Lent memory with its margins.
+struct Lent<T>(Vec<T>);
+
+impl<T: Copy> Lent<T> {
+    fn new(count: usize, value: T) -> Lent<T> {
+        Lent(vec![value; count + 2 * MARGIN])
+    }
+
+    /// The first `count` cells; more than were asked for reach into the margin.
+    fn first(&mut self, count: usize) -> &mut [T] {
+        &mut self.0[MARGIN..MARGIN + count]
+    }
+}
+
+/// What was done and compared.
+#[derive(Clone, Copy, Default)]
+pub struct Counts {
+    pub lists: u64,
+    /// States tried with a few fixed steps.
+    pub states: u64,
+    pub calls: u64,
+    pub steps: u64,
+    pub no_steps: u64,
+    pub programs: u64,
+    pub erases: u64,
+    pub nested: u64,
+    pub suspends: u64,
+    pub resumes: u64,
+    pub resets: u64,
+    pub cuts: u64,
+    /// Refused steps by the number of the refusal; 0 counts the accepted ones.
+    pub refused: [u64; 8],
+    pub words: u64,
+    pub journals: u64,
+}
+
+impl Counts {
+    pub fn plus(self, other: Counts) -> Counts {
+        let mut refused = self.refused;
+        for (all, more) in refused.iter_mut().zip(other.refused) {
+            *all += more;
+        }
+        Counts {
+            lists: self.lists + other.lists,
+            states: self.states + other.states,
+            calls: self.calls + other.calls,
+            steps: self.steps + other.steps,
+            no_steps: self.no_steps + other.no_steps,
+            programs: self.programs + other.programs,
+            erases: self.erases + other.erases,
+            nested: self.nested + other.nested,
+            suspends: self.suspends + other.suspends,
+            resumes: self.resumes + other.resumes,
+            resets: self.resets + other.resets,
+            cuts: self.cuts + other.cuts,
+            refused,
+            words: self.words + other.words,
+            journals: self.journals + other.journals,
+        }
+    }
+
+    pub fn text(&self) -> String {
+        let refused: u64 = self.refused[1..].iter().sum();
+        let by_number: Vec<String> = (1..5)
+            .map(|number| format!("{} by {number}", self.refused[number]))
+            .collect();
+        format!(
+            "{} lists, {} states, {} steps in {} calls, {} numbers that are no step; accepted {} programs \
+             ({} beside a suspended erase) and {} erases; {} suspends, {} resumes, {} resets \
+             ({} cut something); {refused} steps refused ({}); {} array words compared, {} \
+             journals applied",
+            self.lists,
+            self.states,
+            self.steps,
+            self.calls,
+            self.no_steps,
+            self.programs,
+            self.nested,
+            self.erases,
+            self.suspends,
+            self.resumes,
+            self.resets,
+            self.cuts,
+            by_number.join(", "),
+            self.words,
+            self.journals,
+        )
+    }
+}
+
+/// Something that is not equal. The step counts from 0 in the list.
+pub struct Difference {
+    pub step: usize,
+    pub what: String,
+    pub expected: String,
+    pub got: String,
+}
+
+/// One call of m58_run, played on the second model while it is put together.
+pub struct Call {
+    numbers: Vec<u64>,
+    /// Words of the array and room for answers that the library is told of.
+    length: usize,
+    room: usize,
+    expected: Vec<u64>,
+    stopped: bool,
+    /// Where the list stood before the call.
+    from: usize,
+}
+
+/// What became of a number added to a call.
+#[derive(PartialEq, Eq)]
+pub enum Fate {
+    Played,
+    /// No step: the call ends before it.
+    Stopped,
+    /// Past the end of the room or past a number that is no step.
+    NotReached,
+}
+
+/// What a list begins with.
+#[derive(Clone)]
+pub enum Start {
+    PowerUp,
+    Words(Vec<u64>),
+}
+
+pub struct Pair {
+    part: Part,
+    start: Start,
+    array_seed: u64,
+    /// The start array, until a journal is applied to it.
+    start_array: Vec<u16>,
+    /// The library's side.
+    state: Lent<u64>,
+    state_count: usize,
+    array: Lent<u16>,
+    /// The second model's side; no device where the state words are of none.
+    device: Option<Device>,
+    model_array: Lent<u16>,
+    clerk: Option<Clerk>,
+    /// Each number so far that was played or stopped a call, and the words of
+    /// the array that the library was told of.
+    history: Vec<(u64, usize)>,
+    pub counts: Counts,
+}
+
+impl Pair {
+    pub fn new(part: Part) -> Pair {
+        let words = part.array_length();
+        let margin = UNTOUCHED as u16;
+        Pair {
+            part,
+            start: Start::PowerUp,
+            array_seed: 0,
+            start_array: vec![0; words],
+            state: Lent::new(0, UNTOUCHED),
+            state_count: 0,
+            array: Lent::new(words, margin),
+            device: None,
+            model_array: Lent::new(words, margin),
+            clerk: None,
+            history: Vec::new(),
+            counts: Counts::default(),
+        }
+    }
+
+    pub fn part(&self) -> Part {
+        self.part
+    }
+
+    pub fn is_full(&self) -> bool {
+        self.part.unit() > 64
+    }
+
+    /// The second model's device, if the state is that of one.
+    pub fn device(&self) -> Option<&Device> {
+        self.device.as_ref()
+    }
+
+    pub fn start(&self) -> &Start {
+        &self.start
+    }
+
+    pub fn history(&self) -> &[(u64, usize)] {
+        &self.history
+    }
+
+    /// Begins a list on a new array.
+    pub fn begin(&mut self, start: Start, array_seed: u64) -> Result<(), Difference> {
+        self.array_seed = array_seed;
+        fill(&mut self.start_array, array_seed);
+        let words = self.start_array.len();
+        self.model_array
+            .first(words)
+            .copy_from_slice(&self.start_array);
+        self.array.first(words).copy_from_slice(&self.start_array);
+        self.counts.lists += 1;
+        self.begin_again(start)
+    }
+
+    /// Begins to try a state on the array that the last list left. No journal: the clerk
+    /// would need a copy of that array.
+    pub fn begin_on_same_array(&mut self, start: Start) -> Result<(), Difference> {
+        self.counts.states += 1;
+        let begun = self.begin_again(start);
+        self.clerk = None;
+        begun
+    }
+
+    fn begin_again(&mut self, start: Start) -> Result<(), Difference> {
+        self.history.clear();
+        self.start = start;
+        match &self.start {
+            Start::PowerUp => {
+                let part = self.part.number();
+                self.device = Some(Device::power_up(part));
+                self.clerk = Some(Clerk::new(part));
+                self.state_count = library::STATE_WORDS;
+                self.state = Lent::new(self.state_count, UNTOUCHED);
+                let given = library::power_up(part, self.state.first(self.state_count));
+                same("what m58_power_up returns", 0, 1, u64::from(given))?;
+            }
+            Start::Words(words) => {
+                self.device = state::decode(words);
+                self.clerk = None;
+                self.state_count = words.len();
+                self.state = Lent::new(words.len(), UNTOUCHED);
+                self.state.first(words.len()).copy_from_slice(words);
+            }
+        }
+        self.check_state(0)
+    }
+
+    /// A call with room for so many answers and an array of so many words.
+    pub fn call(&self, room: usize, length: usize) -> Call {
+        Call {
+            numbers: Vec::new(),
+            length,
+            room,
+            expected: Vec::new(),
+            stopped: false,
+            from: self.history.len(),
+        }
+    }
+
+    /// Adds a number to a call, and plays it on the second model if the library
+    /// is going to play it.
+    pub fn add(&mut self, call: &mut Call, number: u64) -> Fate {
+        call.numbers.push(number);
+        if call.stopped || call.expected.len() == call.room {
+            return Fate::NotReached;
+        }
+        self.history.push((number, call.length));
+        let Some(step) = library::step(number) else {
+            call.stopped = true;
+            self.counts.no_steps += 1;
+            return Fate::Stopped;
+        };
+        let answer = match &mut self.device {
+            None => library::refused(2),
+            Some(device) => {
+                let before = Glance::at(device);
+                let answer = device.step(self.model_array.first(call.length), step);
+                if answer.refusal == 0 {
+                    self.counts.note(step, before, Glance::at(device));
+                }
+                library::answer(answer)
+            }
+        };
+        if let Some(clerk) = &mut self.clerk {
+            if call.length == self.part.array_length() {
+                clerk.note(step);
+            }
+        }
+        self.counts.steps += 1;
+        self.counts.refused[(answer >> 32) as usize] += 1;
+        call.expected.push(answer);
+        Fate::Played
+    }
+
+    /// Makes the call and compares what it returns and writes. The whole array
+    /// is compared only where `whole` says so, since a full part's is long.
+    pub fn check(&mut self, call: Call, whole: bool) -> Result<(), Difference> {
+        self.counts.calls += 1;
+        let last = self.history.len().max(call.from + 1) - 1;
+        let mut answers = Lent::new(call.room, UNTOUCHED);
+        let numbers = call.numbers.clone();
+        let played = library::run(
+            self.state.first(self.state_count),
+            &numbers,
+            answers.first(call.room),
+            self.array.first(call.length),
+        );
+        // Answers first: the first wrong one tells most.
+        let mut expected = Lent::new(call.room, UNTOUCHED);
+        expected
+            .first(call.expected.len())
+            .copy_from_slice(&call.expected);
+        let either = self.device.is_none() && !self.array_is_of_part_word(call.length);
+        for (index, (&expected, &got)) in expected.0.iter().zip(&answers.0).enumerate() {
+            let refused_1_instead =
+                either && expected == library::refused(2) && got == library::refused(1);
+            if expected != got && !refused_1_instead {
+                let place = index.wrapping_sub(MARGIN);
+                let what = if place < call.expected.len() {
+                    "answer of the step"
+                } else {
+                    "answers that no step has"
+                };
+                return Err(Difference {
+                    step: call.from + place.min(call.expected.len().max(1) - 1),
+                    what: what.to_string(),
+                    expected: answer_text(expected),
+                    got: answer_text(got),
+                });
+            }
+        }
+        let due = call.expected.len() as u64;
+        same(
+            "steps that m58_run says it played",
+            last,
+            due,
+            played as u64,
+        )?;
+        if numbers != call.numbers {
+            return Err(Difference {
+                step: last,
+                what: "the list of steps, which m58_run may not change".to_string(),
+                expected: format!("{:X?}", call.numbers),
+                got: format!("{numbers:X?}"),
+            });
+        }
+        self.check_state(last)?;
+        if whole {
+            self.check_array(last)?;
+        }
+        Ok(())
+    }
+
+    /// Ends a list: compares the whole array with the second model's and, where
+    /// the list began at power-up, with the journal's reading of the start.
+    pub fn finish(&mut self) -> Result<(), Difference> {
+        let last = self.history.len().max(1) - 1;
+        self.check_array(last)?;
+        let Some(clerk) = self.clerk.take() else {
+            return Ok(());
+        };
+        self.counts.journals += 1;
+        clerk.apply_to(&mut self.start_array);
+        let words = self.start_array.len();
+        let got = self.array.first(words);
+        if got != self.start_array {
+            let expected = &self.start_array;
+            let place = (0..words).find(|&at| got[at] != expected[at]).unwrap_or(0);
+            return Err(Difference {
+                step: last,
+                what: format!("the journal's reading of the word at location {place:06X}"),
+                expected: format!("{:04X}", expected[place]),
+                got: format!("{:04X}", got[place]),
+            });
+        }
+        self.counts.words += words as u64;
+        // The clerk also holds the open blocks and the supply.
+        if let Some(device) = &self.device {
+            let pairs = [
+                ("open blocks", clerk.open_blocks() == &device.open),
+                ("supply", clerk.supply() == device.supply),
+                ("set-up", clerk.set_up_pending() == device.setup.is_some()),
+                (
+                    "running",
+                    clerk.running().is_some() == device.running.is_some(),
+                ),
+            ];
+            if let Some((name, _)) = pairs.iter().find(|(_, equal)| !equal) {
+                return Err(Difference {
+                    step: last,
+                    what: format!("the clerk's {name}, against the second model's device"),
+                    expected: "equal".to_string(),
+                    got: "different".to_string(),
+                });
+            }
+        }
+        Ok(())
+    }
+
+    /// After a difference: plays the list again, one number a call, to find the
+    /// step at which it first shows.
+    pub fn locate(&mut self, found: Difference) -> Difference {
+        let history = self.history.clone();
+        let counts = self.counts;
+        let again = self.play_singly(&history);
+        self.counts = counts;
+        self.history = history;
+        match again {
+            Err(difference) => difference,
+            Ok(()) => Difference {
+                what: format!("{} (in the calls as made, not one step a call)", found.what),
+                ..found
+            },
+        }
+    }
+
+    fn play_singly(&mut self, history: &[(u64, usize)]) -> Result<(), Difference> {
+        self.begin(self.start.clone(), self.array_seed)?;
+        for &(number, length) in history {
+            let mut call = self.call(1, length);
+            self.add(&mut call, number);
+            let works = matches!(library::step(number), Some(Step::Work(_)));
+            self.check(call, works || !self.is_full())?;
+        }
+        self.finish()
+    }
+
+    /// The state words, their margins and the report of open blocks.
+    fn check_state(&mut self, step: usize) -> Result<(), Difference> {
+        let expected = match (&self.device, &self.start) {
+            (Some(device), _) => state::encode(device).to_vec(),
+            // No device: the state stays as it was handed over.
+            (None, Start::Words(words)) => words.clone(),
+            (None, Start::PowerUp) => unreachable!("power-up gives a device"),
+        };
+        let margin = [UNTOUCHED; MARGIN];
+        let expected_cells = margin.iter().chain(&expected).chain(&margin);
+        for (index, (&expected, &got)) in expected_cells.zip(&self.state.0).enumerate() {
+            if expected != got {
+                let word = index.wrapping_sub(MARGIN);
+                return Err(Difference {
+                    step,
+                    what: format!("state word {word} ({}) after the step", state::name(word)),
+                    expected: format!("{expected:X}h"),
+                    got: format!("{got:X}h"),
+                });
+            }
+        }
+        let expected = match &self.device {
+            Some(device) => library::open_report(device.open_report()),
+            None => library::refused(2),
+        };
+        let got = library::report(self.state.first(self.state_count));
+        if expected != got {
+            let text = |report: u64| {
+                format!(
+                    "refusal {}, {} open, lowest {}",
+                    report >> 32,
+                    report >> 16 & 0xFFFF,
+                    report & 0xFFFF
+                )
+            };
+            return Err(Difference {
+                step,
+                what: "report of open blocks after the step".to_string(),
+                expected: text(expected),
+                got: text(got),
+            });
+        }
+        Ok(())
+    }
+
+    /// Every word of the array, and the margins.
+    fn check_array(&mut self, step: usize) -> Result<(), Difference> {
+        self.counts.words += self.part.array_length() as u64;
+        let (expected, got) = (&self.model_array.0, &self.array.0);
+        if expected == got {
+            return Ok(());
+        }
+        let index = (0..got.len())
+            .find(|&index| expected[index] != got[index])
+            .unwrap_or(0);
+        let differing = expected.iter().zip(got).filter(|(a, b)| a != b).count();
+        let place = if index < MARGIN {
+            "before the array".to_string()
+        } else if index >= MARGIN + self.part.array_length() {
+            "past the array".to_string()
+        } else {
+            format!("at location {:06X}", index - MARGIN)
+        };
+        Err(Difference {
+            step,
+            what: format!("word {place} after the step, the first of {differing}"),
+            expected: format!("{:04X}", expected[index]),
+            got: format!("{:04X}", got[index]),
+        })
+    }
+
+    /// Whether an array of so many words is right for the part that the state
+    /// words name. Where they name none, or are of no device, and the array is
+    /// wrong too, document 01 does not say whether refusal 1 or 2 is due.
+    fn array_is_of_part_word(&mut self, length: usize) -> bool {
+        let words = self.state.first(self.state_count);
+        let part = words
+            .first()
+            .and_then(|&word| Part::from_number(u32::try_from(word).ok()?));
+        part.is_some_and(|part| part.array_length() == length)
+    }
+}
+
+/// What of a device the counts look at.
+#[derive(Clone, Copy)]
+struct Glance {
+    setup: bool,
+    running: Option<Operation>,
+    program_suspended: bool,
+    erase_suspended: bool,
+}
+
+impl Glance {
+    fn at(device: &Device) -> Glance {
+        Glance {
+            setup: device.setup.is_some(),
+            running: device.running,
+            program_suspended: device.suspended_program.is_some(),
+            erase_suspended: device.suspended_erase.is_some(),
+        }
+    }
+}
+
+impl Counts {
+    /// Counts what an accepted step did.
+    fn note(&mut self, step: Step, before: Glance, after: Glance) {
+        match (step, before.running, after.running) {
+            (Step::Reset, running, _) => {
+                let cut = running.is_some() || before.program_suspended || before.erase_suspended;
+                self.resets += 1;
+                self.cuts += u64::from(cut);
+            }
+            (Step::Write(..), None, Some(_)) if !before.setup => self.resumes += 1,
+            (Step::Write(..), None, Some(Operation::Program(_))) => {
+                self.programs += 1;
+                self.nested += u64::from(after.erase_suspended);
+            }
+            (Step::Write(..), None, Some(Operation::Erase(_))) => self.erases += 1,
+            (Step::Write(..), Some(_), None) => self.suspends += 1,
+            _ => {}
+        }
+    }
+}
+
+fn same(what: &str, step: usize, expected: u64, got: u64) -> Result<(), Difference> {
+    if expected == got {
+        return Ok(());
+    }
+    Err(Difference {
+        step,
+        what: what.to_string(),
+        expected: expected.to_string(),
+        got: got.to_string(),
+    })
+}
+
+fn answer_text(answer: u64) -> String {
+    if answer == UNTOUCHED {
+        return "not written".to_string();
+    }
+    format!("value {:04X}, refusal {}", answer as u32, answer >> 32)
+}
+
+/// A start array: all ones, all zeros or random words.
+fn fill(array: &mut [u16], seed: u64) {
+    let mut dice = Dice::new(seed);
+    match dice.below(5) {
+        0 => array.fill(0xFFFF),
+        1 => array.fill(0x0000),
+        _ => {
+            for words in array.chunks_mut(4) {
+                let drawn = dice.next();
+                for (place, word) in words.iter_mut().enumerate() {
+                    *word = (drawn >> (16 * place)) as u16;
+                }
+            }
+        }
+    }
+}
