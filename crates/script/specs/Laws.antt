@@ -1,0 +1,161 @@
+-- Laws of a script: its steps, its refused lines, and the loop that plays it line by line.
+-- Assumes nothing.
+use Prim.Native.Nat.{ℕ, suc, _+_, _-_, _<_, _≤_}
+use mathlib.Core.List.{List, [], _∷_, _++_, append-assoc, append-nil}
+use mathlib.Core.Path.{_≡_, refl, sym, ap, subst, _∙_}
+use native.Mathlib.Omega.{arith}
+use lib.ListN.{length, getD, take, drop, length-take, drop-of-length-le}
+use Rattle.geometry.specs.declared.Part.the-variants.{BenchBottom}
+use Rattle.semantics.specs.declared.Step.{Step}
+use Rattle.semantics.specs.declared.Answer.the-variants.{Refused}
+use Rattle.semantics.specs.declared.Decoded.{Decoded}
+use Rattle.semantics.specs.declared.Decoded.the-variants.{Valid, Invalid}
+use Rattle.semantics.specs.State.{powerUp}
+use Rattle.semantics.specs.Steps.{Machine, after, afterAll, fresh}
+use Rattle.semantics.specs.Theorem.{demand-3}
+use Rattle.device.specs.declared.Device.{Device}
+use Rattle.device.specs.declared.Outcome.{Outcome}
+use Rattle.device.specs.Outcomes.{holding, outcome, arrayOut}
+use Rattle.line.specs.Forms.{stepOfLine}
+use Rattle.line.specs.Laws.{long-invalid, empty-invalid}
+use Rattle.printing.specs.Text.{text, digitOf, digits, decimal, lineText, endText}
+use Rattle.printing.specs.Room.{Put, put-none, put-then}
+use Rattle.script.specs.declared.Taken.{Taken}
+use Rattle.script.specs.declared.Played.{Played}
+use Rattle.script.specs.Script.{scriptOf, lines, answerOf, machineAfter, machineOf, LinePlayed, stepsOf, afterLines, spoken, stepsOfLines, stepsOfScript, machineAtEnd, transcriptOf, Journaled, Transcribed}
+use Rattle.script.specs.Lines.{lineEnd, lineNext, takenAt, next-later, lines-next}
+
+-- ---- what document 01 says in passing
+
+-- "A line over 16 bytes, or empty, is refused 6."
+pub long-refused : (m : Machine) (l : List ℕ) → 16 < length l → answerOf m (stepOfLine l) ≡ Refused 6
+long-refused m l h = rw (long-invalid l h)
+
+pub empty-refused : (m : Machine) → answerOf m (stepOfLine []) ≡ Refused 6
+empty-refused m = rw empty-invalid
+
+-- "Empty input prints `end 0`."
+pub empty-text : (xs : List ℕ) → transcriptOf xs [] ≡ text "end 0\n"
+unfolding transcriptOf scriptOf lines endText decimal digits digitOf
+empty-text xs = refl
+
+pub script-short : (t : List ℕ) → length (scriptOf t) ≤ 16384
+unfolding scriptOf
+script-short t = omega (arith, length-take 16384 t)
+
+-- ---- the machine at the end
+
+-- playing lines is playing their steps
+lines-steps : (m : Machine) (ls : List (List ℕ)) → afterLines m ls ≡ afterAll m (stepsOfLines ls)
+lines-steps m [] = refl
+lines-steps m (l ∷ ls) = go (stepOfLine l) (λ k. lines-steps k ls)
+  where
+    go : (d : Decoded) → ((k : Machine) → afterLines k ls ≡ afterAll k (stepsOfLines ls)) → afterLines (machineAfter m d) ls ≡ afterAll m (stepsOf d (stepsOfLines ls))
+    go (Valid x) f = f (after m x)
+    go Invalid f = f m
+
+-- the machine at the end is the one that the script's steps make of power-up
+pub machine-steps : (xs t : List ℕ) → machineAtEnd xs t ≡ afterAll (fresh BenchBottom xs) (stepsOfScript t)
+unfolding machineAtEnd stepsOfScript
+machine-steps xs t = lines-steps (fresh BenchBottom xs) (lines (scriptOf t))
+
+-- so demand 3 holds of its array
+journaled : (xs t : List ℕ) → Journaled xs t (machineAtEnd xs t .array)
+unfolding Journaled
+journaled xs t h L k = ap (λ (m : Machine). getD (m .array) L 0) (machine-steps xs t) ∙ demand-3 BenchBottom (stepsOfScript t) xs h L k
+
+-- ---- one line
+
+module _ (line : List ℕ) (d : Device) (number : ℕ) (xs room : List ℕ) (place : ℕ) where
+  -- a line with a step: the step was made, and its answer printed
+  pub line-made : (x : Step) (o : Outcome) (array after : List ℕ) (next : ℕ) → stepOfLine line ≡ Valid x → o ≡ outcome d xs x → array ≡ arrayOut d xs x
+      → Put room place (lineText number (o .answer)) after next → LinePlayed line d number xs room place (record { device = o .device; place = next }) array after
+  line-made x o array after next e f h p = record {
+    machine = rw e (λ j. record { state = (f j) .device .state; array = h j });
+    written = rw (e, ← ap (λ (y : Outcome). y .answer) f) p;
+  }
+
+  -- a line with none: nothing changed, and the refusal was printed
+  pub line-refused : (after : List ℕ) (next : ℕ) → stepOfLine line ≡ Invalid → Put room place (lineText number (Refused 6)) after next
+      → LinePlayed line d number xs room place (record { device = d; place = next }) xs after
+  line-refused after next e p = record { machine = rw e; written = rw e p }
+
+-- ---- the loop: the lines before place `at` have been played
+
+-- `count` lines were played, and their text `said` was put into the room. The lines from `at` on, played on the machine that stands, give what is left.
+pub record Sofar (script xs room : List ℕ) (d : Device) (count at place : ℕ) (array after : List ℕ) : Type 0 where
+  pub within : at ≤ length script
+  pub few : count ≤ at
+  pub said : List ℕ
+  pub put : Put room 0 said after place
+  pub whole : said ++ spoken (machineOf d array) (suc count) (lines (drop at script)) ≡ spoken (fresh BenchBottom xs) 1 (lines script)
+  pub machine : afterLines (machineOf d array) (lines (drop at script)) ≡ afterLines (fresh BenchBottom xs) (lines script)
+  pub counted : count + length (lines (drop at script)) ≡ length (lines script)
+
+pub sofar-none : (script xs room : List ℕ) (d : Device) → d ≡ holding (powerUp BenchBottom) → Sofar script xs room d 0 0 0 xs room
+sofar-none script xs room d e = record {
+  within = omega arith;
+  few = omega arith;
+  said = [];
+  put = put-none room 0;
+  whole = ap (λ (k : Device). spoken (machineOf k xs) 1 (lines script)) e;
+  machine = ap (λ (k : Device). afterLines (machineOf k xs) (lines script)) e;
+  counted = omega arith;
+}
+
+module _ (script xs room : List ℕ) (d : Device) (count at place : ℕ) (array after : List ℕ) (s : Sofar script xs room d count at place array after) where
+  -- one line more
+  pub sofar-next : (t : Taken) (r : Played) (array′ after′ : List ℕ) → at < length script → t ≡ takenAt script at
+      → LinePlayed (take (t .to - t .from) (drop (t .from) script)) d (suc count) array after place r array′ after′
+      → Sofar script xs room (r .device) (suc count) (t .next) (r .place) array′ after′
+  sofar-next t r array′ after′ h e = rw e next
+    where
+      m : Machine
+      m = machineOf d array
+
+      l : List ℕ
+      l = take (lineEnd script at - at) (drop at script)
+
+      ls : List (List ℕ)
+      ls = lines (drop (lineNext script at) script)
+
+      split : lines (drop at script) ≡ l ∷ ls
+      split = lines-next script at h
+
+      line : List ℕ
+      line = lineText (suc count) (answerOf m (stepOfLine l))
+
+      next : LinePlayed l d (suc count) array after place r array′ after′ → Sofar script xs room (r .device) (suc count) (lineNext script at) (r .place) array′ after′
+      next p = record {
+        within = next-later script at h .1;
+        few = omega (arith, next-later script at h .0, s .few);
+        said = s .said ++ line;
+        put = put-then (s .put) (p .written);
+        whole =
+            ap (λ (k : Machine). s .said ++ line ++ spoken k (suc (suc count)) ls) (p .machine)
+            ∙ append-assoc (s .said) line (spoken (machineAfter m (stepOfLine l)) (suc (suc count)) ls)
+            ∙ ap (λ (k : List (List ℕ)). s .said ++ spoken m (suc count) k) (sym split)
+            ∙ s .whole;
+        machine = ap (λ (k : Machine). afterLines k ls) (p .machine) ∙ ap (afterLines m) (sym split) ∙ s .machine;
+        counted = omega (arith, ap (length {A = List ℕ}) split, s .counted);
+      }
+
+  -- no line is left: the end
+  pub sofar-end : (t : List ℕ) (next : ℕ) (after′ : List ℕ) → script ≡ scriptOf t → length script ≤ at → Put after place (endText count) after′ next
+      → Transcribed t xs room next array after′
+  unfolding lines machineAtEnd transcriptOf
+  sofar-end t next after′ e h p =
+      let none : drop at script ≡ [] = drop-of-length-le script h in
+      let said : s .said ≡ spoken (fresh BenchBottom xs) 1 (lines script) =
+      sym (append-nil (s .said)) ∙ ap (λ (k : List ℕ). s .said ++ spoken (machineOf d array) (suc count) (lines k)) (sym none) ∙ s .whole
+      in
+      let many : count ≡ length (lines script) = omega (arith, ap (λ (k : List ℕ). length (lines k)) none, s .counted) in
+      let ends : machineOf d array ≡ afterLines (fresh BenchBottom xs) (lines script) =
+      ap (λ (k : List ℕ). afterLines (machineOf d array) (lines k)) (sym none) ∙ s .machine
+      in
+      let words : array ≡ machineAtEnd xs t .array = ap (λ (m : Machine). m .array) ends ∙ ap (λ (k : List ℕ). afterLines (fresh BenchBottom xs) (lines k) .array) e in
+      record {
+        written = rw (← e, ← said, ← many) (put-then (s .put) p);
+        array-is = words;
+        journal = subst (λ (ys : List ℕ). Journaled xs t ys) (sym words) (journaled xs t);
+      }

@@ -1,0 +1,4 @@
+-- The modules of the specification.
+pub mod Script
+pub mod Lines
+pub mod Laws

@@ -1,0 +1,108 @@
+-- A script played whole and its transcript: document 01, "The script program". A text is the list of its bytes. Definitions only; the laws are in
+-- Lines and Laws.
+-- Assumes nothing.
+use Prim.Native.Nat.{ℕ, suc, _<_}
+use mathlib.Core.Bool.{Bool, true, false, cond}
+use mathlib.Core.List.{List, [], _∷_, _++_}
+use mathlib.Core.Path.{_≡_}
+use lib.Dec.{eqb}
+use lib.ListN.{length, getD, take}
+use Rattle.geometry.specs.declared.Part.the-variants.{BenchBottom}
+use Rattle.geometry.specs.Blocks.{geometryOf, words}
+use Rattle.semantics.specs.declared.Step.{Step}
+use Rattle.semantics.specs.declared.Answer.{Answer}
+use Rattle.semantics.specs.declared.Answer.the-variants.{Refused}
+use Rattle.semantics.specs.declared.Decoded.{Decoded}
+use Rattle.semantics.specs.declared.Decoded.the-variants.{Valid, Invalid}
+use Rattle.semantics.specs.Steps.{stepOf, Machine, after, fresh}
+use Rattle.semantics.specs.Recorder.{journalOf, applied}
+use Rattle.device.specs.declared.Device.{Device}
+use Rattle.line.specs.Forms.{stepOfLine}
+use Rattle.printing.specs.Text.{lineText, endText}
+use Rattle.printing.specs.Room.{Put}
+use Rattle.script.specs.declared.Played.{Played}
+
+-- ---- the lines of a script
+
+-- "Only the first 16,384 bytes are the script."
+unfoldable pub scriptOf : List ℕ → List ℕ
+scriptOf text = take 16384 text
+
+-- a byte before the first line, or a line of its own before none
+abbrev pub front : ℕ → List (List ℕ) → List (List ℕ)
+front b [] = (b ∷ []) ∷ []
+front b (l ∷ ls) = (b ∷ l) ∷ ls
+
+-- "Lines end in LF, the last may lack it." LF is 10. It is no byte of the line that it ends. Every other byte is.
+unfoldable pub lines : List ℕ → List (List ℕ)
+lines [] = []
+lines (b ∷ t) = cond (eqb b 10) ([] ∷ lines t) (front b (lines t))
+
+-- ---- a line played
+
+-- what a line answers: its step's answer; "script line not one of the forms" is refused 6, and so is "A line over 16 bytes, or empty", which has no form
+abbrev pub answerOf : Machine → Decoded → Answer
+answerOf m (Valid x) = stepOf (m .state) (m .array) x .answer
+answerOf m Invalid = Refused 6
+
+-- the machine after a line: a refusal "gives back the state it got and leaves all lent memory"
+abbrev pub machineAfter : Machine → Decoded → Machine
+machineAfter m (Valid x) = after m x
+machineAfter m Invalid = m
+
+abbrev pub machineOf : Device → List ℕ → Machine
+machineOf d xs = record { state = d .state; array = xs }
+
+-- what holds after a line was played on a device and an array, and its text put at a place of a room: `r` has the device and the place then, `array` and
+-- `after` are the array and the room
+pub record LinePlayed (line : List ℕ) (d : Device) (number : ℕ) (xs room : List ℕ) (place : ℕ) (r : Played) (array after : List ℕ) : Type 0 where
+  pub machine : machineOf (r .device) array ≡ machineAfter (machineOf d xs) (stepOfLine line)
+  pub written : Put room place (lineText number (answerOf (machineOf d xs) (stepOfLine line))) after (r .place)
+
+-- ---- lines played in turn
+
+-- the steps of a line: one, or none
+abbrev pub stepsOf : Decoded → List Step → List Step
+stepsOf (Valid x) l = x ∷ l
+stepsOf Invalid l = l
+
+abbrev pub afterLines : Machine → List (List ℕ) → Machine
+afterLines m [] = m
+afterLines m (l ∷ ls) = afterLines (machineAfter m (stepOfLine l)) ls
+
+-- "Each line prints its number, a space, then" its answer: the text of lines that are numbered from n on
+abbrev pub spoken : Machine → ℕ → List (List ℕ) → List ℕ
+spoken m n [] = []
+spoken m n (l ∷ ls) = lineText n (answerOf m (stepOfLine l)) ++ spoken (machineAfter m (stepOfLine l)) (suc n) ls
+
+abbrev pub stepsOfLines : List (List ℕ) → List Step
+stepsOfLines [] = []
+stepsOfLines (l ∷ ls) = stepsOf (stepOfLine l) (stepsOfLines ls)
+
+-- ---- a script played
+
+-- the steps of the lines that have a form, in order
+unfoldable pub stepsOfScript : List ℕ → List Step
+stepsOfScript text = stepsOfLines (lines (scriptOf text))
+
+-- "plays it on a bench bottom part": power-up on an array, and the machine after the last line
+unfoldable pub machineAtEnd : List ℕ → List ℕ → Machine
+machineAtEnd xs text = afterLines (fresh BenchBottom xs) (lines (scriptOf text))
+
+-- what is printed: each line's text, from 1 on, and "At the end: `end` and the count of lines."
+unfoldable pub transcriptOf : List ℕ → List ℕ → List ℕ
+transcriptOf xs text = spoken (fresh BenchBottom xs) 1 (lines (scriptOf text)) ++ endText (length (lines (scriptOf text)))
+
+-- DEMAND 3: on an array xs of the part's length, each word is its starting word with the journal of the script's steps applied
+unfoldable pub Journaled : List ℕ → List ℕ → List ℕ → Type 0
+Journaled xs text array =
+    length xs ≡ words (geometryOf BenchBottom) → (L : ℕ) → L < words (geometryOf BenchBottom)
+    → getD array L 0 ≡ applied (geometryOf BenchBottom) (journalOf (geometryOf BenchBottom) (stepsOfScript text)) L (getD xs L 0)
+
+-- what holds after a text was played on an array with room for the transcript: `next` is the place after the transcript, `after` and `array` are the room
+-- and the array then
+pub record Transcribed (text xs room : List ℕ) (next : ℕ) (array after : List ℕ) : Type 0 where
+  -- "What is written into lent room comes with its length, and places past it stay.": a room that is too short holds the first part
+  pub written : Put room 0 (transcriptOf xs text) after next
+  pub array-is : array ≡ machineAtEnd xs text .array
+  pub journal : Journaled xs text array
