@@ -4,15 +4,17 @@ use Prim.Native.Nat.{ℕ, suc, _+_, _-_, _<_, _≤_}
 use mathlib.Core.List.{List, [], _∷_, _++_, append-assoc, append-nil}
 use mathlib.Core.Path.{_≡_, refl, sym, ap, subst, _∙_}
 use native.Mathlib.Omega.{arith}
-use lib.ListN.{length, getD, take, drop, length-take, drop-of-length-le}
+use native.Mathlib.Numerals.{add-one}
+use lib.ListN.{length, take, drop, length-take, drop-of-length-le}
 use Rattle.geometry.specs.declared.Part.the-variants.{BenchBottom}
+use Rattle.geometry.specs.Blocks.{geometryOf, words}
 use Rattle.semantics.specs.declared.Step.{Step}
 use Rattle.semantics.specs.declared.Answer.the-variants.{Refused}
 use Rattle.semantics.specs.declared.Decoded.{Decoded}
 use Rattle.semantics.specs.declared.Decoded.the-variants.{Valid, Invalid}
 use Rattle.semantics.specs.State.{powerUp}
 use Rattle.semantics.specs.Steps.{Machine, after, afterAll, fresh}
-use Rattle.semantics.specs.Theorem.{demand-3}
+use Rattle.semantics.specs.Standing.{Demand3, demand-3-whole}
 use Rattle.device.specs.declared.Device.{Device}
 use Rattle.device.specs.declared.Outcome.{Outcome}
 use Rattle.device.specs.Outcomes.{holding, outcome, arrayOut}
@@ -22,10 +24,10 @@ use Rattle.printing.specs.Text.{text, digitOf, digits, decimal, lineText, endTe
 use Rattle.printing.specs.Room.{Put, put-none, put-then}
 use Rattle.script.specs.declared.Taken.{Taken}
 use Rattle.script.specs.declared.Played.{Played}
-use Rattle.script.specs.Script.{scriptOf, lines, answerOf, machineAfter, machineOf, LinePlayed, stepsOf, afterLines, spoken, stepsOfLines, stepsOfScript, machineAtEnd, transcriptOf, Journaled, Transcribed}
+use Rattle.script.specs.Script.{scriptOf, lines, answerOf, machineAfter, machineOf, LinePlayed, stepsOf, afterLines, spoken, stepsOfLines, stepsOfScript, machineAtEnd, transcriptOf, Transcribed}
 use Rattle.script.specs.Lines.{lineEnd, lineNext, takenAt, next-later, lines-next}
 
--- ---- what document 01 says in passing
+-- ---- lines that are refused, and texts that are empty or too long
 
 -- "A line over 16 bytes, or empty, is refused 6."
 pub long-refused : (m : Machine) (l : List ℕ) → 16 < length l → answerOf m (stepOfLine l) ≡ Refused 6
@@ -60,9 +62,8 @@ unfolding machineAtEnd stepsOfScript
 machine-steps xs t = lines-steps (fresh BenchBottom xs) (lines (scriptOf t))
 
 -- so demand 3 holds of its array
-journaled : (xs t : List ℕ) → Journaled xs t (machineAtEnd xs t .array)
-unfolding Journaled
-journaled xs t h L k = ap (λ (m : Machine). getD (m .array) L 0) (machine-steps xs t) ∙ demand-3 BenchBottom (stepsOfScript t) xs h L k
+journaled : (xs t : List ℕ) → length xs ≡ words (geometryOf BenchBottom) → Demand3 BenchBottom (stepsOfScript t) xs (machineAtEnd xs t .array)
+journaled xs t h = rw machine-steps (demand-3-whole BenchBottom (stepsOfScript t) xs h)
 
 -- ---- one line
 
@@ -82,13 +83,13 @@ module _ (line : List ℕ) (d : Device) (number : ℕ) (xs room : List ℕ) (pla
 
 -- ---- the loop: the lines before place `at` have been played
 
--- `count` lines were played, and their text `said` was put into the room. The lines from `at` on, played on the machine that stands, give what is left.
+-- `count` lines were played, and their text `printed` was put into the room. The lines from `at` on, played on the machine that stands, give what is left.
 pub record Sofar (script xs room : List ℕ) (d : Device) (count at place : ℕ) (array after : List ℕ) : Type 0 where
   pub within : at ≤ length script
   pub few : count ≤ at
-  pub said : List ℕ
-  pub put : Put room 0 said after place
-  pub whole : said ++ spoken (machineOf d array) (suc count) (lines (drop at script)) ≡ spoken (fresh BenchBottom xs) 1 (lines script)
+  pub printed : List ℕ
+  pub put : Put room 0 printed after place
+  pub whole : printed ++ spoken (machineOf d array) (suc count) (lines (drop at script)) ≡ spoken (fresh BenchBottom xs) 1 (lines script)
   pub machine : afterLines (machineOf d array) (lines (drop at script)) ≡ afterLines (fresh BenchBottom xs) (lines script)
   pub counted : count + length (lines (drop at script)) ≡ length (lines script)
 
@@ -96,7 +97,7 @@ pub sofar-none : (script xs room : List ℕ) (d : Device) → d ≡ holding (pow
 sofar-none script xs room d e = record {
   within = omega arith;
   few = omega arith;
-  said = [];
+  printed = [];
   put = put-none room 0;
   whole = ap (λ (k : Device). spoken (machineOf k xs) 1 (lines script)) e;
   machine = ap (λ (k : Device). afterLines (machineOf k xs) (lines script)) e;
@@ -106,9 +107,9 @@ sofar-none script xs room d e = record {
 module _ (script xs room : List ℕ) (d : Device) (count at place : ℕ) (array after : List ℕ) (s : Sofar script xs room d count at place array after) where
   -- one line more
   pub sofar-next : (t : Taken) (r : Played) (array′ after′ : List ℕ) → at < length script → t ≡ takenAt script at
-      → LinePlayed (take (t .to - t .from) (drop (t .from) script)) d (suc count) array after place r array′ after′
-      → Sofar script xs room (r .device) (suc count) (t .next) (r .place) array′ after′
-  sofar-next t r array′ after′ h e = rw e next
+      → LinePlayed (take (t .to - t .from) (drop (t .from) script)) d (count + 1) array after place r array′ after′
+      → Sofar script xs room (r .device) (count + 1) (t .next) (r .place) array′ after′
+  sofar-next t r array′ after′ h e = rw (add-one, e) next
     where
       m : Machine
       m = machineOf d array
@@ -129,12 +130,12 @@ module _ (script xs room : List ℕ) (d : Device) (count at place : ℕ) (array 
       next p = record {
         within = next-later script at h .1;
         few = omega (arith, next-later script at h .0, s .few);
-        said = s .said ++ line;
+        printed = s .printed ++ line;
         put = put-then (s .put) (p .written);
         whole =
-            ap (λ (k : Machine). s .said ++ line ++ spoken k (suc (suc count)) ls) (p .machine)
-            ∙ append-assoc (s .said) line (spoken (machineAfter m (stepOfLine l)) (suc (suc count)) ls)
-            ∙ ap (λ (k : List (List ℕ)). s .said ++ spoken m (suc count) k) (sym split)
+            ap (λ (k : Machine). s .printed ++ line ++ spoken k (suc (suc count)) ls) (p .machine)
+            ∙ append-assoc (s .printed) line (spoken (machineAfter m (stepOfLine l)) (suc (suc count)) ls)
+            ∙ ap (λ (k : List (List ℕ)). s .printed ++ spoken m (suc count) k) (sym split)
             ∙ s .whole;
         machine = ap (λ (k : Machine). afterLines k ls) (p .machine) ∙ ap (afterLines m) (sym split) ∙ s .machine;
         counted = omega (arith, ap (length {A = List ℕ}) split, s .counted);
@@ -146,16 +147,19 @@ module _ (script xs room : List ℕ) (d : Device) (count at place : ℕ) (array 
   unfolding lines machineAtEnd transcriptOf
   sofar-end t next after′ e h p =
       let none : drop at script ≡ [] = drop-of-length-le script h in
-      let said : s .said ≡ spoken (fresh BenchBottom xs) 1 (lines script) =
-      sym (append-nil (s .said)) ∙ ap (λ (k : List ℕ). s .said ++ spoken (machineOf d array) (suc count) (lines k)) (sym none) ∙ s .whole
+      let texts : s .printed ≡ spoken (fresh BenchBottom xs) 1 (lines script) =
+      sym (append-nil (s .printed)) ∙ ap (λ (k : List ℕ). s .printed ++ spoken (machineOf d array) (suc count) (lines k)) (sym none) ∙ s .whole
       in
       let many : count ≡ length (lines script) = omega (arith, ap (λ (k : List ℕ). length (lines k)) none, s .counted) in
+      let all : s .printed ++ endText count ≡ transcriptOf xs t =
+      ap (λ (k : List ℕ). k ++ endText count) texts ∙ ap (λ (k : ℕ). spoken (fresh BenchBottom xs) 1 (lines script) ++ endText k) many ∙ ap (λ (k : List ℕ). spoken (fresh BenchBottom xs) 1 (lines k) ++ endText (length (lines k))) e
+      in
       let ends : machineOf d array ≡ afterLines (fresh BenchBottom xs) (lines script) =
       ap (λ (k : List ℕ). afterLines (machineOf d array) (lines k)) (sym none) ∙ s .machine
       in
-      let words : array ≡ machineAtEnd xs t .array = ap (λ (m : Machine). m .array) ends ∙ ap (λ (k : List ℕ). afterLines (fresh BenchBottom xs) (lines k) .array) e in
+      let same : array ≡ machineAtEnd xs t .array = ap (λ (m : Machine). m .array) ends ∙ ap (λ (k : List ℕ). afterLines (fresh BenchBottom xs) (lines k) .array) e in
       record {
-        written = rw (← e, ← said, ← many) (put-then (s .put) p);
-        array-is = words;
-        journal = subst (λ (ys : List ℕ). Journaled xs t ys) (sym words) (journaled xs t);
+        written = subst (λ (k : List ℕ). Put room 0 k after′ next) all (put-then (s .put) p);
+        array-is = same;
+        journal = λ n. subst (λ (ys : List ℕ). Demand3 BenchBottom (stepsOfScript t) xs ys) (sym same) (journaled xs t n);
       }

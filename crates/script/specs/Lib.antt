@@ -2,3 +2,4 @@
 pub mod Script
 pub mod Lines
 pub mod Laws
+pub mod Cases

@@ -1,9 +1,9 @@
 -- Where the line that begins at a place of a text ends, and where the next begins; and that these lines, one after the other, are `lines`.
 -- Assumes nothing.
-use Prim.Native.Nat.{ℕ, zero, suc, _+_, _-_, _<_, _≤_}
+use Prim.Native.Nat.{ℕ, suc, _+_, _-_, _<_, _≤_}
 use mathlib.Core.Bool.{Bool, true, false, cond}
 use mathlib.Core.List.{List, [], _∷_}
-use mathlib.Core.Path.{_≡_, refl, sym, ap, _∙_}
+use mathlib.Core.Path.{_≡_, refl, ap, _∙_}
 use native.Mathlib.Omega.{arith}
 use native.Mathlib.Decide.{decLt}
 use lib.Dec.{eqb, ltb}
@@ -123,7 +123,7 @@ lines-next text at h = go (decLt (lineEnd text at) (length text))
         first
         ∙ rw (size, drop-drop (suc k) at text, next-none text at (omega arith), drop-of-length-le text {i = at + suc k} (omega arith), drop-of-length-le text {i = at + k} (omega arith))
 
--- what is taken at a place of the text is a part of it that ends before the next place
+-- what is taken at a place of the text is a part of it, and the next place lies further on
 pub taken-within : (text : List ℕ) (at : ℕ) (t : Taken) → at < length text → t ≡ takenAt text at
     → (t .from ≤ t .to) × (t .to ≤ length text) × (at < t .next)
 taken-within text at t h e = rw e (end-from text at, end-within text at (omega arith), next-later text at h .0)

@@ -1,12 +1,12 @@
 -- A script played whole and its transcript: document 01, "The script program". A text is the list of its bytes. Definitions only; the laws are in
 -- Lines and Laws.
 -- Assumes nothing.
-use Prim.Native.Nat.{ℕ, suc, _<_}
-use mathlib.Core.Bool.{Bool, true, false, cond}
+use Prim.Native.Nat.{ℕ, suc}
+use mathlib.Core.Bool.{cond}
 use mathlib.Core.List.{List, [], _∷_, _++_}
 use mathlib.Core.Path.{_≡_}
 use lib.Dec.{eqb}
-use lib.ListN.{length, getD, take}
+use lib.ListN.{length, take}
 use Rattle.geometry.specs.declared.Part.the-variants.{BenchBottom}
 use Rattle.geometry.specs.Blocks.{geometryOf, words}
 use Rattle.semantics.specs.declared.Step.{Step}
@@ -15,7 +15,7 @@ use Rattle.semantics.specs.declared.Answer.the-variants.{Refused}
 use Rattle.semantics.specs.declared.Decoded.{Decoded}
 use Rattle.semantics.specs.declared.Decoded.the-variants.{Valid, Invalid}
 use Rattle.semantics.specs.Steps.{stepOf, Machine, after, fresh}
-use Rattle.semantics.specs.Recorder.{journalOf, applied}
+use Rattle.semantics.specs.Standing.{Demand3}
 use Rattle.device.specs.declared.Device.{Device}
 use Rattle.line.specs.Forms.{stepOfLine}
 use Rattle.printing.specs.Text.{lineText, endText}
@@ -50,6 +50,7 @@ abbrev pub machineAfter : Machine → Decoded → Machine
 machineAfter m (Valid x) = after m x
 machineAfter m Invalid = m
 
+-- a device on an array
 abbrev pub machineOf : Device → List ℕ → Machine
 machineOf d xs = record { state = d .state; array = xs }
 
@@ -93,16 +94,11 @@ machineAtEnd xs text = afterLines (fresh BenchBottom xs) (lines (scriptOf text))
 unfoldable pub transcriptOf : List ℕ → List ℕ → List ℕ
 transcriptOf xs text = spoken (fresh BenchBottom xs) 1 (lines (scriptOf text)) ++ endText (length (lines (scriptOf text)))
 
--- DEMAND 3: on an array xs of the part's length, each word is its starting word with the journal of the script's steps applied
-unfoldable pub Journaled : List ℕ → List ℕ → List ℕ → Type 0
-Journaled xs text array =
-    length xs ≡ words (geometryOf BenchBottom) → (L : ℕ) → L < words (geometryOf BenchBottom)
-    → getD array L 0 ≡ applied (geometryOf BenchBottom) (journalOf (geometryOf BenchBottom) (stepsOfScript text)) L (getD xs L 0)
-
 -- what holds after a text was played on an array with room for the transcript: `next` is the place after the transcript, `after` and `array` are the room
 -- and the array then
 pub record Transcribed (text xs room : List ℕ) (next : ℕ) (array after : List ℕ) : Type 0 where
   -- "What is written into lent room comes with its length, and places past it stay.": a room that is too short holds the first part
   pub written : Put room 0 (transcriptOf xs text) after next
   pub array-is : array ≡ machineAtEnd xs text .array
-  pub journal : Journaled xs text array
+  -- DEMAND 3, on an array of the part's length: its length, every word, and every entry of the journal of the script's steps
+  pub journal : length xs ≡ words (geometryOf BenchBottom) → Demand3 BenchBottom (stepsOfScript text) xs array

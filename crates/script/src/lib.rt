@@ -28,7 +28,7 @@ pub fn script_of(text: &[u8]) -> &[u8]
 }
 
 // Where the line that begins at a place ends: at the first LF from there on, or at the text's end.
-pub fn line_end(text: &[u8], at: usize) -> usize
+fn line_end(text: &[u8], at: usize) -> usize
     ensures { λ r. ⌜ r ≡ lineEnd (now (text .entry)) at ⌝ }
 {
     let mut i = at;
@@ -60,12 +60,40 @@ pub fn taken_at(text: &[u8], at: usize) -> Taken
     }
 }
 
+// ---- the reader
+
+// The lent text, and the place in it where the next line begins.
+pub struct Reader<'a> {
+    pub text: &'a [u8],
+    pub at: usize,
+}
+
+pub fn new<'a>(text: &'a [u8], at: usize) -> Reader<'a>
+    ensures { λ r. ⌜ (r .text ≡ text .entry) × (r .at ≡ at) ⌝ }
+{
+    Reader { text, at }
+}
+
+// The next line of a reader.
+pub fn next<'a>(r: Reader<'a>) -> Taken
+    ensures { λ t. ⌜ t ≡ takenAt (now (r .entry .text)) (r .entry .at) ⌝ }
+{
+    taken_at(r.text, r.at)
+}
+
+// The next line of a text, from a place on. Its parameters are plain, so that its callers need no proof by hand.
+pub fn take_line(text: &[u8], at: usize) -> Taken
+    ensures { λ r. ⌜ r ≡ takenAt (now (text .entry)) at ⌝ }
+{
+    next(new(text, at))
+}
+
 // ---- a line, and a text
 
 // The device after a line, and the place of the room after the line's text.
-pub struct Played {
-    pub device: Device,
-    pub place: usize,
+struct Played {
+    device: Device,
+    place: usize,
 }
 
 // Plays the step of a line, or refuses the line with 6 where it has none, and prints the answer.
@@ -101,7 +129,8 @@ fn play_line(
     }
 }
 
-// Plays the script of a text on a bench bottom part from power-up, on a lent array, and writes the transcript from the room's start on. Gives the place after it.
+// Plays the script of a text on a bench bottom part from power-up, on a lent array, and writes the transcript from the room's start on.
+// Gives the place after the transcript.
 pub fn play_text(text: &[u8], array: &mut [u16], room: &mut [u8]) -> usize
     ensures { λ r. ⌜ Transcribed (now (text .entry)) (now (array .entry)) (now (room .entry)) r (now (array .exit)) (now (room .exit)) ⌝ }
 {
@@ -111,7 +140,7 @@ pub fn play_text(text: &[u8], array: &mut [u16], room: &mut [u8]) -> usize
     let mut at: usize = 0;
     let mut place: usize = 0;
     while at < script.len() {
-        let taken = taken_at(script, at);
+        let taken = take_line(script, at);
         let from = taken.from;
         let to = taken.to;
         count += 1;

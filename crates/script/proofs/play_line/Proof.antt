@@ -4,56 +4,40 @@ use borrow.Author.Needs.{needs}
 use Rattle.script.specs.Laws.{line-made, line-refused}
 use Rattle.script.proofs.play_line.Statement.{statement}
 use Rattle.script.proofs.play_line.Tie as tie
-use Rattle.script.proofs.play_line.Reads as reads
-use Rattle.script.proofs.play_line.Lts as lts
-use Rattle.device.proofs.Device.step.Reads as step-reads
-use Rattle.line.proofs.step_of_line.Reads as step-of-line-reads
-use Rattle.printing.proofs.put_line.Reads as put-line-reads
 
--- src/lib.rt:82:9
 step-of-line-requires : tie.Need-step-of-line-requires
 step-of-line-requires c κs = search needs
 
--- src/lib.rt:84:24
 enum-known-found : tie.Need-enum-known-found
 enum-known-found c = search needs
 
--- src/lib.rt:85:17
 step-requires : tie.Need-step-requires
 step-requires c κs = search needs
 
--- src/lib.rt:88:17
 put-line-requires : tie.Need-put-line-requires
 put-line-requires c κs = search needs
 
--- src/lib.rt:95:44
 enum-told : tie.Need-enum-told
 enum-told c = search needs
 
--- src/lib.rt:95:17
 put-line-requires-2 : tie.Need-put-line-requires-2
 put-line-requires-2 c κs = search needs
 
--- src/lib.rt:72:1
 same-length : tie.Need-same-length
 same-length c = search needs
 
--- src/lib.rt:72:1
 same-length-2 : tie.Need-same-length-2
 same-length-2 c = search needs
 
--- src/lib.rt:72:1
 returns : tie.Need-returns
 returns c =
     let step = c .before .before .before .before .before .before .before in
     let found = step .before .before .before in
     line-made _ _ _ _ _ _ _ _ _ _ _ (sym (found .before .before .step-of-line .ensures) ∙ found .found .given .1) (step .step .ensures .0) (step .step .ensures .1) (c .before .before .put-line .ensures)
 
--- src/lib.rt:72:1
 same-length-3 : tie.Need-same-length-3
 same-length-3 c = search needs
 
--- src/lib.rt:72:1
 returns-2 : tie.Need-returns-2
 returns-2 c =
     let told = c .before .before .before .before in

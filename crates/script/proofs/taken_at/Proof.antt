@@ -4,24 +4,17 @@ use borrow.Author.Tests.{lt-ltb, le-ltb}
 use Rattle.script.specs.Lines.{lineNext}
 use Rattle.script.proofs.taken_at.Statement.{statement}
 use Rattle.script.proofs.taken_at.Tie as tie
-use Rattle.script.proofs.taken_at.Reads as reads
-use Rattle.script.proofs.taken_at.Lts as lts
-use Rattle.script.proofs.line_end.Reads as line-end-reads
 
--- src/lib.rt:44:9
 line-end-requires : tie.Need-line-end-requires
 line-end-requires c κs = search needs
 
--- src/lib.rt:49:19
 add-t6 : tie.Need-add-t6
 add-t6 c = search needs
 
--- src/lib.rt:46:9
 returns : tie.Need-returns
 unfolding lineNext
 returns c = simp (← c .before .line-end .ensures, lt-ltb _ _ (c .if1 .taken))
 
--- src/lib.rt:41:1
 returns-2 : tie.Need-returns-2
 unfolding lineNext
 returns-2 c = simp (← c .before .line-end .ensures, le-ltb _ _ (c .if1 .left))

@@ -1,0 +1,44 @@
+-- What the calls from C mean: what is answered, and what the words of a saved state are afterwards. Definitions only; the laws are in Laws.
+-- Assumes nothing.
+use Prim.Native.Nat.{ℕ, _+_, _*_}
+use mathlib.Core.Bool.{Bool, true, cond, _&&_}
+use mathlib.Core.List.{List}
+use mathlib.Core.Path.{_≡_}
+use lib.Dec.{eqb, leb}
+use lib.ListN.{length}
+use Rattle.geometry.specs.Blocks.{partNumbered}
+use Rattle.semantics.specs.declared.State.{State}
+use Rattle.semantics.specs.declared.Reported.{Reported}
+use Rattle.semantics.specs.State.{powerUp}
+use Rattle.semantics.specs.Steps.{afterAll}
+use Rattle.device.specs.Outcomes.{holding}
+use Rattle.playback.specs.Playback.{playable, machineOf, Played}
+use Rattle.saved.specs.Saved.{savedOf, isSaved, stateOf}
+
+-- room for a saved state stays as it is where it has not 38 words
+unfoldable pub putInto : List ℕ → List ℕ → List ℕ
+putInto room ws = cond (eqb (length room) 38) ws room
+
+-- power-up wants the number of a part, and room for 38 words
+unfoldable pub powersUp : ℕ → List ℕ → Bool
+powersUp part room = leb part 3 && eqb (length room) 38
+
+unfoldable pub poweredUp : ℕ → List ℕ → List ℕ
+poweredUp part room = cond (powersUp part room) (savedOf (powerUp (partNumbered part))) room
+
+-- the report in one number: the refusal from bit 32, the count from bit 16, the lowest block from bit 0
+abbrev pub reportCode : Reported → ℕ
+reportCode r = r .refusal * 4294967296 + r .count * 65536 + r .lowest
+
+-- the state after the numbers `codes` were played on the state of the words and an array, with a room for the answers
+unfoldable pub stateAfter : List ℕ → List ℕ → List ℕ → List ℕ → State
+stateAfter ws codes room xs = afterAll (machineOf (holding (stateOf ws)) xs) (playable codes (length room)) .state
+
+-- what holds after n of the numbers were played
+pub record Ran (ws codes room xs : List ℕ) (n : ℕ) (after answers array : List ℕ) : Type 0 where
+  -- the steps, the answers and the array are those of the state of the words, demand 3 among it
+  pub played : Played (holding (stateOf ws)) codes room xs (record { played = n; device = holding (stateAfter ws codes room xs) }) answers array
+  -- the state after them is saved; words that are no saved state stay
+  pub kept : after ≡ cond (isSaved ws) (savedOf (stateAfter ws codes room xs)) ws
+  -- so that the next call goes on with it
+  pub goes-on : isSaved ws ≡ true → (isSaved after ≡ true) × (stateOf after ≡ stateAfter ws codes room xs)

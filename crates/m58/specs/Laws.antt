@@ -1,0 +1,97 @@
+-- Laws of the calls. Assumes nothing.
+use Prim.Native.Nat.{ℕ, zero, suc, _≤_}
+use mathlib.Core.Bool.{Bool, true, false, cond}
+use mathlib.Core.List.{List, []}
+use mathlib.Core.Path.{_≡_, refl, sym, ap, _∙_, subst}
+use native.Mathlib.Omega.{arith}
+use lib.ListN.{length}
+use borrow.Author.Tests.{eq-eqb}
+use Rattle.geometry.specs.Blocks.{partNumbered}
+use Rattle.protection.specs.Words.{bit, bitAt, count, unprotectedCount, reportOf}
+use Rattle.protection.specs.Laws.{lowest-least}
+use Rattle.semantics.specs.declared.State.{State}
+use Rattle.semantics.specs.declared.Reported.{Reported}
+use Rattle.semantics.specs.State.{powerUp}
+use Rattle.semantics.specs.WellFormed.{wellFormed}
+use Rattle.semantics.specs.Steps.{reportedOf}
+use Rattle.device.specs.Outcomes.{holding}
+use Rattle.playback.specs.declared.RunEnd.{RunEnd}
+use Rattle.playback.specs.Playback.{Played}
+use Rattle.saved.specs.Saved.{savedOf, isSaved, noState, stateOf}
+use Rattle.saved.specs.Laws.{Fitting, saved-length, saved-is, state-back, power-up-fitting}
+use Rattle.m58.specs.Calls.{putInto, powersUp, poweredUp, stateAfter, Ran}
+
+-- ---- words that are not 38 are no saved state
+
+unsaved : (ws : List ℕ) → (length ws ≡ 38 → ⊥) → isSaved ws ≡ false
+unsaved ws h = go (isSaved ws) refl
+  where
+    go : (t : Bool) → isSaved ws ≡ t → t ≡ false
+    go true e = absurd (h (saved-length ws e))
+    go false e = refl
+
+pub unsaved-state : (ws : List ℕ) → (length ws ≡ 38 → ⊥) → stateOf ws ≡ noState ws
+unfolding stateOf
+unsaved-state ws h = rw (unsaved ws h)
+
+pub unsaved-is : (ws : List ℕ) → (length ws ≡ 38 → ⊥) → false ≡ isSaved ws
+unsaved-is ws h = sym (unsaved ws h)
+
+-- ---- power-up
+
+-- the words that power-up writes are a saved state, of power-up
+pub powered-up : (part : ℕ) (room : List ℕ) → powersUp part room ≡ true → (isSaved (poweredUp part room) ≡ true) × (stateOf (poweredUp part room) ≡ powerUp (partNumbered part))
+unfolding poweredUp
+powered-up part room h = let f = power-up-fitting (partNumbered part) in (rw h (saved-is _ f), rw h (state-back _ f))
+
+-- ---- the report's numbers are small
+
+count-le : (n : ℕ) (f : ℕ → ℕ) → ((i : ℕ) → f i ≤ 1) → count n f ≤ n
+unfolding count
+count-le zero f h = omega arith
+count-le (suc n) f h = omega (arith, h 0, count-le n (λ i. f (suc i)) (λ i. h (suc i)))
+
+pub record Small (r : Reported) : Type 0 where
+  pub count : r .count ≤ 259
+  pub lowest : r .lowest ≤ 259
+
+report-bits : (ws : List ℕ) (b : ℕ) → bitAt ws b ≤ 1
+unfolding bitAt bit
+report-bits ws b = omega arith
+
+pub report-small : (s : State) → Small (reportedOf s)
+unfolding reportedOf reportOf unprotectedCount
+report-small s = go (wellFormed s)
+  where
+    go : (t : Bool) → Small (cond t (record { refusal = 0; count = reportOf (s .unprotected) .count; lowest = reportOf (s .unprotected) .lowest }) (record { refusal = 2; count = 0; lowest = 0 }))
+    go true = record { count = count-le 259 (bitAt (s .unprotected)) (report-bits (s .unprotected)); lowest = lowest-least (s .unprotected) .within }
+    go false = record { count = omega arith; lowest = omega arith }
+
+-- ---- a run
+
+module _ (ws : List ℕ) {codes room xs : List ℕ} {s : State} {r : RunEnd} {answers array : List ℕ} (same : s ≡ stateOf ws) (p : Played (holding s) codes room xs r answers array) where
+  on-words : Played (holding (stateOf ws)) codes room xs r answers array
+  on-words = subst (λ (t : State). Played (holding t) codes room xs r answers array) same p
+
+  state-is : r .device .state ≡ stateAfter ws codes room xs
+  unfolding stateAfter
+  state-is = on-words .device
+
+  played-as : Played (holding (stateOf ws)) codes room xs (record { played = r .played; device = holding (stateAfter ws codes room xs) }) answers array
+  unfolding stateAfter
+  played-as = record { count = on-words .count; device = refl; array-is = on-words .array-is; answers-are = on-words .answers-are; journal = on-words .journal }
+
+  -- the words were no saved state
+  pub ran-unsaved : isSaved ws ≡ false → Ran ws codes room xs (r .played) ws answers array
+  ran-unsaved h = record { played = played-as; kept = rw h; goes-on = λ e. let z : _≡_ {A = ℕ} 0 1 = cc in absurd (omega arith) }
+
+  -- they were one, and the state after the run is saved in their place
+  pub ran-saved : {after : List ℕ} → isSaved ws ≡ true → Fitting (r .device .state) → after ≡ putInto ws (savedOf (r .device .state)) → Ran ws codes room xs (r .played) after answers array
+  unfolding putInto
+  ran-saved {after} h f e =
+      let k : after ≡ savedOf (r .device .state) = e ∙ rw (eq-eqb (length ws) 38 (saved-length ws h)) in
+      record {
+        played = played-as;
+        kept = rw h (k ∙ ap savedOf state-is);
+        goes-on = λ q. (ap isSaved k ∙ saved-is (r .device .state) f, ap stateOf k ∙ state-back (r .device .state) f ∙ state-is);
+      }

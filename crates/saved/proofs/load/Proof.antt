@@ -1,0 +1,44 @@
+-- `saved::load` meets its contract, by those of the functions that read the words. Assumes nothing.
+use borrow.Author.Needs.{needs}
+use Rattle.saved.specs.Saved.{loadedOf}
+use Rattle.saved.proofs.load.Statement.{statement}
+use Rattle.saved.proofs.load.Tie as tie
+
+returns : tie.Need-returns
+unfolding loadedOf
+returns c = simp (c .before .before .before .before .before .part-numbered .ensures, c .before .before .before .before .banks-of .ensures, c .before .before .before .setup-numbered .ensures, c .before .before .running-of .ensures, c .before .program-of .ensures, c .erase-of .ensures)
+
+pub load-spec : {M : Type 1} → statement M
+load-spec =
+    tie.close
+    (tie.spec
+    (λ c. search needs)
+    (λ c κs. search needs)
+    (λ c κs. search needs)
+    (λ c. search needs)
+    (λ c κs. search needs)
+    (λ c. search needs)
+    (λ c. search needs)
+    (λ c. search needs)
+    (λ c κs. search needs)
+    (λ c. search needs)
+    (λ c. search needs)
+    (λ c. search needs)
+    (λ c κs. search needs)
+    (λ c. search needs)
+    (λ c. search needs)
+    (λ c. search needs)
+    (λ c κs. search needs)
+    (λ c. search needs)
+    (λ c. search needs)
+    (λ c. search needs)
+    (λ c. search needs)
+    (λ c. search needs)
+    (λ c. search needs)
+    (λ c. search needs)
+    (λ c. search needs)
+    (λ c. search needs)
+    (λ c. search needs)
+    (λ c. search needs)
+    (λ c. search needs)
+    returns)

@@ -1,0 +1,208 @@
+-- Laws of the saved words: a state whose numbers fit their types is got back from its words, and words that are no saved state say one that the device refuses.
+-- Assumes nothing.
+use Prim.Native.Nat.{ℕ, zero, suc, _+_, _<_, _≤_}
+use mathlib.Core.Bool.{Bool, true, false, _&&_}
+use mathlib.Core.List.{List, [], _∷_}
+use mathlib.Core.Path.{_≡_, refl, sym, ap, _∙_}
+use native.Mathlib.Nat.{mod-eq-of-lt}
+use native.Mathlib.Omega.{arith}
+use lib.Dec.{eqb}
+use lib.ListN.{length, getD, set, length-set}
+use lib.Seq.{getD-set-same, getD-set-other}
+use borrow.Author.Count.{below-none, below-more}
+use borrow.Author.Tests.{eq-eqb, eqb-true}
+use Rattle.geometry.specs.declared.Part.{Part}
+use Rattle.geometry.specs.declared.Part.the-variants.{FullBottom, FullTop, BenchBottom, BenchTop}
+use Rattle.geometry.specs.Blocks.{partNumbered}
+use Rattle.protection.specs.Words.{spareZero, allProtected}
+use Rattle.semantics.specs.declared.Mode.{Mode}
+use Rattle.semantics.specs.declared.Mode.the-variants.{Array, Status, Signature, Query}
+use Rattle.semantics.specs.declared.Bank.{Bank}
+use Rattle.semantics.specs.declared.Setup.{Setup}
+use Rattle.semantics.specs.declared.Setup.the-variants as setup
+use Rattle.semantics.specs.declared.Running.{Running}
+use Rattle.semantics.specs.declared.Running.the-variants as running
+use Rattle.semantics.specs.declared.SuspendedProgram.{SuspendedProgram}
+use Rattle.semantics.specs.declared.SuspendedProgram.the-variants as program
+use Rattle.semantics.specs.declared.SuspendedErase.{SuspendedErase}
+use Rattle.semantics.specs.declared.SuspendedErase.the-variants as erase
+use Rattle.semantics.specs.declared.State.{State}
+use Rattle.semantics.specs.State.{activity, flagsOf, powerUp}
+use Rattle.semantics.specs.Reading.{bitIf}
+use Rattle.semantics.specs.WellFormed.{runningAlone, programAlone, eraseAlone, runningFits, programFits, suspendedEraseFits, allFit, runningApart, programApart, apart, activityFormed, wellFormed}
+use Rattle.saved.specs.Saved.{partNumber, modeNumber, modeNumbered, bankNumber, bankNumbered, setupNumber, setupNumbered, flagNumbered, runningWords, runningOf, programWords, programOf, eraseWords, eraseOf, listed, first, savedOf, loadedOf, same, isSaved, noState, stateOf}
+
+-- ---- lists
+
+-- a list of n elements that has f k at each k below n
+listed-is : {A : Type 0} (d : A) (n : ℕ) (f : ℕ → A) (l : List A) → length l ≡ n → ((k : ℕ) → k < n → getD l k d ≡ f k) → l ≡ listed n f
+listed-is d zero f [] h e = refl
+listed-is d zero f (x ∷ l) h e = absurd (omega arith)
+listed-is d (suc n) f [] h e = absurd (omega arith)
+listed-is d (suc n) f (x ∷ l) h e = λ j. e 0 (omega arith) j ∷ listed-is d n (λ k. f (suc k)) l (omega arith) (λ k q. e (suc k) (omega arith)) j
+
+-- a list of n elements of which those below i are filled in, for the loops
+pub record Filled {A : Type 0} (d : A) (f : ℕ → A) (n i : ℕ) (l : List A) : Type 0 where
+  pub within : i ≤ n
+  pub size : length l ≡ n
+  pub done : (k : ℕ) → k < i → getD l k d ≡ f k
+
+pub filled-none : {A : Type 0} (d : A) (f : ℕ → A) (n : ℕ) (l : List A) → length l ≡ n → Filled d f n 0 l
+filled-none d f n l h = record { within = omega arith; size = h; done = below-none _ }
+
+pub filled-more : {A : Type 0} {d : A} {f : ℕ → A} {n i : ℕ} {l : List A} {x : A} → Filled d f n i l → i < n → x ≡ f i → Filled d f n (i + 1) (set l i x)
+filled-more {d = d} {f = f} {i = i} {l = l} {x = x} h p q =
+    let m = h .size in
+    let r : i < length l = omega arith in
+    record {
+      within = omega arith;
+      size = rw length-set m;
+      done = below-more (λ (k : ℕ). getD (set l i x) k d ≡ f k) i (λ k z. getD-set-other l i k x d (λ e. omega arith) ∙ h .done k z) (getD-set-same l i x d r ∙ q);
+    }
+
+pub filled-all : {A : Type 0} {d : A} {f : ℕ → A} {n i : ℕ} {l : List A} → Filled d f n i l → n ≤ i → l ≡ listed n f
+filled-all {d = d} {f = f} {n = n} {l = l} h p = listed-is d n f l (h .size) (λ k q. h .done k (omega arith))
+
+pub first-all : (n : ℕ) (l : List ℕ) → length l ≡ n → first n l ≡ l
+first-all n l h = sym (listed-is 0 n (λ k. getD l k 0) l h (λ k q. refl))
+
+same-refl : (l : List ℕ) → same l l ≡ true
+unfolding same
+same-refl [] = refl
+same-refl (x ∷ l) = rw (eq-eqb x x refl) (same-refl l)
+
+same-true : (k l : List ℕ) → same k l ≡ true → k ≡ l
+unfolding same
+same-true [] [] h = refl
+same-true [] (y ∷ l) h = cc
+same-true (x ∷ k) [] h = cc
+same-true (x ∷ k) (y ∷ l) h = go (eqb x y) refl h (same-true k l)
+  where
+    go : (t : Bool) → eqb x y ≡ t → (t && same k l) ≡ true → (same k l ≡ true → k ≡ l) → x ∷ k ≡ y ∷ l
+    go true e h f = let p = eqb-true x y e in let q = f h in cc
+    go false e h f = cc
+
+pub same-equal : (k l : List ℕ) → k ≡ l → same k l ≡ true
+same-equal k l h = rw h (same-refl l)
+
+pub same-apart : (k l : List ℕ) (i : ℕ) → (getD k i 0 ≡ getD l i 0 → ⊥) → same k l ≡ false
+same-apart k l i h = go (same k l) refl
+  where
+    go : (t : Bool) → same k l ≡ t → t ≡ false
+    go true e = absurd (h (ap (λ (m : List ℕ). getD m i 0) (same-true k l e)))
+    go false e = refl
+
+-- ---- a field and back
+
+part-back : (p : Part) → partNumbered (partNumber p) ≡ p
+part-back FullBottom = refl
+part-back FullTop = refl
+part-back BenchBottom = refl
+part-back BenchTop = refl
+
+mode-back : (m : Mode) → modeNumbered (modeNumber m) ≡ m
+mode-back Array = refl
+mode-back Status = refl
+mode-back Signature = refl
+mode-back Query = refl
+
+bank-back : (b : Bank) → bankNumbered (bankNumber b) ≡ b
+bank-back b = λ j. record { mode = mode-back (b .mode) j }
+
+banks-back : (l : List Bank) → length l ≡ 16 → listed 16 (λ k. bankNumbered (bankNumber (getD l k (record { mode = Array })))) ≡ l
+banks-back l h =
+    sym
+    (listed-is (record { mode = Array }) 16 (λ k. bankNumbered (bankNumber (getD l k (record { mode = Array })))) l h
+    (λ k q. sym (bank-back (getD l k (record { mode = Array })))))
+
+setup-back : (s : Setup) → setupNumbered (setupNumber s) ≡ s
+setup-back setup.Nothing = refl
+setup-back setup.Program = refl
+setup-back setup.Erase = refl
+setup-back setup.Lock = refl
+
+flag-back : (b : Bool) → flagNumbered (bitIf b 1) ≡ b
+flag-back true = refl
+flag-back false = refl
+
+-- ---- the whole state
+
+-- the numbers of what is under way fit their types
+abbrev pub RunningFitting : Running → Type 0
+RunningFitting running.Idle = Unit {0}
+RunningFitting (running.Program l w) = (l < 4294967296) × (w < 65536)
+RunningFitting (running.Erase b n) = (b < 4294967296) × (n < 4294967296)
+
+abbrev pub ProgramFitting : SuspendedProgram → Type 0
+ProgramFitting program.Nothing = Unit {0}
+ProgramFitting (program.Program l w) = (l < 4294967296) × (w < 65536)
+
+abbrev pub EraseFitting : SuspendedErase → Type 0
+EraseFitting erase.Nothing = Unit {0}
+EraseFitting (erase.Erase b n) = (b < 4294967296) × (n < 4294967296)
+
+-- what every state that the code holds has, by its types
+pub record Fitting (s : State) : Type 0 where
+  pub banks : length (s .banks) ≡ 16
+  pub running : RunningFitting (s .activity .running)
+  pub program : ProgramFitting (s .activity .program)
+  pub erase : EraseFitting (s .activity .erase)
+  pub unprotected : length (s .unprotected) ≡ 5
+  pub configuration : s .configuration < 65536
+
+running-back : (r : Running) → RunningFitting r → runningOf (getD (runningWords r) 0 0) (getD (runningWords r) 1 0) (getD (runningWords r) 2 0) ≡ r
+running-back running.Idle h = refl
+running-back (running.Program l w) h = rw (mod-eq-of-lt (h .0), mod-eq-of-lt (h .1))
+running-back (running.Erase b n) h = rw (mod-eq-of-lt (h .0), mod-eq-of-lt (h .1))
+
+program-back : (p : SuspendedProgram) → ProgramFitting p → programOf (getD (programWords p) 0 0) (getD (programWords p) 1 0) (getD (programWords p) 2 0) ≡ p
+program-back program.Nothing h = refl
+program-back (program.Program l w) h = rw (mod-eq-of-lt (h .0), mod-eq-of-lt (h .1))
+
+erase-back : (e : SuspendedErase) → EraseFitting e → eraseOf (getD (eraseWords e) 0 0) (getD (eraseWords e) 1 0) (getD (eraseWords e) 2 0) ≡ e
+erase-back erase.Nothing h = refl
+erase-back (erase.Erase b n) h = rw (mod-eq-of-lt (h .0), mod-eq-of-lt (h .1))
+
+-- a state is got back from its words
+pub loaded-saved : (s : State) → Fitting s → loadedOf (savedOf s) ≡ s
+unfolding savedOf loadedOf
+loaded-saved s h = λ j. record {
+  part = part-back (s .part) j;
+  banks = banks-back (s .banks) (h .banks) j;
+  activity =
+      activity (setup-back (s .activity .setup) j) (running-back (s .activity .running) (h .running) j) (program-back (s .activity .program) (h .program) j)
+      (erase-back (s .activity .erase) (h .erase) j);
+  flags = flagsOf (flag-back (s .flags .sr5) j) (flag-back (s .flags .sr4) j) (flag-back (s .flags .sr3) j) (flag-back (s .flags .sr1) j);
+  unprotected = first-all 5 (s .unprotected) (h .unprotected) j;
+  configuration = mod-eq-of-lt (h .configuration) j;
+  supply = flag-back (s .supply) j;
+}
+
+-- so its words are a saved state, and say it
+pub saved-is : (s : State) → Fitting s → isSaved (savedOf s) ≡ true
+unfolding isSaved
+saved-is s h = rw (loaded-saved s h) (same-refl (savedOf s))
+
+pub state-back : (s : State) → Fitting s → stateOf (savedOf s) ≡ s
+unfolding stateOf
+state-back s h = rw (saved-is s h) (loaded-saved s h)
+
+-- words that are a saved state are those of the state that they say
+pub saved-back : (ws : List ℕ) → isSaved ws ≡ true → savedOf (stateOf ws) ≡ ws
+unfolding stateOf isSaved
+saved-back ws h = rw h (sym (same-true ws (savedOf (loadedOf ws)) h))
+
+-- and are 38
+pub saved-length : (ws : List ℕ) → isSaved ws ≡ true → length ws ≡ 38
+unfolding isSaved savedOf
+saved-length ws h = ap length (same-true ws (savedOf (loadedOf ws)) h)
+
+-- words that are none say a state that is not well formed
+pub unsaved-refused : (ws : List ℕ) → isSaved ws ≡ false → wellFormed (stateOf ws) ≡ false
+unfolding stateOf noState powerUp runningAlone programAlone eraseAlone runningFits programFits suspendedEraseFits allFit runningApart programApart apart activityFormed wellFormed spareZero
+unsaved-refused ws h = rw h
+
+-- power-up is such a state
+pub power-up-fitting : (p : Part) → Fitting (powerUp p)
+unfolding powerUp allProtected
+power-up-fitting p = record { banks = refl; running = tt; program = tt; erase = tt; unprotected = refl; configuration = omega arith }
