@@ -170,8 +170,8 @@ impl Bench {
             let mut answers = vec![0; steps.len()];
             let once = time(1, || self.array[range.clone()].fill(0xFFFF));
             let times = repeats(once);
-            let mut ratios = Vec::new();
-            let mut model_ratios = Vec::new();
+            let mut by_library = Vec::new();
+            let mut by_model = Vec::new();
             for _ in 0..=self.rounds {
                 let (state, array) = (&mut self.state, &mut self.array);
                 let fill = time(times, || {
@@ -183,11 +183,11 @@ impl Bench {
                 });
                 let (device, array) = (&mut self.device, &mut self.model_array);
                 let model = time(times, || model_run(device, &steps, &mut answers, array));
-                ratios.push(library / fill);
-                model_ratios.push(model / fill);
+                by_library.push((library, fill));
+                by_model.push((model, fill));
             }
-            row(name, ratios);
-            row("  the same of the second model", model_ratios);
+            row(name, &by_library);
+            row("  the same of the second model", &by_model);
         }
     }
 
@@ -199,7 +199,7 @@ impl Bench {
         let mut model_answers = vec![0; steps.len()];
         let once = time(1, || self.play(steps)) / 2.0;
         let times = repeats(once);
-        let mut ratios = Vec::new();
+        let mut times_taken = Vec::new();
         for round in 0..=self.rounds {
             let (state, array) = (&mut self.state, &mut self.array);
             let mut by_library = || {
@@ -216,17 +216,16 @@ impl Bench {
                     model_run(device, steps, &mut model_answers, array)
                 })
             };
-            let ratio = if round % 2 == 0 {
+            times_taken.push(if round % 2 == 0 {
                 let library = by_library();
-                library / by_model()
+                (library, by_model())
             } else {
                 let model = by_model();
-                by_library() / model
-            };
-            ratios.push(ratio);
+                (by_library(), model)
+            });
         }
         assert!(answers == model_answers, "{name}: the answers differ");
-        row(name, ratios);
+        row(name, &times_taken);
     }
 
     /// Plays a list on both without measuring.
@@ -304,10 +303,11 @@ fn repeats(once: f64) -> usize {
     (MEASURED / once).ceil().clamp(1.0, 10_000.0) as usize
 }
 
-/// One row: the median, and between what the middle half of the rounds lies.
-/// The first round only warms up.
-fn row(name: &str, mut ratios: Vec<f64>) {
-    ratios.remove(0);
+/// One row, of the two times that each round took: the median of the ratios,
+/// and between what the middle half of them lies. The first round only warms
+/// up.
+fn row(name: &str, times: &[(f64, f64)]) {
+    let mut ratios: Vec<f64> = times[1..].iter().map(|(a, b)| a / b).collect();
     ratios.sort_by(f64::total_cmp);
     let [low, median, high] = [1, 2, 3].map(|quarter| ratios[(ratios.len() - 1) * quarter / 4]);
     println!("{name:52} {median:8.2} {low:7.2} to {high:.2}");

@@ -64,7 +64,8 @@ uint32_t m58_lookup_bank(uint32_t part, uint32_t address);
  * writes one answer for each. A long list may be played in pieces: the next
  * call goes on with the same state words and the same array.
  *
- * A step is one uint64_t, made by the macros below. An answer is one
+ * A step is one uint64_t, made by the macros below, which keep the lower 32
+ * bits of an address or count and the lower 16 of the data. An answer is one
  * uint64_t: the refusal's number in the upper half, the value in the lower
  * (the word that was read, the units of work that were done, else 0). A
  * refused step changes neither the state nor the array.
@@ -101,7 +102,8 @@ uint32_t m58_power_up(uint32_t part, uint64_t *state, size_t state_count);
  * answer_count is less than step_count, or up to the first number that is no
  * step (made by none of the macros). Answers past that number stay as they
  * were. Where the state words are not those of a device, every step is refused
- * and the state stays as it was.
+ * (2, or 1 where the array's length is not the part's either) and the state
+ * stays as it was.
  */
 size_t m58_run(uint64_t *state, size_t state_count, const uint64_t *steps,
                size_t step_count, uint64_t *answers, size_t answer_count,
