@@ -35,8 +35,16 @@ impl Random {
     }
 }
 
-/// What the program prints for a script; `slow` hands it over a byte at a time.
-fn played(program: &str, input: &[u8], slow: bool) -> Vec<u8> {
+/// How the script is handed over and the transcript taken: at once, a byte at a time, or in small parts with waits between them.
+#[derive(Clone, Copy, PartialEq)]
+enum Pace {
+    Fast,
+    SlowIn,
+    SlowOut,
+}
+
+/// What the program prints for a script.
+fn played(program: &str, input: &[u8], pace: Pace) -> Vec<u8> {
     let mut child = Command::new(program)
         .stdin(Stdio::piped())
         .stdout(Stdio::piped())
@@ -46,7 +54,7 @@ fn played(program: &str, input: &[u8], slow: bool) -> Vec<u8> {
     let bytes = input.to_vec();
     let writer = std::thread::spawn(move || {
         // the program reads no more than it needs, so a write may find the pipe closed
-        if slow {
+        if pace == Pace::SlowIn {
             for b in bytes {
                 if stdin.write_all(&[b]).is_err() {
                     break;
@@ -58,12 +66,18 @@ fn played(program: &str, input: &[u8], slow: bool) -> Vec<u8> {
         }
     });
     let mut out = Vec::new();
-    child
-        .stdout
-        .take()
-        .expect("a pipe was asked for")
-        .read_to_end(&mut out)
-        .unwrap_or_else(|e| fail(&format!("cannot read from {program}: {e}")));
+    let mut stdout = child.stdout.take().expect("a pipe was asked for");
+    let mut part = [0u8; 1000];
+    loop {
+        if pace == Pace::SlowOut {
+            std::thread::sleep(std::time::Duration::from_millis(1));
+        }
+        match stdout.read(&mut part) {
+            Ok(0) => break,
+            Ok(n) => out.extend_from_slice(&part[..n]),
+            Err(e) => fail(&format!("cannot read from {program}: {e}")),
+        }
+    }
     let _ = writer.join();
     let status = child.wait().unwrap_or_else(|e| fail(&e.to_string()));
     if !status.success() {
@@ -85,9 +99,9 @@ struct Compare<'a> {
 }
 
 impl Compare<'_> {
-    fn one(&mut self, what: &str, input: &[u8], slow: bool) {
+    fn one(&mut self, what: &str, input: &[u8], pace: Pace) {
         let expected = script::transcript(input);
-        let got = played(self.program, input, slow);
+        let got = played(self.program, input, pace);
         if got != expected {
             eprintln!("script: {:?}", String::from_utf8_lossy(input));
             let (g, e) = (
@@ -336,7 +350,7 @@ fn examples(compare: &mut Compare, folder: &str) -> u64 {
                 path.display()
             ));
         }
-        compare.one(&path.display().to_string(), &input, false);
+        compare.one(&path.display().to_string(), &input, Pace::Fast);
     }
     names.len() as u64
 }
@@ -362,26 +376,35 @@ fn main() {
     };
     let stored = examples(&mut compare, &args[2]);
     for near in NEAR {
-        compare.one("near miss", near.as_bytes(), false);
+        compare.one("near miss", near.as_bytes(), Pace::Fast);
         compare.one(
             "near miss, first line",
             format!("{near}\nV 1\nR 000000\n").as_bytes(),
-            false,
+            Pace::Fast,
         );
     }
-    compare.one("all near misses", NEAR.join("\n").as_bytes(), false);
+    compare.one("all near misses", NEAR.join("\n").as_bytes(), Pace::Fast);
     for (what, text) in bounds() {
-        compare.one(&what, &text, false);
+        compare.one(&what, &text, Pace::Fast);
     }
     let mut r = Random(seed | 1);
     for i in 0..count {
         let text = random_script(&mut r, i % 2 == 1);
-        compare.one(&format!("random script {i} of seed {seed}"), &text, false);
+        compare.one(
+            &format!("random script {i} of seed {seed}"),
+            &text,
+            Pace::Fast,
+        );
     }
     for i in 0..5 {
         let text = random_script(&mut r, i % 2 == 1);
-        compare.one("a byte at a time", &text[..text.len().min(1500)], true);
+        compare.one(
+            "a byte at a time",
+            &text[..text.len().min(1500)],
+            Pace::SlowIn,
+        );
     }
+    compare.one("a slow reader", &[b'\n'; 16384], Pace::SlowOut);
     println!(
         "scripts: {} compared, {stored} of them stored examples and {count} random of seed {seed}; {} lines printed, {} of them refused",
         compare.scripts, compare.lines, compare.refused

@@ -1,4 +1,4 @@
--- Writing bytes into a lent room from a place on: what ends up at every place, and the next place. What is past the room's end is dropped.
+-- Writing bytes into borrowed room from a place on: what ends up at every place, and the next place. What is past the room's end is dropped.
 -- Assumes nothing.
 use Prim.Native.Nat.{ℕ, _+_, _-_, _<_, _≤_, min, max}
 use mathlib.Core.Bool.{Bool, true, false, cond}

@@ -1,4 +1,4 @@
-// A script text played whole on a device, with the transcript written into lent room: document 01, "The script program".
+// A script text played whole on a device, with the transcript written into borrowed room: document 01, "The script program".
 // Each function takes every text, place and number.
 use device::Device;
 use geometry::Part;
@@ -62,7 +62,7 @@ pub fn taken_at(text: &[u8], at: usize) -> Taken
 
 // ---- the reader
 
-// The lent text, and the place in it where the next line begins.
+// The borrowed text, and the place in it where the next line begins.
 pub struct Reader<'a> {
     pub text: &'a [u8],
     pub at: usize,
@@ -129,7 +129,7 @@ fn play_line(
     }
 }
 
-// Plays the script of a text on a bench bottom part from power-up, on a lent array, and writes the transcript from the room's start on.
+// Plays the script of a text on a bench bottom part from power-up, on a borrowed array, and writes the transcript from the room's start on.
 // Gives the place after the transcript.
 pub fn play_text(text: &[u8], array: &mut [u16], room: &mut [u8]) -> usize
     ensures { λ r. ⌜ Transcribed (now (text .entry)) (now (array .entry)) (now (room .entry)) r (now (array .exit)) (now (room .exit)) ⌝ }

@@ -1,4 +1,4 @@
-// The work on the lent array: units of what runs, at every location.
+// The work on the borrowed array: units of what runs, at every location.
 use geometry::Part;
 use semantics::Running;
 ghost use mathlib.Core.Path.{_≡_};
