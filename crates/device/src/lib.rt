@@ -7,7 +7,7 @@ use semantics::State;
 use semantics::Step;
 ghost use mathlib.Core.Path.{_≡_};
 ghost use Rattle.semantics.specs.State.{powerUp};
-ghost use Rattle.semantics.specs.Steps.{firstRefusal, reportedOf};
+ghost use Rattle.semantics.specs.Steps.{reportedOf};
 ghost use Rattle.device.specs.Outcomes.{holding, outcome, arrayOut};
 
 // All that a device holds is its state. (Methods stand in the crate of their struct; the definitions of the state stand in a crate without code.)
@@ -19,16 +19,6 @@ pub struct Device {
 pub struct Outcome {
     pub device: Device,
     pub answer: Answer,
-}
-
-// The first of two refusals that is one: 0 is none.
-fn first_refusal(a: u32, b: u32) -> u32
-    ensures { λ r. ⌜ r ≡ firstRefusal a b ⌝ }
-{
-    if a == 0 {
-        return b;
-    }
-    a
 }
 
 impl Device {
@@ -47,13 +37,12 @@ impl Device {
     {
         let s = self.state;
         let part = s.part;
-        let e = first_refusal(
+        let e = state::first_refusal(
             state::state_refusal(s, array.len()),
             state::address_refusal(part, address),
         );
         if e == 0 {
-            let location = geometry::location_of(part, address);
-            let word = reading::read_word(s, array, location);
+            let word = reading::read_word(s, array, address);
             return Outcome {
                 device: self,
                 answer: Answer::Word(word),
@@ -71,7 +60,7 @@ impl Device {
     {
         let s = self.state;
         let part = s.part;
-        let e = first_refusal(
+        let e = state::first_refusal(
             state::state_refusal(s, array.len()),
             state::address_refusal(part, address),
         );
@@ -96,19 +85,17 @@ impl Device {
         let s = self.state;
         let part = s.part;
         let a = s.activity;
-        let running = a.running;
-        let e = first_refusal(
+        let e = state::first_refusal(
             state::state_refusal(s, array.len()),
             state::count_refusal(count),
         );
         if e == 0 {
-            let units = operation::units_done(part, running, count);
-            working::apply(part, running, units, array);
-            let after = operation::running_after(part, running, units);
-            let next = state::with_activity(s, operation::with_running(a, after));
+            let o = working::work(part, a, array, count);
+            let after = o.activity;
+            let next = state::with_activity(s, after);
             return Outcome {
                 device: Device { state: next },
-                answer: Answer::Units(units),
+                answer: Answer::Units(o.units),
             };
         }
         Outcome {
@@ -122,7 +109,7 @@ impl Device {
         ensures { λ r. ⌜ r ≡ outcome self (now (array .entry)) (Step.Supply on) ⌝ }
     {
         let s = self.state;
-        let e = first_refusal(state::state_refusal(s, array.len()), 0);
+        let e = state::first_refusal(state::state_refusal(s, array.len()), 0);
         if e == 0 {
             let next = state::with_supply(s, on);
             return Outcome {
@@ -141,11 +128,9 @@ impl Device {
         ensures { λ r. ⌜ r ≡ outcome self (now (array .entry)) Step.Reset ⌝ }
     {
         let s = self.state;
-        let part = s.part;
-        let on = s.supply;
-        let e = first_refusal(state::state_refusal(s, array.len()), 0);
+        let e = state::first_refusal(state::state_refusal(s, array.len()), 0);
         if e == 0 {
-            let next = state::with_supply(state::power_up(part), on);
+            let next = state::reset(s);
             return Outcome {
                 device: Device { state: next },
                 answer: Answer::Done,

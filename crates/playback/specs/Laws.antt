@@ -1,10 +1,12 @@
 -- Laws of playing a list step by step. Assumes nothing.
 use Prim.Native.Nat.{ℕ, zero, suc, _≤_, _<_}
 use mathlib.Core.List.{List, [], _∷_, _++_}
-use mathlib.Core.Path.{_≡_, refl, sym, ap, _∙_, subst}
+use mathlib.Core.Path.{_≡_, refl, sym, ap, _∙_, subst, subst₂}
 use native.Mathlib.Omega.{arith}
-use lib.ListN.{length, getD, take, set}
+use lib.ListN.{length, getD, take, set, length-set}
 use lib.Seq.{take-length}
+use Rattle.semantics.specs.declared.State.{State}
+use Rattle.semantics.specs.declared.Next.{Next}
 use Rattle.semantics.specs.declared.Step.{Step}
 use Rattle.semantics.specs.declared.Answer.{Answer}
 use Rattle.semantics.specs.declared.Decoded.{Decoded}
@@ -12,9 +14,11 @@ use Rattle.semantics.specs.declared.Decoded.the-variants.{Valid, Invalid}
 use Rattle.semantics.specs.Steps.{stepOf, Machine, after, afterAll, answersOf, fresh}
 use Rattle.semantics.specs.Encoding.{decode}
 use Rattle.semantics.specs.Standing.{Demand3, demand-3-whole}
+use Rattle.semantics.specs.Invariant.{length-kept}
+use Rattle.semantics.specs.Held.{Held, Does, held-next}
 use Rattle.device.specs.declared.Device.{Device}
 use Rattle.device.specs.declared.Outcome.{Outcome}
-use Rattle.device.specs.Outcomes.{outcome, arrayOut}
+use Rattle.device.specs.Outcomes.{holding, outcomeOf, outcome, arrayOut}
 use Rattle.playback.specs.Playback.{goOn, playable, answerCode, roomAfter, machineOf, Journaled, Played}
 
 -- ---- lists of steps
@@ -139,3 +143,24 @@ sofar-end d₀ codes room xs i d answers array s e =
       answers-are = s .written ∙ ap (λ (k : List Step). roomAfter room (answersOf m₀ k)) t;
       journal = subst (λ (ys : List ℕ). Journaled m₀ l ys) (sym a) (journaled m₀ l);
     }
+
+-- ---- the loop, with the one test of the state and the array
+
+pub record Going (c : ℕ) (s₀ : State) (codes room xs : List ℕ) (i : ℕ) (s : State) (answers array : List ℕ) : Type 0 where
+  pub sofar : Sofar (holding s₀) codes room xs i (holding s) answers array
+  pub held : Held c s array
+  pub room-long : length answers ≡ length room
+  pub array-long : length array ≡ length xs
+
+pub going-none : (c : ℕ) (s : State) (codes room xs : List ℕ) → Held c s xs → Going c s codes room xs 0 s room xs
+going-none c s codes room xs r = record { sofar = sofar-none (holding s) codes room xs; held = r; room-long = refl; array-long = refl }
+
+-- one number more
+pub going-next : (c : ℕ) (s₀ : State) (codes room xs : List ℕ) (i : ℕ) (s : State) (answers array : List ℕ) (x : Step) (t : State) (a : Answer) (ys : List ℕ) → Going c s₀ codes room xs i s answers array
+    → i < length codes → i < length room → decode (getD codes i 0) ≡ Valid x → Does s array x t a ys → Going c s₀ codes room xs (suc i) t (set answers i (answerCode a)) ys
+going-next c s₀ codes room xs i s answers array x t a ys g p q e f = record {
+  sofar = sofar-next (holding s₀) codes room xs i (holding s) answers array x (record { device = holding t; answer = a }) ys (g .sofar) p q e (ap outcomeOf (f .0)) (f .1);
+  held = subst₂ (λ (y : State) (zs : List ℕ). Held c y zs) (sym (ap (λ (n : Next). n .state) (f .0))) (sym (f .1)) (held-next c s array x (g .held));
+  room-long = length-set answers i (answerCode a) ∙ g .room-long;
+  array-long = ap length (f .1) ∙ length-kept s array x ∙ g .array-long;
+}

@@ -1,9 +1,12 @@
 // A list of encoded steps played on a device and a borrowed array, with the answers written into borrowed room. Demand 3 stands in its contract.
 use device::Device;
 use semantics::Answer;
+use semantics::Bank;
 use semantics::Decoded;
+use semantics::State;
 use semantics::Step;
 ghost use mathlib.Core.Path.{_≡_};
+ghost use Prim.Native.Nat.{min};
 ghost use Rattle.semantics.specs.Encoding.{decode};
 ghost use Rattle.playback.specs.Playback.{answerCode, Played};
 
@@ -59,40 +62,77 @@ pub fn answer_code(a: Answer) -> u64
     }
 }
 
+// The end of a list.
+fn ended(played: usize, state: State) -> RunEnd
+    ensures { λ r. ⌜ r ≡ record { played = played; device = record { state = state } } ⌝ }
+{
+    RunEnd {
+        played,
+        device: Device { state },
+    }
+}
+
+// The lesser of two.
+fn least(a: usize, b: usize) -> usize
+    ensures { λ r. ⌜ r ≡ min a b ⌝ }
+{
+    if a < b { a } else { b }
+}
+
 // Plays the steps that the numbers encode, one after the other, and writes the answer of each into its place of the room; stops at the first number that
-// encodes no step, and where the room ends. A list goes on with the device that is given back.
+// encodes no step, and where the room ends. A list goes on with the device that is given back. What is refused whatever the step is, is tested once; the state stands once, and is changed where it stands: what a write makes
+// of its view is put back field by field.
 pub fn run(device: Device, steps: &[u64], answers: &mut [u64], array: &mut [u16]) -> RunEnd
     ensures { λ r. ⌜ Played device (now (steps .entry)) (now (answers .entry)) (now (array .entry)) r (now (answers .exit)) (now (array .exit)) ⌝ }
 {
-    let mut d = device;
+    let mut s = device.state;
+    let refused = state::state_refusal(s, array.len());
+    let n = least(steps.len(), answers.len());
     let mut i: usize = 0;
-    while i < steps.len() {
-        if i >= answers.len() {
-            return RunEnd {
-                played: i,
-                device: d,
-            };
-        }
+    while i < n {
         let found = decoded(steps[i]);
-        match found {
-            Decoded::Valid(x) => {
-                let o = d.step(array, x);
-                let a = o.answer;
-                answers[i] = answer_code(a);
-                let next = o.device;
-                d = next;
-                i += 1;
-            }
-            Decoded::Invalid => {
-                return RunEnd {
-                    played: i,
-                    device: d,
-                };
+        let Decoded::Valid(x) = found else {
+            return ended(i, s);
+        };
+        let part = s.part;
+        let e = state::first_refusal(refused, state::step_refusal(part, x));
+        let mut answer = Answer::Done;
+        if e != 0 {
+            answer = Answer::Refused(e);
+        } else {
+            match x {
+                Step::Read(address) => {
+                    let word = reading::read_word(s, array, address);
+                    answer = Answer::Word(word);
+                }
+                Step::Write(address, word) => {
+                    let p = state::place_of(part, address);
+                    let v = writing::view_after(s, p, word);
+                    let activity = v.activity;
+                    let flags = v.flags;
+                    let mode = v.mode;
+                    let b = Bank { mode };
+                    let bank = p.bank;
+                    s.activity = activity;
+                    s.flags = flags;
+                    s.configuration = v.configuration;
+                    s.supply = v.supply;
+                    s.banks[bank as usize] = b;
+                    protection::set_block(&mut s.unprotected, p.block, v.unprotected);
+                }
+                Step::Work(count) => {
+                    let a = s.activity;
+                    let o = working::work(part, a, array, count);
+                    let after = o.activity;
+                    s.activity = after;
+                    answer = Answer::Units(o.units);
+                }
+                Step::Supply(on) => s.supply = on,
+                Step::Reset => s = state::reset(s),
             }
         }
+        answers[i] = answer_code(answer);
+        i += 1;
     }
-    RunEnd {
-        played: i,
-        device: d,
-    }
+    ended(i, s)
 }

@@ -238,3 +238,32 @@ zeros-least zero n = refl
 zeros-least (suc k) n =
     under-is (n % 2) (trailingZeros k (n / 2))
     ∙ ap₂ (λ (x y : ℕ). cond (eqb x 0) (suc y) 0) (sym (bit-first n)) (zeros-least k (n / 2) ∙ ap (least k) (fun-ext (λ i. sym (bit-next n i))))
+
+-- ---- a digit that is given what it has
+
+lt-pow : (w : ℕ) → w < 2 ^ w
+lt-pow zero = omega arith
+lt-pow (suc w) = rw (pow-suc 2 w) (omega (arith, lt-pow w))
+
+-- numbers with the same digits are equal
+digits-same : (n a b : ℕ) → a < 2 ^ n → b < 2 ^ n → ((i : ℕ) → bit a i ≡ bit b i) → a ≡ b
+digits-same zero a b h k e = omega arith
+digits-same (suc n) a b h k e =
+    let h₂ : a < 2 ^ n * 2 = rw (pow-suc 2 n) at h in
+    let k₂ : b < 2 ^ n * 2 = rw (pow-suc 2 n) at k in
+    let q : a / 2 ≡ b / 2 = digits-same n (a / 2) (b / 2) (omega arith) (omega arith) (λ i. sym (bit-next a i) ∙ e (suc i) ∙ bit-next b i) in
+    let r : a % 2 ≡ b % 2 = sym (bit-first a) ∙ e 0 ∙ bit-first b in
+    omega arith
+
+pub with-own : (w k : ℕ) (v : Bool) → bit w k ≡ cond v 1 0 → withBit w k v ≡ w
+with-own w k v h = digits-same (w + suc k) (withBit w k v) w (with-lt (w + suc k) w k v l (omega arith)) l each
+  where
+    l : w < 2 ^ (w + suc k)
+    l = let m : w < w + suc k = omega arith in omega (arith, lt-pow w, pow-lt m)
+
+    each : (i : ℕ) → bit (withBit w k v) i ≡ bit w i
+    each i = go (same i k)
+      where
+        go : (i ≡ k) ⊎ (i ≢ k) → bit (withBit w k v) i ≡ bit w i
+        go (inl e) = rw e (with-same w k v ∙ sym h)
+        go (inr e) = with-other w k i v e

@@ -1,8 +1,8 @@
 -- Laws of the protection words: what a caller goes by, so that no caller looks into Words. It says nothing of when a block is protected.
 -- Assumes nothing.
-use Prim.Native.Nat.{ℕ, _/_, _%_, _<_, _≤_}
+use Prim.Native.Nat.{ℕ, zero, suc, _/_, _%_, _<_, _≤_}
 use mathlib.Core.Bool.{Bool, true, false, cond}
-use mathlib.Core.List.{List}
+use mathlib.Core.List.{List, [], _∷_}
 use mathlib.Core.Logic.{_⊎_, inl, inr, _≢_}
 use mathlib.Core.Path.{_≡_, refl, sym, ap, _∙_}
 use native.Mathlib.Omega.{arith}
@@ -12,7 +12,7 @@ use lib.Pow.{pow-pos}
 use lib.Seq.{getD-set-same, getD-set-other, set-out}
 use borrow.Author.Tests.{eq-eqb, ne-eqb, lt-ltb, le-ltb, ltb-true}
 use Rattle.protection.specs.Words.{bit, bitAt, withBit, isUnprotected, withUnprotected, count, Least, unprotectedCount, lowestUnprotected, reportOf, spareZero, allProtected}
-use Rattle.protection.specs.Digits.{order, same, bit-lt, bit-none, with-same, with-other, with-lt, count-same, least-is, least-one, least-same}
+use Rattle.protection.specs.Digits.{order, same, bit-lt, bit-none, with-same, with-other, with-lt, with-own, count-same, least-is, least-one, least-same}
 
 -- ---- one block set or cleared
 
@@ -179,3 +179,27 @@ report-same ws vs h = λ j. record { count = count-same 259 (bitAt ws) (bitAt vs
   where
     each : (b : ℕ) → b < 259 → bitAt ws b ≡ bitAt vs b
     each b k = bit-block ws b k ∙ ap (λ (t : Bool). cond t 1 0) (h b k) ∙ sym (bit-block vs b k)
+
+-- a block that is given the protection that it has: nothing changes
+pub with-own-block : (ws : List ℕ) (b : ℕ) → withUnprotected ws b (isUnprotected ws b) ≡ ws
+unfolding isUnprotected withUnprotected bitAt
+with-own-block ws b = go (ltb b 259)
+  where
+    i : ℕ
+    i = b / 64
+
+    one : (x : ℕ) → x < 2 → x ≡ cond (eqb x 1) 1 0
+    one x l = pick (same x 1)
+      where
+        pick : (x ≡ 1) ⊎ (x ≢ 1) → x ≡ cond (eqb x 1) 1 0
+        pick (inl e) = rw (eq-eqb x 1 e) e
+        pick (inr e) = rw (ne-eqb x 1 e) (omega arith)
+
+    put : (l : List ℕ) (k : ℕ) → set l k (getD l k 0) ≡ l
+    put [] k = refl
+    put (x ∷ l) zero = refl
+    put (x ∷ l) (suc k) = ap (λ (t : List ℕ). x ∷ t) (put l k)
+
+    go : (t : Bool) → cond t (set ws i (withBit (getD ws i 0) (b % 64) (cond t (eqb (bit (getD ws i 0) (b % 64)) 1) false))) ws ≡ ws
+    go true = ap (set ws i) (with-own (getD ws i 0) (b % 64) (eqb (bit (getD ws i 0) (b % 64)) 1) (one (bit (getD ws i 0) (b % 64)) (bit-lt (getD ws i 0) (b % 64)))) ∙ put ws i
+    go false = refl

@@ -2,7 +2,6 @@
 // block b is unprotected, so all blocks are protected where all words are zero. The 61 bits after block 258 are spare.
 // Every function takes any words and any number. It is not the device: nothing here says when a block is protected.
 ghost use mathlib.Core.Path.{_≡_};
-ghost use mathlib.Core.Bool.{true, false};
 ghost use Rattle.protection.specs.Words.{isUnprotected, withUnprotected, reportOf, withoutSpare, spareZero, allProtected};
 
 // The blocks of a part.
@@ -25,37 +24,21 @@ pub fn is_unprotected(words: [u64; 5], block: u32) -> bool
     (w >> (block % 64)) % 2 == 1
 }
 
-// The words with a block unprotected, or protected. One function, so that one proof serves both.
-fn with_block(words: [u64; 5], block: u32, value: bool) -> [u64; 5]
-    ensures { λ r. ⌜ r ≡ withUnprotected words block value ⌝ }
+// Unprotects a block, or protects it.
+pub fn set_block(words: &mut [u64; 5], block: u32, value: bool)
+    ensures { λ _. ⌜ now (words .exit) ≡ withUnprotected (now (words .entry)) block value ⌝ }
 {
     if block >= BLOCKS {
-        return words;
+        return;
     }
     let i = (block / 64) as usize;
     let m: u64 = 1 << (block % 64);
-    let mut next = words;
-    let w = next[i] | m;
+    let w = words[i] | m;
     if value {
-        next[i] = w;
-        return next;
+        words[i] = w;
+    } else {
+        words[i] = w ^ m;
     }
-    next[i] = w ^ m;
-    next
-}
-
-// The words with a block unprotected.
-pub fn unprotected(words: [u64; 5], block: u32) -> [u64; 5]
-    ensures { λ r. ⌜ r ≡ withUnprotected words block true ⌝ }
-{
-    with_block(words, block, true)
-}
-
-// The words with a block protected.
-pub fn protected(words: [u64; 5], block: u32) -> [u64; 5]
-    ensures { λ r. ⌜ r ≡ withUnprotected words block false ⌝ }
-{
-    with_block(words, block, false)
 }
 
 // The words with the spare bits at zero: the last word has three blocks.

@@ -1,8 +1,12 @@
 // What a read shows: the status word, the signature, the query and the word at a location (document 01, "Read, address." and "Status word.").
 // Each function takes every number: a location past the array reads 0.
 use geometry::Part;
+use semantics::Activity;
+use semantics::Flags;
 use semantics::Mode;
+use semantics::Place;
 use semantics::State;
+use semantics::View;
 ghost use mathlib.Core.Path.{_≡_};
 ghost use Prim.Native.Nat.{_≤_};
 ghost use lib.ListN.{getD};
@@ -18,12 +22,9 @@ fn bit_if(on: bool, n: u16) -> u16
 }
 
 // The status word that a read in a bank shows, SR7 first.
-pub fn status_word(s: State, bank: u32) -> u16
-    ensures { λ r. ⌜ r ≡ statusWord s bank ⌝ }
+pub fn status_word(part: Part, a: Activity, flags: Flags, bank: u32) -> u16
+    ensures { λ r. ⌜ r ≡ statusWord (geometryOf part) a flags bank ⌝ }
 {
-    let part = s.part;
-    let flags = s.flags;
-    let a = s.activity;
     let running = a.running;
     let program = a.program;
     let erase = a.erase;
@@ -49,12 +50,10 @@ fn device_code(part: Part) -> u16
     0x885f
 }
 
-// The word that a bank in signature mode shows at a location.
-pub fn signature_word(s: State, location: u32) -> u16
-    ensures { λ r. ⌜ r ≡ signatureWord s location ⌝ }
+// The word that a bank in signature mode shows at a place.
+pub fn signature_word(part: Part, v: View, location: u32) -> u16
+    ensures { λ r. ⌜ r ≡ signatureWord (geometryOf part) v location ⌝ }
 {
-    let part = s.part;
-    let words = s.unprotected;
     let offset = geometry::bank_offset(part, location);
     if offset == 0 {
         return 0x0020;
@@ -63,11 +62,10 @@ pub fn signature_word(s: State, location: u32) -> u16
         return device_code(part);
     }
     if offset == 5 {
-        return s.configuration;
+        return v.configuration;
     }
     if geometry::block_offset(part, location) == 2 {
-        let block = geometry::block_of(part, location);
-        return bit_if(!protection::is_unprotected(words, block), 0x0001);
+        return bit_if(!v.unprotected, 0x0001);
     }
     0x0000
 }
@@ -94,33 +92,32 @@ fn word_at(array: &[u16], location: u32) -> u16
     0
 }
 
-// The word that a bank in this mode shows. In array mode it is the status word while an operation runs in the bank.
-fn read_in(s: State, array: &[u16], mode: Mode, location: u32) -> u16
-    ensures { λ r. ⌜ r ≡ readIn s (now (array .entry)) mode location ⌝ }
+// The word that a read at a place shows, by the mode of the bank. In array mode it is the status word while an operation runs in the bank.
+fn read_in(part: Part, v: View, array: &[u16], p: Place) -> u16
+    ensures { λ r. ⌜ r ≡ readIn (geometryOf part) v (now (array .entry)) (v .mode) p ⌝ }
 {
-    let part = s.part;
-    let a = s.activity;
+    let a = v.activity;
     let running = a.running;
-    let bank = geometry::bank_of(part, location);
+    let flags = v.flags;
+    let mode = v.mode;
     match mode {
         Mode::Array => {
-            if operation::runs_in(part, running, bank) {
-                return status_word(s, bank);
+            if operation::runs_in(part, running, p.bank) {
+                return status_word(part, a, flags, p.bank);
             }
-            word_at(array, location)
+            word_at(array, p.location)
         }
-        Mode::Status => status_word(s, bank),
-        Mode::Signature => signature_word(s, location),
-        Mode::Query => query_word(geometry::bank_offset(part, location)),
+        Mode::Status => status_word(part, a, flags, p.bank),
+        Mode::Signature => signature_word(part, v, p.location),
+        Mode::Query => query_word(geometry::bank_offset(part, p.location)),
     }
 }
 
-// The word that a read at a location shows.
-pub fn read_word(s: State, array: &[u16], location: u32) -> u16
-    ensures { λ r. ⌜ r ≡ readWord s (now (array .entry)) location ⌝ }
+// The word that a read at an address shows.
+pub fn read_word(s: State, array: &[u16], address: u32) -> u16
+    ensures { λ r. ⌜ r ≡ readWord s (now (array .entry)) address ⌝ }
 {
     let part = s.part;
-    let bank = geometry::bank_of(part, location);
-    let mode = state::mode_of(s, bank);
-    read_in(s, array, mode, location)
+    let p = state::place_of(part, address);
+    read_in(part, state::view_at(s, p), array, p)
 }

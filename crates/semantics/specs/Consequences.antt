@@ -6,7 +6,7 @@ use mathlib.Core.Path.{_≡_, refl, sym, ap, _∙_, subst}
 use mathlib.Core.List.{List, [], _∷_}
 use mathlib.Core.Bool.{Bool, true, false, cond, not, _||_, true≢false}
 use mathlib.Core.Logic.{_⊎_, inl, inr}
-use Prim.Native.Nat.{ℕ, suc, _+_, _-_, _≤_, _<_, _%_, min}
+use Prim.Native.Nat.{ℕ, zero, suc, _+_, _-_, _≤_, _<_, _%_, min}
 use native.Mathlib.Omega.{arith}
 use lib.Dec.{ltb, leb, eqb, eqb·suc-zero}
 use lib.ListN.{length, getD, set}
@@ -16,7 +16,7 @@ use Rattle.geometry.specs.declared.Part.{Part}
 use Rattle.geometry.specs.declared.Geometry.{Geometry}
 use Rattle.geometry.specs.Blocks.{geometryOf, words, blocks, location, blockOf, bankOf, sizeOf}
 use Rattle.geometry.specs.Laws as laws
-use Rattle.protection.specs.Words.{isUnprotected}
+use Rattle.protection.specs.Laws as protection
 use Rattle.semantics.specs.declared.Setup.{Setup}
 use Rattle.semantics.specs.declared.Setup.the-variants as setup
 use Rattle.semantics.specs.declared.Running.{Running}
@@ -34,11 +34,15 @@ use Rattle.semantics.specs.declared.Step.the-variants.{Read, Write, Work
 use Rattle.semantics.specs.declared.Answer.{Answer}
 use Rattle.semantics.specs.declared.Answer.the-variants.{Word, Units, Done, Refused}
 use Rattle.semantics.specs.declared.Mode.{Mode}
-use Rattle.semantics.specs.declared.Mode.the-variants.{Array, Status, Signature, Query}
-use Rattle.semantics.specs.State.{geometry, runs, modeOf, withFlags, withActivity, withSetup, withMode, withProtection, withSupply, noFlags, joined}
+use Rattle.semantics.specs.declared.Mode.the-variants.{Array, Status}
+use Rattle.semantics.specs.declared.Place.{Place}
+use Rattle.semantics.specs.declared.View.{View}
+use Rattle.semantics.specs.State.{geometry, runs, modeIn, modeOf, withFlags, withSetup, withProtection, withSupply, noFlags, joined}
+use Rattle.semantics.specs.View as view
+use Rattle.semantics.specs.View.{placeOf, viewAt, withView, withActivity, withMode}
 use Rattle.semantics.specs.WellFormed.{pending, erasing, runningAlone, programAlone, eraseAlone, eraseFits, runningFits, allFit, activityFormed, wellFormed}
-use Rattle.semantics.specs.Writing.{commandOf, resume, accepts, setUp, clearStatus, firstCycle, programCycle, eraseCycle, lockCommandOf, lockCycle, settle, cycle, written}
-use Rattle.semantics.specs.Working.{unitsLeft, unitsDone, runningAfter, worked, workedArray}
+use Rattle.semantics.specs.Writing.{commandOf, resume, accepts, setUp, clearStatus, firstCycle, programCycle, eraseCycle, lockCommandOf, lockCycle, settle, cycle, writtenAt, written}
+use Rattle.semantics.specs.Working.{unitsLeft, unitsDone, runningAfter, workedOn, worked, workedArray}
 use Rattle.semantics.specs.Steps.{stepRefusal, stateRefusal, firstRefusal, refusalOf, next, accepted, acceptedArray, stepOf, arrayOf, numberOf, reportedOf, Machine, after, afterAll, fresh}
 use Rattle.semantics.specs.Engine.{and-true-l, and-true-r, not-true}
 use Rattle.semantics.specs.Invariant.{kept-step, state-good, step-done, count-good, count-bad, step-refused, length-kept}
@@ -116,65 +120,13 @@ reset-changes-no-word s xs = same-array s xs Reset refl
 
 -- ---- modes
 
--- the banks m have the modes of the banks l, but for that of bank k
-record Marked (k : ℕ) (l m : List Bank) : Type 0 where
-  stays : (j : ℕ) → (j ≡ k → ⊥) → (getD m j (record { mode = Array })) .mode ≡ (getD l j (record { mode = Array })) .mode
-
-marked-same : (k : ℕ) (l : List Bank) → Marked k l l
-marked-same k l = record { stays = λ j n. refl }
-
-marked-set : (k : ℕ) (m : Mode) (l : List Bank) → Marked k l (set l k (record { mode = m }))
-marked-set k m l = record { stays = λ j n. ap (λ (b : Bank). b .mode) (getD-set-other l k j (record { mode = m }) (record { mode = Array }) n) }
-
-marked-cond : (k : ℕ) (l : List Bank) (b : Bool) (x y : State) → Marked k l (x .banks) → Marked k l (y .banks) → Marked k l ((cond b x y) .banks)
-marked-cond k l true x y p q = p
-marked-cond k l false x y p q = q
-
-marked-setup : (s : State) (k : ℕ) (c : Setup) → Marked k (s .banks) (setUp s k c .banks)
-unfolding setUp
-marked-setup s k c = marked-cond k (s .banks) (accepts (s .activity) c) _ _ (marked-set k Status (s .banks)) (marked-same k (s .banks))
-
-marked-first : (s : State) (k : ℕ) (c : Command) → Marked k (s .banks) (firstCycle s k c .banks)
-unfolding firstCycle clearStatus
-marked-first s k command.ReadArray = marked-set k Array (s .banks)
-marked-first s k command.ReadStatus = marked-set k Status (s .banks)
-marked-first s k command.ReadSignature = marked-set k Signature (s .banks)
-marked-first s k command.ReadQuery = marked-set k Query (s .banks)
-marked-first s k command.Suspend = marked-same k (s .banks)
-marked-first s k command.Resume = marked-same k (s .banks)
-marked-first s k command.ClearStatus = marked-cond k (s .banks) (runs (s .activity .running)) _ _ (marked-same k (s .banks)) (marked-same k (s .banks))
-marked-first s k command.SetUpProgram = marked-setup s k setup.Program
-marked-first s k command.SetUpErase = marked-setup s k setup.Erase
-marked-first s k command.SetUpLock = marked-setup s k setup.Lock
-marked-first s k command.Unknown = marked-same k (s .banks)
-
-marked-lock : (s : State) (k b a : ℕ) (c : LockCommand) → Marked k (s .banks) (lockCycle (settle s k) b a c .banks)
-unfolding lockCycle settle
-marked-lock s k b a lock.Protect = marked-set k Status (s .banks)
-marked-lock s k b a lock.Unprotect = marked-set k Status (s .banks)
-marked-lock s k b a lock.Configure = marked-set k Status (s .banks)
-marked-lock s k b a lock.Unknown = marked-set k Status (s .banks)
-
-marked-cycle : (s : State) (c : Setup) (l a w : ℕ) → Marked (bankOf (geometry s) l) (s .banks) (cycle s c l a w .banks)
-unfolding cycle programCycle eraseCycle settle
-marked-cycle s setup.Nothing l a w = marked-first s _ (commandOf (w % 256))
-marked-cycle s setup.Program l a w =
-    marked-cond _ (s .banks) (not (s .supply)) _ _ (marked-set _ Status (s .banks))
-    (marked-cond _ (s .banks) (not (isUnprotected (s .unprotected) (blockOf (geometry s) l))) _ _ (marked-set _ Status (s .banks))
-    (marked-cond _ (s .banks) (erasing (s .activity .erase) (blockOf (geometry s) l)) _ _ (marked-set _ Status (s .banks)) (marked-set _ Status (s .banks))))
-marked-cycle s setup.Erase l a w =
-    marked-cond _ (s .banks) (not (eqb (w % 256) 0xD0)) _ _ (marked-set _ Status (s .banks))
-    (marked-cond _ (s .banks) (not (s .supply)) _ _ (marked-set _ Status (s .banks))
-    (marked-cond _ (s .banks) (not (isUnprotected (s .unprotected) (blockOf (geometry s) l))) _ _ (marked-set _ Status (s .banks)) (marked-set _ Status (s .banks))))
-marked-cycle s setup.Lock l a w = marked-lock s _ _ a (lockCommandOf (w % 256))
-
 -- "the addressed bank's mode becomes ..", "puts the bank of its own address in status mode": a write changes no mode but that of the addressed bank
 pub modes-stay : (s : State) (xs : List ℕ) (a w k : ℕ) → (k ≡ bankOf (geometry s) (location (geometry s) a) → ⊥) → modeOf (stepOf s xs (Write a w) .state) k ≡ modeOf s k
-unfolding stepOf accepted written
+unfolding stepOf accepted written writtenAt
 modes-stay s xs a w k n = go (eqb (refusalOf s (length xs) (Write a w)) 0)
   where
     go : (b : Bool) → modeOf ((cond b (accepted s xs (Write a w)) (next s (Refused (refusalOf s (length xs) (Write a w))))) .state) k ≡ modeOf s k
-    go true = marked-cycle s (s .activity .setup) (location (geometry s) a) a w .stays k n
+    go true = ap (λ (b : Bank). b .mode) (getD-set-other (s .banks) (bankOf (geometry s) (location (geometry s) a)) k _ (record { mode = Array }) n)
     go false = refl
 
 -- the first cycles that change a mode: FFh, 70h, 90h, 98h, and a set-up that is accepted
@@ -191,43 +143,55 @@ ChangesMode x command.SetUpErase = accepts x setup.Erase ≡ true
 ChangesMode x command.SetUpLock = accepts x setup.Lock ≡ true
 ChangesMode x command.Unknown = ⊥
 
-banks-cond : (b : Bool) (l : List Bank) (x y : State) → x .banks ≡ l → y .banks ≡ l → (cond b x y) .banks ≡ l
-banks-cond true l x y p q = p
-banks-cond false l x y p q = q
+mode-cond : (b : Bool) (m : Mode) (x y : View) → x .mode ≡ m → y .mode ≡ m → (cond b x y) .mode ≡ m
+mode-cond true m x y p q = p
+mode-cond false m x y p q = q
 
-banks-setup : (s : State) (k : ℕ) (c : Setup) → (accepts (s .activity) c ≡ true → ⊥) → setUp s k c .banks ≡ s .banks
+mode-setup : (v : View) (c : Setup) → (accepts (v .activity) c ≡ true → ⊥) → setUp v c .mode ≡ v .mode
 unfolding setUp
-banks-setup s k c n = go (accepts (s .activity) c) refl
+mode-setup v c n = go (accepts (v .activity) c) refl
   where
-    go : (b : Bool) → accepts (s .activity) c ≡ b → (cond b (withMode (withActivity s (withSetup (s .activity) c)) k Status) s) .banks ≡ s .banks
+    go : (b : Bool) → accepts (v .activity) c ≡ b → (cond b (withMode (withActivity v (withSetup (v .activity) c)) Status) v) .mode ≡ v .mode
     go true e = absurd (n e)
     go false e = refl
 
-banks-first : (s : State) (k : ℕ) (c : Command) → (ChangesMode (s .activity) c → ⊥) → firstCycle s k c .banks ≡ s .banks
+mode-first : (v : View) (c : Command) → (ChangesMode (v .activity) c → ⊥) → firstCycle v c .mode ≡ v .mode
 unfolding firstCycle clearStatus
-banks-first s k command.ReadArray n = absurd (n tt)
-banks-first s k command.ReadStatus n = absurd (n tt)
-banks-first s k command.ReadSignature n = absurd (n tt)
-banks-first s k command.ReadQuery n = absurd (n tt)
-banks-first s k command.Suspend n = refl
-banks-first s k command.Resume n = refl
-banks-first s k command.ClearStatus n = banks-cond (runs (s .activity .running)) _ _ _ refl refl
-banks-first s k command.SetUpProgram n = banks-setup s k setup.Program n
-banks-first s k command.SetUpErase n = banks-setup s k setup.Erase n
-banks-first s k command.SetUpLock n = banks-setup s k setup.Lock n
-banks-first s k command.Unknown n = refl
+mode-first v command.ReadArray n = absurd (n tt)
+mode-first v command.ReadStatus n = absurd (n tt)
+mode-first v command.ReadSignature n = absurd (n tt)
+mode-first v command.ReadQuery n = absurd (n tt)
+mode-first v command.Suspend n = refl
+mode-first v command.Resume n = refl
+mode-first v command.ClearStatus n = mode-cond (runs (v .activity .running)) _ _ _ refl refl
+mode-first v command.SetUpProgram n = mode-setup v setup.Program n
+mode-first v command.SetUpErase n = mode-setup v setup.Erase n
+mode-first v command.SetUpLock n = mode-setup v setup.Lock n
+mode-first v command.Unknown n = refl
+
+-- a bank that is given the mode that it has
+bank-same : (l : List Bank) (k : ℕ) → set l k (record { mode = modeIn l k }) ≡ l
+bank-same [] k = refl
+bank-same (x ∷ l) zero = refl
+bank-same (x ∷ l) (suc k) = ap (λ (t : List Bank). x ∷ t) (bank-same l k)
+
+-- a view that is put back as it was changes nothing
+pub view-back : (s : State) (p : Place) → withView s p (viewAt s p) ≡ s
+view-back s p = rw (bank-same (s .banks) (p .bank), protection.with-own-block (s .unprotected) (p .block))
 
 -- "no other write but FFh, 70h, 90h and 98h changes a mode": with no set-up pending, B0h, D0h, 50h, a set-up that is not accepted and any other command change none
 pub modes-all-stay : (s : State) (xs : List ℕ) (a w : ℕ) → s .activity .setup ≡ setup.Nothing → (ChangesMode (s .activity) (commandOf (w % 256)) → ⊥)
     → stepOf s xs (Write a w) .state .banks ≡ s .banks
-unfolding stepOf accepted written cycle
+unfolding stepOf accepted written writtenAt cycle
 modes-all-stay s xs a w e n = go (eqb (refusalOf s (length xs) (Write a w)) 0)
   where
-    l : ℕ
-    l = location (geometry s) a
+    p : Place
+    p = placeOf (geometry s) a
 
     go : (b : Bool) → (cond b (accepted s xs (Write a w)) (next s (Refused (refusalOf s (length xs) (Write a w))))) .state .banks ≡ s .banks
-    go true = ap (λ (c : Setup). cycle s c l a w .banks) e ∙ banks-first s (bankOf (geometry s) l) (commandOf (w % 256)) n
+    go true =
+        ap (λ (m : Mode). set (s .banks) (p .bank) (record { mode = m })) (ap (λ (c : Setup). cycle (viewAt s p) c p w .mode) e ∙ mode-first (viewAt s p) (commandOf (w % 256)) n)
+        ∙ bank-same (s .banks) (p .bank)
     go false = refl
 
 -- ---- work
@@ -236,15 +200,15 @@ modes-all-stay s xs a w e n = go (eqb (refusalOf s (length xs) (Write a w)) 0)
 pub work-looks-at-neither : (s : State) (on : Bool) (ws : List ℕ) (n : ℕ) (xs : List ℕ)
     → (workedArray (withSupply s on) n xs ≡ workedArray s n xs) × (accepted (withSupply s on) xs (Work n) ≡ next (withSupply (worked s n) on) (accepted s xs (Work n) .answer))
     × (workedArray (withProtection s ws) n xs ≡ workedArray s n xs) × (accepted (withProtection s ws) xs (Work n) ≡ next (withProtection (worked s n) ws) (accepted s xs (Work n) .answer))
-unfolding workedArray worked accepted
+unfolding workedArray workedOn worked accepted
 work-looks-at-neither s on ws n xs = (refl, refl, refl, refl)
 
 -- "Protecting a block whose erase is suspended does not stop that erase when resumed.": nor does supply off
-pub resume-looks-at-neither : (s : State) (on : Bool) (ws : List ℕ) (k : ℕ)
-    → (firstCycle (withSupply s on) k command.Resume ≡ withSupply (firstCycle s k command.Resume) on)
-    × (firstCycle (withProtection s ws) k command.Resume ≡ withProtection (firstCycle s k command.Resume) ws)
+pub resume-looks-at-neither : (v : View) (on u : Bool)
+    → (firstCycle (view.withSupply v on) command.Resume ≡ view.withSupply (firstCycle v command.Resume) on)
+    × (firstCycle (view.withProtection v u) command.Resume ≡ view.withProtection (firstCycle v command.Resume) u)
 unfolding firstCycle
-resume-looks-at-neither s on ws k = (refl, refl)
+resume-looks-at-neither v on u = (refl, refl)
 
 -- ---- flags
 
@@ -270,34 +234,34 @@ stay-joined f g h e = record {
   sr1 = λ k. ap (λ (i : Flags). i .sr1) e ∙ or-left (f .sr1) (g .sr1) k;
 }
 
-stay-cond : (f : Flags) (b : Bool) (x y : State) → Stay f (x .flags) → Stay f (y .flags) → Stay f ((cond b x y) .flags)
+stay-cond : (f : Flags) (b : Bool) (x y : View) → Stay f (x .flags) → Stay f (y .flags) → Stay f ((cond b x y) .flags)
 stay-cond f true x y p q = p
 stay-cond f false x y p q = q
 
-stay-setup : (s : State) (k : ℕ) (c : Setup) → Stay (s .flags) (setUp s k c .flags)
+stay-setup : (v : View) (c : Setup) → Stay (v .flags) (setUp v c .flags)
 unfolding setUp
-stay-setup s k c = stay-cond (s .flags) (accepts (s .activity) c) (withMode (withActivity s (withSetup (s .activity) c)) k Status) s (stay-same _ _ refl) (stay-same _ _ refl)
+stay-setup v c = stay-cond (v .flags) (accepts (v .activity) c) (withMode (withActivity v (withSetup (v .activity) c)) Status) v (stay-same _ _ refl) (stay-same _ _ refl)
 
-stay-first : (s : State) (k : ℕ) (c : Command) → (c ≡ command.ClearStatus → ⊥) → Stay (s .flags) (firstCycle s k c .flags)
+stay-first : (v : View) (c : Command) → (c ≡ command.ClearStatus → ⊥) → Stay (v .flags) (firstCycle v c .flags)
 unfolding firstCycle
-stay-first s k command.ReadArray n = stay-same _ _ refl
-stay-first s k command.ReadStatus n = stay-same _ _ refl
-stay-first s k command.ReadSignature n = stay-same _ _ refl
-stay-first s k command.ReadQuery n = stay-same _ _ refl
-stay-first s k command.Suspend n = stay-same _ _ refl
-stay-first s k command.Resume n = stay-same _ _ refl
-stay-first s k command.ClearStatus n = absurd (n refl)
-stay-first s k command.SetUpProgram n = stay-setup s k setup.Program
-stay-first s k command.SetUpErase n = stay-setup s k setup.Erase
-stay-first s k command.SetUpLock n = stay-setup s k setup.Lock
-stay-first s k command.Unknown n = stay-same _ _ refl
+stay-first v command.ReadArray n = stay-same _ _ refl
+stay-first v command.ReadStatus n = stay-same _ _ refl
+stay-first v command.ReadSignature n = stay-same _ _ refl
+stay-first v command.ReadQuery n = stay-same _ _ refl
+stay-first v command.Suspend n = stay-same _ _ refl
+stay-first v command.Resume n = stay-same _ _ refl
+stay-first v command.ClearStatus n = absurd (n refl)
+stay-first v command.SetUpProgram n = stay-setup v setup.Program
+stay-first v command.SetUpErase n = stay-setup v setup.Erase
+stay-first v command.SetUpLock n = stay-setup v setup.Lock
+stay-first v command.Unknown n = stay-same _ _ refl
 
-stay-lock : (s : State) (k b a : ℕ) (c : LockCommand) → Stay (s .flags) (lockCycle (settle s k) b a c .flags)
+stay-lock : (v : View) (p : Place) (c : LockCommand) → Stay (v .flags) (lockCycle (settle v) p c .flags)
 unfolding lockCycle settle
-stay-lock s k b a lock.Protect = stay-same _ _ refl
-stay-lock s k b a lock.Unprotect = stay-same _ _ refl
-stay-lock s k b a lock.Configure = stay-same _ _ refl
-stay-lock s k b a lock.Unknown = stay-joined _ _ _ refl
+stay-lock v p lock.Protect = stay-same _ _ refl
+stay-lock v p lock.Unprotect = stay-same _ _ refl
+stay-lock v p lock.Configure = stay-same _ _ refl
+stay-lock v p lock.Unknown = stay-joined _ _ _ refl
 
 -- the write is 50h with no set-up pending
 abbrev pub ClearCommand : Setup → ℕ → Type 0
@@ -306,18 +270,16 @@ ClearCommand setup.Program w = ⊥
 ClearCommand setup.Erase w = ⊥
 ClearCommand setup.Lock w = ⊥
 
-stay-cycle : (s : State) (c : Setup) (l a w : ℕ) → (ClearCommand c w → ⊥) → Stay (s .flags) (cycle s c l a w .flags)
+stay-cycle : (v : View) (c : Setup) (p : Place) (w : ℕ) → (ClearCommand c w → ⊥) → Stay (v .flags) (cycle v c p w .flags)
 unfolding cycle programCycle eraseCycle settle
-stay-cycle s setup.Nothing l a w n = stay-first s _ (commandOf (w % 256)) n
-stay-cycle s setup.Program l a w n =
-    stay-cond _ (not (s .supply)) _ _ (stay-joined _ _ _ refl)
-    (stay-cond _ (not (isUnprotected (s .unprotected) (blockOf (geometry s) l))) _ _ (stay-joined _ _ _ refl)
-    (stay-cond _ (erasing (s .activity .erase) (blockOf (geometry s) l)) _ _ (stay-joined _ _ _ refl) (stay-same _ _ refl)))
-stay-cycle s setup.Erase l a w n =
+stay-cycle v setup.Nothing p w n = stay-first v (commandOf (w % 256)) n
+stay-cycle v setup.Program p w n =
+    stay-cond _ (not (v .supply)) _ _ (stay-joined _ _ _ refl)
+    (stay-cond _ (not (v .unprotected)) _ _ (stay-joined _ _ _ refl) (stay-cond _ (erasing (v .activity .erase) (p .block)) _ _ (stay-joined _ _ _ refl) (stay-same _ _ refl)))
+stay-cycle v setup.Erase p w n =
     stay-cond _ (not (eqb (w % 256) 0xD0)) _ _ (stay-joined _ _ _ refl)
-    (stay-cond _ (not (s .supply)) _ _ (stay-joined _ _ _ refl)
-    (stay-cond _ (not (isUnprotected (s .unprotected) (blockOf (geometry s) l))) _ _ (stay-joined _ _ _ refl) (stay-same _ _ refl)))
-stay-cycle s setup.Lock l a w n = stay-lock s _ _ a _
+    (stay-cond _ (not (v .supply)) _ _ (stay-joined _ _ _ refl) (stay-cond _ (not (v .unprotected)) _ _ (stay-joined _ _ _ refl) (stay-same _ _ refl)))
+stay-cycle v setup.Lock p w n = stay-lock v p _
 
 -- the step may clear the flags: a reset, or 50h with no set-up pending. (Refused, neither does; nor does 50h while something runs.)
 abbrev pub MayClear : State → Step → Type 0
@@ -328,9 +290,9 @@ MayClear s (Supply on) = ⊥
 MayClear s Reset = Unit {0}
 
 stay-accepted : (s : State) (xs : List ℕ) (x : Step) → (MayClear s x → ⊥) → Stay (s .flags) (accepted s xs x .state .flags)
-unfolding accepted written worked
+unfolding accepted written writtenAt workedOn worked
 stay-accepted s xs (Read a) n = stay-same _ _ refl
-stay-accepted s xs (Write a w) n = stay-cycle s (s .activity .setup) _ a w n
+stay-accepted s xs (Write a w) n = stay-cycle (viewAt s (placeOf (geometry s) a)) (s .activity .setup) (placeOf (geometry s) a) w n
 stay-accepted s xs (Work k) n = stay-same _ _ refl
 stay-accepted s xs (Supply on) n = stay-same _ _ refl
 stay-accepted s xs Reset n = absurd (n tt)
@@ -346,55 +308,55 @@ flags-stay s xs x n = go (eqb (refusalOf s (length xs) x) 0)
 
 -- ---- ".. and never block a later command."
 
--- a state but for its flags
+-- a state, and a view, but for its flags
 abbrev pub unflagged : State → State
 unflagged s = withFlags s noFlags
 
-alike-cond : (b : Bool) (x y u v : State) → unflagged x ≡ unflagged u → unflagged y ≡ unflagged v → unflagged (cond b x y) ≡ unflagged (cond b u v)
+abbrev unflaggedView : View → View
+unflaggedView v = view.withFlags v noFlags
+
+alike-cond : (b : Bool) (x y u v : View) → unflaggedView x ≡ unflaggedView u → unflaggedView y ≡ unflaggedView v → unflaggedView (cond b x y) ≡ unflaggedView (cond b u v)
 alike-cond true x y u v p q = p
 alike-cond false x y u v p q = q
 
-alike-setup : (s : State) (f : Flags) (k : ℕ) (c : Setup) → unflagged (setUp (withFlags s f) k c) ≡ unflagged (setUp s k c)
+alike-setup : (v : View) (f : Flags) (c : Setup) → unflaggedView (setUp (view.withFlags v f) c) ≡ unflaggedView (setUp v c)
 unfolding setUp
-alike-setup s f k c = alike-cond (accepts (s .activity) c) _ _ _ _ refl refl
+alike-setup v f c = alike-cond (accepts (v .activity) c) _ _ _ _ refl refl
 
-alike-first : (s : State) (f : Flags) (k : ℕ) (c : Command) → unflagged (firstCycle (withFlags s f) k c) ≡ unflagged (firstCycle s k c)
+alike-first : (v : View) (f : Flags) (c : Command) → unflaggedView (firstCycle (view.withFlags v f) c) ≡ unflaggedView (firstCycle v c)
 unfolding firstCycle clearStatus
-alike-first s f k command.ReadArray = refl
-alike-first s f k command.ReadStatus = refl
-alike-first s f k command.ReadSignature = refl
-alike-first s f k command.ReadQuery = refl
-alike-first s f k command.Suspend = refl
-alike-first s f k command.Resume = refl
-alike-first s f k command.ClearStatus = alike-cond (runs (s .activity .running)) _ _ _ _ refl refl
-alike-first s f k command.SetUpProgram = alike-setup s f k setup.Program
-alike-first s f k command.SetUpErase = alike-setup s f k setup.Erase
-alike-first s f k command.SetUpLock = alike-setup s f k setup.Lock
-alike-first s f k command.Unknown = refl
+alike-first v f command.ReadArray = refl
+alike-first v f command.ReadStatus = refl
+alike-first v f command.ReadSignature = refl
+alike-first v f command.ReadQuery = refl
+alike-first v f command.Suspend = refl
+alike-first v f command.Resume = refl
+alike-first v f command.ClearStatus = alike-cond (runs (v .activity .running)) _ _ _ _ refl refl
+alike-first v f command.SetUpProgram = alike-setup v f setup.Program
+alike-first v f command.SetUpErase = alike-setup v f setup.Erase
+alike-first v f command.SetUpLock = alike-setup v f setup.Lock
+alike-first v f command.Unknown = refl
 
-alike-lock : (s : State) (f : Flags) (k b a : ℕ) (c : LockCommand) → unflagged (lockCycle (settle (withFlags s f) k) b a c) ≡ unflagged (lockCycle (settle s k) b a c)
+alike-lock : (v : View) (f : Flags) (p : Place) (c : LockCommand) → unflaggedView (lockCycle (settle (view.withFlags v f)) p c) ≡ unflaggedView (lockCycle (settle v) p c)
 unfolding lockCycle settle
-alike-lock s f k b a lock.Protect = refl
-alike-lock s f k b a lock.Unprotect = refl
-alike-lock s f k b a lock.Configure = refl
-alike-lock s f k b a lock.Unknown = refl
+alike-lock v f p lock.Protect = refl
+alike-lock v f p lock.Unprotect = refl
+alike-lock v f p lock.Configure = refl
+alike-lock v f p lock.Unknown = refl
 
-alike-cycle : (s : State) (f : Flags) (c : Setup) (l a w : ℕ) → unflagged (cycle (withFlags s f) c l a w) ≡ unflagged (cycle s c l a w)
+alike-cycle : (v : View) (f : Flags) (c : Setup) (p : Place) (w : ℕ) → unflaggedView (cycle (view.withFlags v f) c p w) ≡ unflaggedView (cycle v c p w)
 unfolding cycle programCycle eraseCycle settle
-alike-cycle s f setup.Nothing l a w = alike-first s f _ (commandOf (w % 256))
-alike-cycle s f setup.Program l a w =
-    alike-cond (not (s .supply)) _ _ _ _ refl
-    (alike-cond (not (isUnprotected (s .unprotected) (blockOf (geometry s) l))) _ _ _ _ refl
-    (alike-cond (erasing (s .activity .erase) (blockOf (geometry s) l)) _ _ _ _ refl refl))
-alike-cycle s f setup.Erase l a w =
-    alike-cond (not (eqb (w % 256) 0xD0)) _ _ _ _ refl
-    (alike-cond (not (s .supply)) _ _ _ _ refl (alike-cond (not (isUnprotected (s .unprotected) (blockOf (geometry s) l))) _ _ _ _ refl refl))
-alike-cycle s f setup.Lock l a w = alike-lock s f _ _ a (lockCommandOf (w % 256))
+alike-cycle v f setup.Nothing p w = alike-first v f (commandOf (w % 256))
+alike-cycle v f setup.Program p w =
+    alike-cond (not (v .supply)) _ _ _ _ refl (alike-cond (not (v .unprotected)) _ _ _ _ refl (alike-cond (erasing (v .activity .erase) (p .block)) _ _ _ _ refl refl))
+alike-cycle v f setup.Erase p w =
+    alike-cond (not (eqb (w % 256) 0xD0)) _ _ _ _ refl (alike-cond (not (v .supply)) _ _ _ _ refl (alike-cond (not (v .unprotected)) _ _ _ _ refl refl))
+alike-cycle v f setup.Lock p w = alike-lock v f p (lockCommandOf (w % 256))
 
 alike-accepted : (s : State) (f : Flags) (xs : List ℕ) (x : Step) → unflagged (accepted (withFlags s f) xs x .state) ≡ unflagged (accepted s xs x .state)
-unfolding accepted written worked
+unfolding accepted written writtenAt workedOn worked
 alike-accepted s f xs (Read a) = refl
-alike-accepted s f xs (Write a w) = alike-cycle s f (s .activity .setup) _ a w
+alike-accepted s f xs (Write a w) = let p : Place = placeOf (geometry s) a in ap (withView s p) (alike-cycle (viewAt s p) f (s .activity .setup) p w)
 alike-accepted s f xs (Work n) = refl
 alike-accepted s f xs (Supply on) = refl
 alike-accepted s f xs Reset = refl
@@ -606,35 +568,35 @@ only-B0 c n =
     (either-not (eqb c 0xD0) _ _ refl (either-not (eqb c 0x50) _ _ refl (either-not (eqb c 0x10) _ _ refl (either-not (eqb c 0x40) _ _ refl
     (either-not (eqb c 0x60) _ _ refl (either-not (eqb c 0x20) _ _ refl refl))))))))))
 
-running-cond : (b : Bool) (r : Running) (x y : State) → x .activity .running ≡ r → y .activity .running ≡ r → (cond b x y) .activity .running ≡ r
+running-cond : (b : Bool) (r : Running) (x y : View) → x .activity .running ≡ r → y .activity .running ≡ r → (cond b x y) .activity .running ≡ r
 running-cond true r x y p q = p
 running-cond false r x y p q = q
 
-running-setup : (s : State) (k : ℕ) (c : Setup) → setUp s k c .activity .running ≡ s .activity .running
+running-setup : (v : View) (c : Setup) → setUp v c .activity .running ≡ v .activity .running
 unfolding setUp
-running-setup s k c = running-cond (accepts (s .activity) c) _ _ _ refl refl
+running-setup v c = running-cond (accepts (v .activity) c) _ _ _ refl refl
 
 -- while something runs, every command but B0h leaves it running
-running-first : (s : State) (k : ℕ) (c : Command) → isSuspend c ≡ false → runs (s .activity .running) ≡ true → firstCycle s k c .activity .running ≡ s .activity .running
+running-first : (v : View) (c : Command) → isSuspend c ≡ false → runs (v .activity .running) ≡ true → firstCycle v c .activity .running ≡ v .activity .running
 unfolding firstCycle clearStatus resume
-running-first s k command.ReadArray n r = refl
-running-first s k command.ReadStatus n r = refl
-running-first s k command.ReadSignature n r = refl
-running-first s k command.ReadQuery n r = refl
-running-first s k command.Suspend n r = absurd (true≢false n)
-running-first s k command.Resume n r = rw r
-running-first s k command.ClearStatus n r = running-cond (runs (s .activity .running)) _ _ _ refl refl
-running-first s k command.SetUpProgram n r = running-setup s k setup.Program
-running-first s k command.SetUpErase n r = running-setup s k setup.Erase
-running-first s k command.SetUpLock n r = running-setup s k setup.Lock
-running-first s k command.Unknown n r = refl
+running-first v command.ReadArray n r = refl
+running-first v command.ReadStatus n r = refl
+running-first v command.ReadSignature n r = refl
+running-first v command.ReadQuery n r = refl
+running-first v command.Suspend n r = absurd (true≢false n)
+running-first v command.Resume n r = rw r
+running-first v command.ClearStatus n r = running-cond (runs (v .activity .running)) _ _ _ refl refl
+running-first v command.SetUpProgram n r = running-setup v setup.Program
+running-first v command.SetUpErase n r = running-setup v setup.Erase
+running-first v command.SetUpLock n r = running-setup v setup.Lock
+running-first v command.Unknown n r = refl
 
 running-written : (s : State) (a w : ℕ) → wellFormed s ≡ true → runs (s .activity .running) ≡ true → (w % 256 ≡ 0xB0 → ⊥) → written s a w .activity .running ≡ s .activity .running
-unfolding written cycle
+unfolding written writtenAt cycle
 running-written s a w f r n =
-    let l : ℕ = location (geometry s) a in
-    ap (λ (c : Setup). cycle s c l a w .activity .running) (no-setup (s .activity) (formed-alone s f) r)
-    ∙ running-first s (bankOf (geometry s) l) (commandOf (w % 256)) (only-B0 (w % 256) n) r
+    let p : Place = placeOf (geometry s) a in
+    ap (λ (c : Setup). cycle (viewAt s p) c p w .activity .running) (no-setup (s .activity) (formed-alone s f) r)
+    ∙ running-first (viewAt s p) (commandOf (w % 256)) (only-B0 (w % 256) n) r
 
 -- ---- one step, and a list of them
 
@@ -649,7 +611,7 @@ module _ (s : State) (xs : List ℕ) (formed : wellFormed s ≡ true) (good : st
   none-told n h = omega arith
 
   moves-work : (n : ℕ) → (65535 < n) ⊎ (n ≤ 65535) → Moves s xs (Work n) (offered (Work n))
-  unfolding stepRefusal accepted worked
+  unfolding stepRefusal accepted workedOn worked
   moves-work n (inl h) =
       let e = step-refused s xs good (Work n) 3 (count-bad n h) in
       subst (λ (k : ℕ). Moves s xs (Work n) k) (sym (ap (λ (b : Bool). cond b n 0) (lt-leb n 65535 h)))

@@ -33,10 +33,14 @@ use Rattle.semantics.specs.declared.State.{State}
 use Rattle.semantics.specs.declared.Step.{Step}
 use Rattle.semantics.specs.declared.Step.the-variants.{Read, Write, Work, Supply, Reset}
 use Rattle.semantics.specs.Numbers.{within, within-in, within-out}
-use Rattle.semantics.specs.State.{geometry, withActivity, withSupply, withSetup, withRunning, activity, runs, programSuspended, eraseSuspended, powerUp}
+use Rattle.semantics.specs.declared.Place.{Place}
+use Rattle.semantics.specs.declared.View.{View}
+use Rattle.semantics.specs.State as state
+use Rattle.semantics.specs.State.{activity, runs, programSuspended, eraseSuspended}
+use Rattle.semantics.specs.View.{placeOf, viewAt, withView, withActivity}
 use Rattle.semantics.specs.WellFormed.{erasing}
 use Rattle.semantics.specs.Writing as writing
-use Rattle.semantics.specs.Writing.{commandOf, suspended, resumedErase, resumed, resume, accepts, setUp, clearStatus, firstCycle, programCycle, eraseCycle, lockCommandOf, lockCycle, settle, written}
+use Rattle.semantics.specs.Writing.{commandOf, suspended, resumedErase, resumed, resume, accepts, setUp, clearStatus, firstCycle, programCycle, eraseCycle, lockCommandOf, lockCycle, settle, writtenAt}
 use Rattle.semantics.specs.Working.{unitsLeft, unitsDone, runningAfter, wordAfter, worked}
 use Rattle.semantics.specs.Entries.{Live, live, anyLive}
 use Rattle.semantics.specs.Recorder as recorder
@@ -246,119 +250,160 @@ module _ (g : Geometry) where
   follows-cond true v u s x y f h = f refl
   follows-cond false v u s x y f h = h refl
 
-  -- a state with these under way: every state is one, by its own
-  abbrev at : State → Setup → Running → SuspendedProgram → SuspendedErase → State
-  at s c r p e = withActivity s (activity c r p e)
+  -- ---- at a place
 
-  follows-suspend : (s : State) (r : Running) (p : SuspendedProgram) (e : SuspendedErase) → Together r p e
-      → Follows (cond (runs r) suspend nothing) (at s setup.Nothing r p e) (withActivity s (suspended (activity setup.Nothing r p e) r))
-  follows-suspend s running.Idle p e m = (refl, refl, λ m. refl)
-  follows-suspend s (running.Program l w) program.Nothing e m = (refl, refl, λ m. refl)
-  follows-suspend s (running.Program l w) (program.Program k v) e m = absurd m
-  follows-suspend s (running.Erase b n) program.Nothing erase.Nothing m = (refl, refl, λ m. refl)
-  follows-suspend s (running.Erase b n) program.Nothing (erase.Erase c k) m = absurd m
-  follows-suspend s (running.Erase b n) (program.Program k v) e m = absurd m
+  module _ (s : State) (p : Place) where
+    -- what the recorder would see of the state with this view at the place
+    abbrev seen : View → Conditions
+    seen x = record { supply = x .supply; unprotected = λ c. cond (eqb c (p .block)) (x .unprotected) (isUnprotected (s .unprotected) c); setup = setupOf (x .activity .setup) }
 
-  follows-resume : (s : State) (r : Running) (p : SuspendedProgram) (e : SuspendedErase)
-      → Follows (cond (runs r) nothing (cond (held? (viewOf r p e) isProgram) resume-program (cond (held? (viewOf r p e) isErase) resume-erase nothing)))
-      (at s setup.Nothing r p e) (withActivity s (resume (activity setup.Nothing r p e)))
-  unfolding resume
-  follows-resume s running.Idle (program.Program l w) e = (refl, refl, λ m. refl)
-  follows-resume s running.Idle program.Nothing erase.Nothing = (refl, refl, λ m. refl)
-  follows-resume s running.Idle program.Nothing (erase.Erase b n) = (refl, refl, λ m. refl)
-  follows-resume s (running.Program l w) p e = (refl, refl, λ m. refl)
-  follows-resume s (running.Erase b n) p e = (refl, refl, λ m. refl)
+    -- the same of a view: y is what the event v makes of x
+    abbrev FollowsAt : Event → View → View → Type 0
+    FollowsAt v x y = (seen y ≡ conditions-after v (seen x)) × (view (y .activity) ≡ engine-after g v (view (x .activity))) × ((m : ℕ → ℕ) → words-after g v (view (x .activity)) m ≡ m)
 
-  follows-clear : (s : State) (b : Bool) (t : State) → conditions t ≡ conditions s → view (t .activity) ≡ view (s .activity) → Follows nothing s (cond b s t)
-  follows-clear s true t x y = (refl, refl, λ m. refl)
-  follows-clear s false t x y = (x, y, λ m. refl)
+    seen-own : conditions s ≡ seen (viewAt s p)
+    seen-own = ap (λ (u : ℕ → Bool). record { supply = s .supply; unprotected = u; setup = setupOf (s .activity .setup) }) (fun-ext (λ c. go c (eqb c (p .block)) refl))
+      where
+        go : (c : ℕ) (b : Bool) → eqb c (p .block) ≡ b → isUnprotected (s .unprotected) c ≡ cond b (isUnprotected (s .unprotected) (p .block)) (isUnprotected (s .unprotected) c)
+        go c true e = ap (isUnprotected (s .unprotected)) (eqb-true c (p .block) e)
+        go c false e = refl
 
-  -- a set-up is accepted by the device exactly where the recorder begins it
-  follows-setup : (s : State) (k : ℕ) (c : Setup) (d : recorder.Setup) → setupOf c ≡ d → (b : Bool) → accepts (s .activity) c ≡ not b
-      → Follows (cond b nothing (setup-is d)) s (setUp s k c)
-  unfolding setUp
-  follows-setup s k c d z true e = rw e (refl, refl, λ m. refl)
-  follows-setup s k c d z false e = rw e (ap (λ (i : recorder.Setup). record { supply = s .supply; unprotected = λ b. isUnprotected (s .unprotected) b; setup = i }) z, refl, λ m. refl)
+    seen-put : length (s .unprotected) ≡ 5 → p .block < 259 → (y : View) → conditions (withView s p y) ≡ seen y
+    seen-put h i y =
+        ap (λ (u : ℕ → Bool). record { supply = y .supply; unprotected = u; setup = setupOf (y .activity .setup) }) (fun-ext (λ c. protection.with-each (s .unprotected) (p .block) c (y .unprotected) h i))
 
-  not-or : (a b : Bool) → (not a && not b) ≡ not (a || b)
-  not-or true b = refl
-  not-or false b = refl
+    -- what is put back at the place follows where the view does
+    follows-put : length (s .unprotected) ≡ 5 → p .block < 259 → (v : Event) (y : View) → FollowsAt v (viewAt s p) y → Follows v s (withView s p y)
+    follows-put h i v y f = (seen-put h i y ∙ f .0 ∙ ap (conditions-after v) (sym seen-own), f .1, f .2)
 
-  not-or₃ : (a b c : Bool) → (not a && (not b && not c)) ≡ not (a || (b || c))
-  not-or₃ true b c = refl
-  not-or₃ false true c = refl
-  not-or₃ false false c = refl
+    -- a view with these under way: every view is one, by its own
+    abbrev at : View → Setup → Running → SuspendedProgram → SuspendedErase → View
+    at x c r q e = withActivity x (activity c r q e)
 
-  follows-first : (s : State) (r : Running) (p : SuspendedProgram) (e : SuspendedErase) → Together r p e → (k : ℕ) (c : Command)
-      → Follows (first-cycle g (conditions (at s setup.Nothing r p e)) (runs r) (held? (viewOf r p e)) (bears c)) (at s setup.Nothing r p e) (firstCycle (at s setup.Nothing r p e) k c)
-  unfolding firstCycle clearStatus accepts
-  follows-first s r p e m k command.ReadArray = (refl, refl, λ m. refl)
-  follows-first s r p e m k command.ReadStatus = (refl, refl, λ m. refl)
-  follows-first s r p e m k command.ReadSignature = (refl, refl, λ m. refl)
-  follows-first s r p e m k command.ReadQuery = (refl, refl, λ m. refl)
-  follows-first s r p e m k command.Suspend = follows-suspend s r p e m
-  follows-first s r p e m k command.Resume = follows-resume s r p e
-  follows-first s r p e m k command.ClearStatus = follows-clear (at s setup.Nothing r p e) (runs r) _ refl refl
-  follows-first s r p e m k command.SetUpProgram =
-      rw (view-program r p e) (follows-setup (at s setup.Nothing r p e) k setup.Program program-setup refl (runs r || programSuspended p) (not-or (runs r) (programSuspended p)))
-  follows-first s r p e m k command.SetUpLock =
-      rw (view-program r p e) (follows-setup (at s setup.Nothing r p e) k setup.Lock lock-setup refl (runs r || programSuspended p) (not-or (runs r) (programSuspended p)))
-  follows-first s r p e m k command.SetUpErase =
-      rw (view-any r p e)
-      (follows-setup (at s setup.Nothing r p e) k setup.Erase erase-setup refl (runs r || (programSuspended p || eraseSuspended e)) (not-or₃ (runs r) (programSuspended p) (eraseSuspended e)))
-  follows-first s r p e m k command.Unknown = (refl, refl, λ m. refl)
+    follows-suspend : (x : View) (r : Running) (q : SuspendedProgram) (e : SuspendedErase) → Together r q e
+        → FollowsAt (cond (runs r) suspend nothing) (at x setup.Nothing r q e) (withActivity x (suspended (activity setup.Nothing r q e) r))
+    follows-suspend x running.Idle q e m = (refl, refl, λ m. refl)
+    follows-suspend x (running.Program l w) program.Nothing e m = (refl, refl, λ m. refl)
+    follows-suspend x (running.Program l w) (program.Program k v) e m = absurd m
+    follows-suspend x (running.Erase b n) program.Nothing erase.Nothing m = (refl, refl, λ m. refl)
+    follows-suspend x (running.Erase b n) program.Nothing (erase.Erase c k) m = absurd m
+    follows-suspend x (running.Erase b n) (program.Program k v) e m = absurd m
 
-  -- ---- second cycles
+    follows-resume : (x : View) (r : Running) (q : SuspendedProgram) (e : SuspendedErase)
+        → FollowsAt (cond (runs r) nothing (cond (held? (viewOf r q e) isProgram) resume-program (cond (held? (viewOf r q e) isErase) resume-erase nothing)))
+        (at x setup.Nothing r q e) (withActivity x (resume (activity setup.Nothing r q e)))
+    unfolding resume
+    follows-resume x running.Idle (program.Program l w) e = (refl, refl, λ m. refl)
+    follows-resume x running.Idle program.Nothing erase.Nothing = (refl, refl, λ m. refl)
+    follows-resume x running.Idle program.Nothing (erase.Erase b n) = (refl, refl, λ m. refl)
+    follows-resume x (running.Program l w) q e = (refl, refl, λ m. refl)
+    follows-resume x (running.Erase b n) q e = (refl, refl, λ m. refl)
 
-  follows-program : (s : State) (c : Setup) (p : SuspendedProgram) (e : SuspendedErase) (k b l w : ℕ) (x y z : Bool) → s .supply ≡ x → isUnprotected (s .unprotected) b ≡ y → erasing e b ≡ z
-      → Follows (cond (x && (y && not z)) (accept (recorder.program l w)) (setup-is no-setup)) (at s c running.Idle p e) (programCycle (settle (at s c running.Idle p e) k) b l w)
-  unfolding programCycle settle
-  follows-program s c p e k b l w false y z hx hy hz = rw hx (refl, refl, λ m. refl)
-  follows-program s c p e k b l w true false z hx hy hz = rw (hx, hy) (refl, refl, λ m. refl)
-  follows-program s c p e k b l w true true true hx hy hz = rw (hx, hy, hz) (refl, refl, λ m. refl)
-  follows-program s c p e k b l w true true false hx hy hz = rw (hx, hy, hz) (refl, refl, λ m. refl)
+    follows-clear : (x : View) (b : Bool) (y : View) → seen y ≡ seen x → view (y .activity) ≡ view (x .activity) → FollowsAt nothing x (cond b x y)
+    follows-clear x true y h k = (refl, refl, λ m. refl)
+    follows-clear x false y h k = (h, k, λ m. refl)
 
-  follows-erase : (s : State) (c : Setup) (k b d : ℕ) (t x y : Bool) → eqb d 0xD0 ≡ t → s .supply ≡ x → isUnprotected (s .unprotected) b ≡ y
-      → Follows (cond (t && (x && (y && true))) (accept (recorder.erase b)) (setup-is no-setup)) (at s c running.Idle program.Nothing erase.Nothing)
-      (eraseCycle (settle (at s c running.Idle program.Nothing erase.Nothing) k) b d)
-  unfolding eraseCycle settle
-  follows-erase s c k b d false x y ht hx hy = rw ht (refl, refl, λ m. refl)
-  follows-erase s c k b d true false y ht hx hy = rw (ht, hx) (refl, refl, λ m. refl)
-  follows-erase s c k b d true true false ht hx hy = rw (ht, hx, hy) (refl, refl, λ m. refl)
-  follows-erase s c k b d true true true ht hx hy = rw (ht, hx, hy) (refl, refl, λ m. refl)
+    -- a set-up is accepted by the device exactly where the recorder begins it
+    follows-setup : (x : View) (c : Setup) (d : recorder.Setup) → setupOf c ≡ d → (b : Bool) → accepts (x .activity) c ≡ not b → FollowsAt (cond b nothing (setup-is d)) x (setUp x c)
+    unfolding setUp
+    follows-setup x c d z true e = rw e (refl, refl, λ m. refl)
+    follows-setup x c d z false e = rw e (ap (λ (i : recorder.Setup). record { supply = x .supply; unprotected = seen x .unprotected; setup = i }) z, refl, λ m. refl)
 
-  protected-each : (s : State) (b : ℕ) (v : Bool) → length (s .unprotected) ≡ 5 → b < 259
-      → _≡_ {A = ℕ → Bool} (λ c. isUnprotected (withUnprotected (s .unprotected) b v) c) (λ c. cond (eqb c b) v (isUnprotected (s .unprotected) c))
-  protected-each s b v h k = fun-ext (λ c. protection.with-each (s .unprotected) b c v h k)
+    not-or : (a b : Bool) → (not a && not b) ≡ not (a || b)
+    not-or true b = refl
+    not-or false b = refl
 
-  follows-lock : (s : State) (c : Setup) (r : Running) (p : SuspendedProgram) (e : SuspendedErase) (k b address d : ℕ) → length (s .unprotected) ≡ 5 → b < 259
-      → (x y z : Bool) → eqb d 0x01 ≡ x → eqb d 0xD0 ≡ y → eqb d 0x03 ≡ z
-      → Follows (cond y (unprotected-is b true) (cond x (unprotected-is b false) (setup-is no-setup))) (at s c r p e) (lockCycle (settle (at s c r p e) k) b address (lockCommandOf d))
-  unfolding lockCycle lockCommandOf settle
-  follows-lock s c r p e k b address d h i true true z hx hy hz = absurd (omega (arith, eqb-true d 0x01 hx, eqb-true d 0xD0 hy))
-  follows-lock s c r p e k b address d h i true false z hx hy hz =
-      rw hx (ap (λ (u : ℕ → Bool). record { supply = s .supply; unprotected = u; setup = no-setup }) (protected-each s b false h i), refl, λ m. refl)
-  follows-lock s c r p e k b address d h i false true z hx hy hz =
-      rw (hx, hy) (ap (λ (u : ℕ → Bool). record { supply = s .supply; unprotected = u; setup = no-setup }) (protected-each s b true h i), refl, λ m. refl)
-  follows-lock s c r p e k b address d h i false false true hx hy hz = rw (hx, hy, hz) (refl, refl, λ m. refl)
-  follows-lock s c r p e k b address d h i false false false hx hy hz = rw (hx, hy, hz) (refl, refl, λ m. refl)
+    not-or₃ : (a b c : Bool) → (not a && (not b && not c)) ≡ not (a || (b || c))
+    not-or₃ true b c = refl
+    not-or₃ false true c = refl
+    not-or₃ false false c = refl
+
+    follows-first : (x : View) (d : Conditions) (r : Running) (q : SuspendedProgram) (e : SuspendedErase) → Together r q e → (c : Command)
+        → FollowsAt (first-cycle g d (runs r) (held? (viewOf r q e)) (bears c)) (at x setup.Nothing r q e) (firstCycle (at x setup.Nothing r q e) c)
+    unfolding firstCycle clearStatus accepts
+    follows-first x d r q e m command.ReadArray = (refl, refl, λ m. refl)
+    follows-first x d r q e m command.ReadStatus = (refl, refl, λ m. refl)
+    follows-first x d r q e m command.ReadSignature = (refl, refl, λ m. refl)
+    follows-first x d r q e m command.ReadQuery = (refl, refl, λ m. refl)
+    follows-first x d r q e m command.Suspend = follows-suspend x r q e m
+    follows-first x d r q e m command.Resume = follows-resume x r q e
+    follows-first x d r q e m command.ClearStatus = follows-clear (at x setup.Nothing r q e) (runs r) _ refl refl
+    follows-first x d r q e m command.SetUpProgram =
+        rw (view-program r q e) (follows-setup (at x setup.Nothing r q e) setup.Program program-setup refl (runs r || programSuspended q) (not-or (runs r) (programSuspended q)))
+    follows-first x d r q e m command.SetUpLock =
+        rw (view-program r q e) (follows-setup (at x setup.Nothing r q e) setup.Lock lock-setup refl (runs r || programSuspended q) (not-or (runs r) (programSuspended q)))
+    follows-first x d r q e m command.SetUpErase =
+        rw (view-any r q e)
+        (follows-setup (at x setup.Nothing r q e) setup.Erase erase-setup refl (runs r || (programSuspended q || eraseSuspended e)) (not-or₃ (runs r) (programSuspended q) (eraseSuspended e)))
+    follows-first x d r q e m command.Unknown = (refl, refl, λ m. refl)
+
+    -- ---- second cycles
+
+    follows-program : (x : View) (c : Setup) (q : SuspendedProgram) (e : SuspendedErase) (w : ℕ) (t u z : Bool) → x .supply ≡ t → x .unprotected ≡ u → erasing e (p .block) ≡ z
+        → FollowsAt (cond (t && (u && not z)) (accept (recorder.program (p .location) w)) (setup-is no-setup)) (at x c running.Idle q e) (programCycle (settle (at x c running.Idle q e)) p w)
+    unfolding programCycle settle
+    follows-program x c q e w false u z ht hu hz = rw ht (refl, refl, λ m. refl)
+    follows-program x c q e w true false z ht hu hz = rw (ht, hu) (refl, refl, λ m. refl)
+    follows-program x c q e w true true true ht hu hz = rw (ht, hu, hz) (refl, refl, λ m. refl)
+    follows-program x c q e w true true false ht hu hz = rw (ht, hu, hz) (refl, refl, λ m. refl)
+
+    follows-erase : (x : View) (c : Setup) (d : ℕ) (o t u : Bool) → eqb d 0xD0 ≡ o → x .supply ≡ t → x .unprotected ≡ u
+        → FollowsAt (cond (o && (t && (u && true))) (accept (recorder.erase (p .block))) (setup-is no-setup)) (at x c running.Idle program.Nothing erase.Nothing)
+        (eraseCycle (settle (at x c running.Idle program.Nothing erase.Nothing)) p d)
+    unfolding eraseCycle settle
+    follows-erase x c d false t u ho ht hu = rw ho (refl, refl, λ m. refl)
+    follows-erase x c d true false u ho ht hu = rw (ho, ht) (refl, refl, λ m. refl)
+    follows-erase x c d true true false ho ht hu = rw (ho, ht, hu) (refl, refl, λ m. refl)
+    follows-erase x c d true true true ho ht hu = rw (ho, ht, hu) (refl, refl, λ m. refl)
+
+    -- of two changes of one block's protection the later counts
+    twice : (v u : Bool)
+        → _≡_ {A = ℕ → Bool} (λ c. cond (eqb c (p .block)) v (isUnprotected (s .unprotected) c)) (λ c. cond (eqb c (p .block)) v (cond (eqb c (p .block)) u (isUnprotected (s .unprotected) c)))
+    twice v u = fun-ext (λ c. go (eqb c (p .block)) (isUnprotected (s .unprotected) c))
+      where
+        go : (b i : Bool) → cond b v i ≡ cond b v (cond b u i)
+        go true i = refl
+        go false i = refl
+
+    follows-lock : (x : View) (c : Setup) (r : Running) (q : SuspendedProgram) (e : SuspendedErase) (d : ℕ) (h k z : Bool) → eqb d 0x01 ≡ h → eqb d 0xD0 ≡ k → eqb d 0x03 ≡ z
+        → FollowsAt (cond k (unprotected-is (p .block) true) (cond h (unprotected-is (p .block) false) (setup-is no-setup))) (at x c r q e) (lockCycle (settle (at x c r q e)) p (lockCommandOf d))
+    unfolding lockCycle lockCommandOf settle
+    follows-lock x c r q e d true true z hh hk hz = absurd (omega (arith, eqb-true d 0x01 hh, eqb-true d 0xD0 hk))
+    follows-lock x c r q e d true false z hh hk hz =
+        rw hh (ap (λ (u : ℕ → Bool). record { supply = x .supply; unprotected = u; setup = no-setup }) (twice false (x .unprotected)), refl, λ m. refl)
+    follows-lock x c r q e d false true z hh hk hz =
+        rw (hh, hk) (ap (λ (u : ℕ → Bool). record { supply = x .supply; unprotected = u; setup = no-setup }) (twice true (x .unprotected)), refl, λ m. refl)
+    follows-lock x c r q e d false false true hh hk hz = rw (hh, hk, hz) (refl, refl, λ m. refl)
+    follows-lock x c r q e d false false false hh hk hz = rw (hh, hk, hz) (refl, refl, λ m. refl)
 
   -- a write, by the set-up that is pending
-  pub follows-cycle : (s : State) (c : Setup) (r : Running) (p : SuspendedProgram) (e : SuspendedErase) → Together r p e → Ready (setupOf c) (runs r) (held? (viewOf r p e))
-      → length (s .unprotected) ≡ 5 → geometry s ≡ g → (l address w : ℕ) → blockOf g l < 259
-      → Follows (cycle g (conditions (at s c r p e)) (runs r) (held? (viewOf r p e)) (setupOf c) l (w % 256) w) (at s c r p e) (writing.cycle (at s c r p e) c l address w)
+  follows-cycle : (s : State) (c : Setup) (r : Running) (q : SuspendedProgram) (e : SuspendedErase) → Together r q e → Ready (setupOf c) (runs r) (held? (viewOf r q e)) → (a w : ℕ)
+      → FollowsAt s (placeOf g a)
+      (cycle g (conditions (state.withActivity s (activity c r q e))) (runs r) (held? (viewOf r q e)) (setupOf c) (location g a) (w % 256) w)
+      (withActivity (viewAt s (placeOf g a)) (activity c r q e)) (writing.cycle (withActivity (viewAt s (placeOf g a)) (activity c r q e)) c (placeOf g a) w)
   unfolding writing.cycle
-  follows-cycle s setup.Nothing r p e m y h q l address w i = rw (commands-agree (w % 256)) (follows-first s r p e m (bankOf (geometry s) l) (commandOf (w % 256)))
-  follows-cycle s setup.Program running.Idle p e m y h q l address w i =
-      rw (view-erasing g running.Idle p e (blockOf g l), q)
-      (follows-program s setup.Program p e (bankOf g l) (blockOf g l) l w (s .supply) (isUnprotected (s .unprotected) (blockOf g l)) (erasing e (blockOf g l)) refl refl refl)
-  follows-cycle s setup.Program (running.Program a v) p e m y h q l address w i = absurd (true≢false (y .0))
-  follows-cycle s setup.Program (running.Erase b n) p e m y h q l address w i = absurd (true≢false (y .0))
-  follows-cycle s setup.Erase running.Idle program.Nothing erase.Nothing m y h q l address w i =
-      rw q (follows-erase s setup.Erase (bankOf g l) (blockOf g l) (w % 256) (eqb (w % 256) 0xD0) (s .supply) (isUnprotected (s .unprotected) (blockOf g l)) refl refl refl)
-  follows-cycle s setup.Erase running.Idle program.Nothing (erase.Erase b n) m y h q l address w i = absurd (true≢false (y .1))
-  follows-cycle s setup.Erase running.Idle (program.Program a v) e m y h q l address w i = absurd (true≢false (y .1))
-  follows-cycle s setup.Erase (running.Program a v) p e m y h q l address w i = absurd (true≢false (y .0))
-  follows-cycle s setup.Erase (running.Erase b n) p e m y h q l address w i = absurd (true≢false (y .0))
-  follows-cycle s setup.Lock r p e m y h q l address w i =
-      rw q (follows-lock s setup.Lock r p e (bankOf g l) (blockOf g l) address (w % 256) h i (eqb (w % 256) 0x01) (eqb (w % 256) 0xD0) (eqb (w % 256) 0x03) refl refl refl)
+  follows-cycle s setup.Nothing r q e m y a w =
+      rw (commands-agree (w % 256)) (follows-first s (placeOf g a) (viewAt s (placeOf g a)) (conditions (state.withActivity s (activity setup.Nothing r q e))) r q e m (commandOf (w % 256)))
+  follows-cycle s setup.Program running.Idle q e m y a w =
+      rw (view-erasing g running.Idle q e (blockOf g (location g a)))
+      (follows-program s (placeOf g a) (viewAt s (placeOf g a)) setup.Program q e w (s .supply) (isUnprotected (s .unprotected) (blockOf g (location g a))) (erasing e (blockOf g (location g a))) refl refl refl)
+  follows-cycle s setup.Program (running.Program l v) q e m y a w = absurd (true≢false (y .0))
+  follows-cycle s setup.Program (running.Erase b n) q e m y a w = absurd (true≢false (y .0))
+  follows-cycle s setup.Erase running.Idle program.Nothing erase.Nothing m y a w =
+      follows-erase s (placeOf g a) (viewAt s (placeOf g a)) setup.Erase (w % 256) (eqb (w % 256) 0xD0) (s .supply) (isUnprotected (s .unprotected) (blockOf g (location g a))) refl refl refl
+  follows-cycle s setup.Erase running.Idle program.Nothing (erase.Erase b n) m y a w = absurd (true≢false (y .1))
+  follows-cycle s setup.Erase running.Idle (program.Program l v) e m y a w = absurd (true≢false (y .1))
+  follows-cycle s setup.Erase (running.Program l v) q e m y a w = absurd (true≢false (y .0))
+  follows-cycle s setup.Erase (running.Erase b n) q e m y a w = absurd (true≢false (y .0))
+  follows-cycle s setup.Lock r q e m y a w =
+      follows-lock s (placeOf g a) (viewAt s (placeOf g a)) setup.Lock r q e (w % 256) (eqb (w % 256) 0x01) (eqb (w % 256) 0xD0) (eqb (w % 256) 0x03) refl refl refl
+
+  -- and of the state
+  pub follows-written : (s : State) → Together (s .activity .running) (s .activity .program) (s .activity .erase) → Ready (setupOf (s .activity .setup)) (runs (s .activity .running)) (held? (view (s .activity)))
+      → length (s .unprotected) ≡ 5 → (a w : ℕ) → blockOf g (location g a) < 259
+      → Follows (cycle g (conditions s) (runs (s .activity .running)) (held? (view (s .activity))) (setupOf (s .activity .setup)) (location g a) (w % 256) w) s (writtenAt s (placeOf g a) w)
+  unfolding writtenAt
+  follows-written s m y h a w k =
+      follows-put s (placeOf g a) h k (cycle g (conditions s) (runs (s .activity .running)) (held? (view (s .activity))) (setupOf (s .activity .setup)) (location g a) (w % 256) w)
+      (writing.cycle (viewAt s (placeOf g a)) (s .activity .setup) (placeOf g a) w)
+      (follows-cycle s (s .activity .setup) (s .activity .running) (s .activity .program) (s .activity .erase) m y a w)

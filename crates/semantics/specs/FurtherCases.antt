@@ -12,9 +12,9 @@ use Rattle.semantics.specs.declared.Step.the-variants.{Read, Write, Work
 use Rattle.semantics.specs.declared.Answer.the-variants.{Word, Units, Done, Refused}
 use Rattle.semantics.specs.State.{powerUp}
 use Rattle.semantics.specs.WellFormed.{runningAlone, programAlone, eraseAlone, eraseFits, runningFits, programFits, suspendedEraseFits, allFit, runningApart, programApart, apart, activityFormed, wellFormed}
-use Rattle.semantics.specs.Reading.{runsIn, statusWord, signatureWord, queryWord, readIn, readWord}
-use Rattle.semantics.specs.Writing.{commandOf, resume, accepts, setUp, clearStatus, firstCycle, programCycle, eraseCycle, lockCommandOf, lockCycle, settle, cycle, written}
-use Rattle.semantics.specs.Working.{unitsLeft, unitsDone, runningAfter, wordAfter, tabulate, arrayAfter, worked, workedArray}
+use Rattle.semantics.specs.Reading.{runsIn, statusWord, signatureWord, queryWord, readIn, readAt, readWord}
+use Rattle.semantics.specs.Writing.{commandOf, resume, accepts, setUp, clearStatus, firstCycle, programCycle, eraseCycle, lockCommandOf, lockCycle, settle, cycle, writtenAt, written}
+use Rattle.semantics.specs.Working.{unitsLeft, unitsDone, runningAfter, wordAfter, tabulate, arrayAfter, workedOn, worked, workedArray}
 use Rattle.semantics.specs.Steps.{locationRefusal, addressRefusal, countRefusal, stepRefusal, stateRefusal, firstRefusal, refusalOf, accepted, acceptedArray, stepOf, arrayOf, reportedOf}
 use Rattle.semantics.specs.Cases.{_⟶_, Exchange, Case, plays, reports, every, prepared, bench}
 
@@ -74,5 +74,5 @@ further =
     ∷ []
 
 pub further-hold : T (every further)
-unfolding mirror blockFrom blockOf bankOf sizeOf startFrom startOf bankStart blockOffset bankOffset bankOfBlock lookupOf bit bitAt isUnprotected withUnprotected spareZero allProtected count least unprotectedCount lowestUnprotected reportOf powerUp runningAlone programAlone eraseAlone eraseFits runningFits programFits suspendedEraseFits allFit runningApart programApart apart activityFormed wellFormed runsIn statusWord signatureWord queryWord readIn readWord commandOf resume accepts setUp clearStatus firstCycle programCycle eraseCycle lockCommandOf lockCycle settle cycle written unitsLeft unitsDone runningAfter wordAfter tabulate arrayAfter worked workedArray locationRefusal addressRefusal countRefusal stepRefusal stateRefusal firstRefusal refusalOf accepted acceptedArray stepOf arrayOf reportedOf
+unfolding mirror blockFrom blockOf bankOf sizeOf startFrom startOf bankStart blockOffset bankOffset bankOfBlock lookupOf bit bitAt isUnprotected withUnprotected spareZero allProtected count least unprotectedCount lowestUnprotected reportOf powerUp runningAlone programAlone eraseAlone eraseFits runningFits programFits suspendedEraseFits allFit runningApart programApart apart activityFormed wellFormed runsIn statusWord signatureWord queryWord readIn readAt readWord commandOf resume accepts setUp clearStatus firstCycle programCycle eraseCycle lockCommandOf lockCycle settle cycle writtenAt written unitsLeft unitsDone runningAfter wordAfter tabulate arrayAfter workedOn worked workedArray locationRefusal addressRefusal countRefusal stepRefusal stateRefusal firstRefusal refusalOf accepted acceptedArray stepOf arrayOf reportedOf
 further-hold = tt

@@ -9,34 +9,29 @@ use Prim.Native.Nat.{ℕ, zero, suc, _+_, _-_, _≤_, _<_, _%_, min}
 use native.Mathlib.Omega.{arith}
 use lib.Dec.{ltb, leb, eqb, eqb·suc-zero}
 use lib.Bits.{bitAnd}
-use lib.ListN.{length, getD}
+use lib.ListN.{length, getD, length-set}
 use borrow.Author.Tests.{ltb-true, ltb-false, lt-ltb, le-ltb, le-leb, lt-leb, eqb-true, eqb-false, eq-eqb}
 use Rattle.geometry.specs.declared.Part.{Part}
 use Rattle.geometry.specs.declared.Geometry.{Geometry}
 use Rattle.geometry.specs.Blocks.{Sound, geometryOf, words, blocks, location, blockOf, bankOf, startOf, sizeOf}
 use Rattle.geometry.specs.Laws as laws
-use Rattle.protection.specs.Words.{isUnprotected, withUnprotected, spareZero, allProtected}
+use Rattle.protection.specs.Words.{spareZero}
 use Rattle.protection.specs.Laws as protection
 use Rattle.semantics.specs.declared.Activity.{Activity}
 use Rattle.semantics.specs.declared.Running.{Running}
-use Rattle.semantics.specs.declared.Setup.{Setup}
-use Rattle.semantics.specs.declared.Setup.the-variants as setup
-use Rattle.semantics.specs.declared.Command.{Command}
-use Rattle.semantics.specs.declared.Command.the-variants as command
-use Rattle.semantics.specs.declared.LockCommand.{LockCommand}
-use Rattle.semantics.specs.declared.LockCommand.the-variants as lock
 use Rattle.semantics.specs.declared.State.{State}
 use Rattle.semantics.specs.declared.Step.{Step}
 use Rattle.semantics.specs.declared.Step.the-variants.{Read, Write, Work, Supply, Reset}
 use Rattle.semantics.specs.declared.Answer.{Answer}
 use Rattle.semantics.specs.declared.Answer.the-variants.{Word, Units, Done, Refused}
 use Rattle.semantics.specs.declared.Next.{Next}
-use Rattle.semantics.specs.declared.Mode.the-variants.{Status}
-use Rattle.semantics.specs.State.{geometry, runs, withSupply, withActivity, withSetup, withMode, powerUp}
-use Rattle.semantics.specs.WellFormed.{wellFormed, activityFormed, erasing}
-use Rattle.semantics.specs.Writing as writing
-use Rattle.semantics.specs.Writing.{written, accepts, setUp, clearStatus, firstCycle, programCycle, eraseCycle, lockCycle, settle, commandOf, lockCommandOf}
-use Rattle.semantics.specs.Working.{unitsDone, worked, workedArray}
+use Rattle.semantics.specs.declared.Place.{Place}
+use Rattle.semantics.specs.declared.View.{View}
+use Rattle.semantics.specs.State.{geometry, withSupply, powerUp}
+use Rattle.semantics.specs.View.{placeOf, withView}
+use Rattle.semantics.specs.WellFormed.{wellFormed, activityFormed}
+use Rattle.semantics.specs.Writing.{written, writtenAt}
+use Rattle.semantics.specs.Working.{unitsDone, workedOn, worked, workedArray}
 use Rattle.semantics.specs.Arrays.{array-length, array-word}
 use Rattle.semantics.specs.Steps.{locationRefusal, addressRefusal, countRefusal, stepRefusal, stateRefusal, firstRefusal, refusalOf, next, accepted, acceptedArray, stepOf, arrayOf, Machine, after, afterAll, fresh}
 use Rattle.semantics.specs.Entries as entries
@@ -44,7 +39,7 @@ use Rattle.semantics.specs.Entries.{Entry, entry, running, suspended, fi
 use Rattle.semantics.specs.Recorder as recorder
 use Rattle.semantics.specs.Recorder.{Operation, Event, nothing, supplied, was-reset, units, Conditions, conditions-after, Recorder, beginning, recorded, recordedAll, journalOf, event, journal-after, reading, applied, base, len, put, kinds}
 use Rattle.semantics.specs.Engine.{Engine, busy, stack, held?, engine-after, words-after, Ready, Ok, rule-ok, Sim, sim-do, words-after-ok, rules-agree, Matches, After}
-use Rattle.semantics.specs.Follows.{conditions, view, viewOf, setupOf, eventOf, Together, Lacking, Follows, follows-cycle, view-worked, words-view}
+use Rattle.semantics.specs.Follows.{conditions, view, viewOf, setupOf, eventOf, Together, Lacking, Follows, follows-written, view-worked, words-view}
 use Rattle.semantics.specs.Formed.{together, lacking, formed}
 
 -- ---- refusals
@@ -152,12 +147,10 @@ module _ (s : State) (xs : List ℕ) (good : stateRefusal s (length xs) ≡ 0) (
   steps-write : (a w : ℕ) → (a < 16777216) ⊎ (16777216 ≤ a) → Steps-of (eventOf (geometry s) s (Write a w)) s xs (Write a w)
   unfolding stepRefusal accepted acceptedArray written
   steps-write a w (inl h) =
-      let l : ℕ = location (geometry s) a in
-      let k : blockOf (geometry s) l < 259 = laws.part-block-lt (s .part) l (laws.location-lt (geometry s) sound a) in
+      let k : blockOf (geometry s) (location (geometry s) a) < 259 = laws.part-block-lt (s .part) (location (geometry s) a) (laws.location-lt (geometry s) sound a) in
       rw (lt-ltb a 16777216 h)
-      (quiet (recorder.cycle (geometry s) (conditions s) (busy (view (s .activity))) (held? (view (s .activity))) (setupOf (s .activity .setup)) l (w % 256) w) (Write a w)
-      (writing.cycle s (s .activity .setup) l a w) (address-good (geometry s) sound a h) refl refl
-      (follows-cycle (geometry s) s (s .activity .setup) (s .activity .running) (s .activity .program) (s .activity .erase) (fit .alone) (fit .ready) (fit .five) refl l a w k))
+      (quiet (recorder.cycle (geometry s) (conditions s) (busy (view (s .activity))) (held? (view (s .activity))) (setupOf (s .activity .setup)) (location (geometry s) a) (w % 256) w) (Write a w)
+      (written s a w) (address-good (geometry s) sound a h) refl refl (follows-written (geometry s) s (fit .alone) (fit .ready) (fit .five) a w k))
   steps-write a w (inr h) = rw (le-ltb a 16777216 h) (refused-nothing (Write a w) 2 (address-bad (geometry s) a h))
 
   steps-read : (a : ℕ) → (a < 16777216) ⊎ (16777216 ≤ a) → Steps-of nothing s xs (Read a)
@@ -166,7 +159,7 @@ module _ (s : State) (xs : List ℕ) (good : stateRefusal s (length xs) ≡ 0) (
   steps-read a (inr h) = refused-nothing (Read a) 2 (address-bad (geometry s) a h)
 
   steps-work : (n : ℕ) → (65535 < n) ⊎ (n ≤ 65535) → Steps-of (eventOf (geometry s) s (Work n)) s xs (Work n)
-  unfolding stepRefusal accepted acceptedArray worked workedArray
+  unfolding stepRefusal accepted acceptedArray workedOn worked workedArray
   steps-work n (inl h) = rw (lt-leb n 65535 h) (refused-nothing (Work n) 3 (count-bad n h))
   steps-work n (inr h) =
       rw (le-leb n 65535 h, step-done s xs good (Work n) (count-good n h), array-done s xs good (Work n) (count-good n h)) (
@@ -186,67 +179,26 @@ module _ (s : State) (xs : List ℕ) (good : stateRefusal s (length xs) ≡ 0) (
 
 -- ---- what no step changes
 
--- the protection words stay five, and their spare bits zero
+-- the part, the banks' number and the protection words' number, and their spare bits where these are zero
 pub record Kept (s t : State) : Type 0 where
   pub part : t .part ≡ s .part
+  pub sixteen : length (s .banks) ≡ 16 → length (t .banks) ≡ 16
   pub five : length (t .unprotected) ≡ length (s .unprotected)
   pub spare : spareZero (s .unprotected) ≡ true → spareZero (t .unprotected) ≡ true
 
-kept : (s t : State) → t .part ≡ s .part → t .unprotected ≡ s .unprotected → Kept s t
-kept s t p u = record { part = p; five = ap length u; spare = λ h. ap spareZero u ∙ h }
+kept : (s t : State) → t .part ≡ s .part → t .banks ≡ s .banks → t .unprotected ≡ s .unprotected → Kept s t
+kept s t p b u = record { part = p; sixteen = λ h. ap length b ∙ h; five = ap length u; spare = λ h. ap spareZero u ∙ h }
 
-kept-cond : (b : Bool) (s x y : State) → Kept s x → Kept s y → Kept s (cond b x y)
-kept-cond true s x y p q = p
-kept-cond false s x y p q = q
-
-kept-protection : (s : State) (b : ℕ) (v : Bool) (t : State) → t .part ≡ s .part → t .unprotected ≡ withUnprotected (s .unprotected) b v → Kept s t
-kept-protection s b v t p u = record { part = p; five = ap length u ∙ protection.with-length (s .unprotected) b v; spare = λ h. ap spareZero u ∙ protection.with-spare (s .unprotected) b v h }
-
-kept-setup : (s : State) (k : ℕ) (c : Setup) → Kept s (setUp s k c)
-unfolding setUp
-kept-setup s k c = kept-cond (accepts (s .activity) c) s (withMode (withActivity s (withSetup (s .activity) c)) k Status) s (kept s _ refl refl) (kept s _ refl refl)
-
-kept-first : (s : State) (k : ℕ) (c : Command) → Kept s (firstCycle s k c)
-unfolding firstCycle clearStatus
-kept-first s k command.ReadArray = kept s _ refl refl
-kept-first s k command.ReadStatus = kept s _ refl refl
-kept-first s k command.ReadSignature = kept s _ refl refl
-kept-first s k command.ReadQuery = kept s _ refl refl
-kept-first s k command.Suspend = kept s _ refl refl
-kept-first s k command.Resume = kept s _ refl refl
-kept-first s k command.ClearStatus = kept-cond (runs (s .activity .running)) s _ _ (kept s _ refl refl) (kept s _ refl refl)
-kept-first s k command.SetUpProgram = kept-setup s k setup.Program
-kept-first s k command.SetUpErase = kept-setup s k setup.Erase
-kept-first s k command.SetUpLock = kept-setup s k setup.Lock
-kept-first s k command.Unknown = kept s _ refl refl
-
-kept-lock : (s : State) (k b a : ℕ) (c : LockCommand) → Kept s (lockCycle (settle s k) b a c)
-unfolding lockCycle settle
-kept-lock s k b a lock.Protect = kept-protection s b false _ refl refl
-kept-lock s k b a lock.Unprotect = kept-protection s b true _ refl refl
-kept-lock s k b a lock.Configure = kept s _ refl refl
-kept-lock s k b a lock.Unknown = kept s _ refl refl
-
-kept-cycle : (s : State) (c : Setup) (l a w : ℕ) → Kept s (writing.cycle s c l a w)
-unfolding writing.cycle programCycle eraseCycle settle
-kept-cycle s setup.Nothing l a w = kept-first s _ _
-kept-cycle s setup.Program l a w =
-    kept-cond (not (s .supply)) s _ _ (kept s _ refl refl)
-    (kept-cond (not (isUnprotected (s .unprotected) (blockOf (geometry s) l))) s _ _ (kept s _ refl refl)
-    (kept-cond (erasing (s .activity .erase) (blockOf (geometry s) l)) s _ _ (kept s _ refl refl) (kept s _ refl refl)))
-kept-cycle s setup.Erase l a w =
-    kept-cond (not (eqb (w % 256) 0xD0)) s _ _ (kept s _ refl refl)
-    (kept-cond (not (s .supply)) s _ _ (kept s _ refl refl)
-    (kept-cond (not (isUnprotected (s .unprotected) (blockOf (geometry s) l))) s _ _ (kept s _ refl refl) (kept s _ refl refl)))
-kept-cycle s setup.Lock l a w = kept-lock s _ _ a _
+kept-view : (s : State) (p : Place) (v : View) → Kept s (withView s p v)
+kept-view s p v = record { part = refl; sixteen = λ h. length-set (s .banks) (p .bank) (record { mode = v .mode }) ∙ h; five = protection.with-length (s .unprotected) (p .block) (v .unprotected); spare = protection.with-spare (s .unprotected) (p .block) (v .unprotected) }
 
 kept-accepted : (s : State) (xs : List ℕ) (x : Step) → length (s .unprotected) ≡ 5 → Kept s (accepted s xs x .state)
-unfolding accepted written worked powerUp
-kept-accepted s xs (Read a) h = kept s _ refl refl
-kept-accepted s xs (Write a w) h = kept-cycle s _ _ a w
-kept-accepted s xs (Work n) h = kept s _ refl refl
-kept-accepted s xs (Supply on) h = kept s _ refl refl
-kept-accepted s xs Reset h = record { part = refl; five = protection.all-length ∙ sym h; spare = λ z. protection.all-spare }
+unfolding accepted written writtenAt workedOn worked powerUp
+kept-accepted s xs (Read a) h = kept s _ refl refl refl
+kept-accepted s xs (Write a w) h = kept-view s (placeOf (geometry s) a) _
+kept-accepted s xs (Work n) h = kept s _ refl refl refl
+kept-accepted s xs (Supply on) h = kept s _ refl refl refl
+kept-accepted s xs Reset h = record { part = refl; sixteen = λ z. refl; five = protection.all-length ∙ sym h; spare = λ z. protection.all-spare }
 
 pub kept-step : (s : State) (xs : List ℕ) (x : Step) → length (s .unprotected) ≡ 5 → Kept s (stepOf s xs x .state)
 unfolding stepOf
@@ -254,7 +206,7 @@ kept-step s xs x h = go (eqb (refusalOf s (length xs) x) 0)
   where
     go : (b : Bool) → Kept s ((cond b (accepted s xs x) (next s (Refused (refusalOf s (length xs) x)))) .state)
     go true = kept-accepted s xs x h
-    go false = kept s _ refl refl
+    go false = kept s _ refl refl refl
 
 -- ---- the invariant: the device and the recorder agree, and the words are the journal's
 

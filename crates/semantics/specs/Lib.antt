@@ -1,5 +1,6 @@
 pub mod Numbers
 pub mod State
+pub mod View
 pub mod WellFormed
 pub mod Reading
 pub mod Writing
@@ -19,4 +20,5 @@ pub mod Invariant
 pub mod Theorem
 pub mod Standing
 pub mod Kept
+pub mod Held
 pub mod Consequences

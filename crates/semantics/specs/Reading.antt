@@ -6,14 +6,18 @@ use mathlib.Core.List.{List}
 use lib.Dec.{eqb}
 use lib.ListN.{getD}
 use Rattle.geometry.specs.declared.Geometry.{Geometry}
-use Rattle.geometry.specs.Blocks.{blockOf, bankOf, bankOfBlock, blockOffset, bankOffset}
-use Rattle.protection.specs.Words.{isUnprotected}
+use Rattle.geometry.specs.Blocks.{bankOf, bankOfBlock, blockOffset, bankOffset}
 use Rattle.semantics.specs.declared.Mode.{Mode}
 use Rattle.semantics.specs.declared.Mode.the-variants.{Array, Status, Signature, Query}
 use Rattle.semantics.specs.declared.Running.{Running}
 use Rattle.semantics.specs.declared.Running.the-variants as running
+use Rattle.semantics.specs.declared.Activity.{Activity}
+use Rattle.semantics.specs.declared.Flags.{Flags}
 use Rattle.semantics.specs.declared.State.{State}
-use Rattle.semantics.specs.State.{geometry, modeOf, runs, programSuspended, eraseSuspended}
+use Rattle.semantics.specs.declared.Place.{Place}
+use Rattle.semantics.specs.declared.View.{View}
+use Rattle.semantics.specs.State.{geometry, runs, programSuspended, eraseSuspended}
+use Rattle.semantics.specs.View.{placeOf, viewAt}
 
 -- what runs is in bank k: a program in the bank of its location, an erase in that of its block
 unfoldable pub runsIn : Geometry → Running → ℕ → Bool
@@ -28,16 +32,16 @@ bitIf false n = 0
 
 -- "Upper byte 0. SR7 is 1 when nothing runs. SR6 erase suspended. SR2 program suspended. SR5, SR4, SR3, SR1 the flags. SR0 is 1 when
 -- something runs, and in a bank other than the addressed one.": the word for a read in bank k, SR7 first
-unfoldable pub statusWord : State → ℕ → ℕ
-statusWord s k =
-    bitIf (not (runs (s .activity .running))) 0x80
-    + bitIf (eraseSuspended (s .activity .erase)) 0x40
-    + bitIf (s .flags .sr5) 0x20
-    + bitIf (s .flags .sr4) 0x10
-    + bitIf (s .flags .sr3) 0x08
-    + bitIf (programSuspended (s .activity .program)) 0x04
-    + bitIf (s .flags .sr1) 0x02
-    + bitIf (runs (s .activity .running) && not (runsIn (geometry s) (s .activity .running) k)) 0x01
+unfoldable pub statusWord : Geometry → Activity → Flags → ℕ → ℕ
+statusWord g a f k =
+    bitIf (not (runs (a .running))) 0x80
+    + bitIf (eraseSuspended (a .erase)) 0x40
+    + bitIf (f .sr5) 0x20
+    + bitIf (f .sr4) 0x10
+    + bitIf (f .sr3) 0x08
+    + bitIf (programSuspended (a .program)) 0x04
+    + bitIf (f .sr1) 0x02
+    + bitIf (runs (a .running) && not (runsIn g (a .running) k)) 0x01
 
 -- "885Eh (top) or 885Fh (bottom)"
 abbrev pub deviceCode : Geometry → ℕ
@@ -45,12 +49,12 @@ deviceCode g = cond (g .top) 0x885E 0x885F
 
 -- "signature, 0020h at bank offset 0, 885Eh (top) or 885Fh (bottom) at bank offset 1, the configuration register at bank offset 5, and at block
 -- offset 2 0001h protected or 0000h open; all other offsets 0000h"
-unfoldable pub signatureWord : State → ℕ → ℕ
-signatureWord s l =
-    cond (eqb (bankOffset (geometry s) l) 0) 0x0020
-    (cond (eqb (bankOffset (geometry s) l) 1) (deviceCode (geometry s))
-    (cond (eqb (bankOffset (geometry s) l) 5) (s .configuration)
-    (cond (eqb (blockOffset (geometry s) l) 2) (bitIf (not (isUnprotected (s .unprotected) (blockOf (geometry s) l))) 0x0001)
+unfoldable pub signatureWord : Geometry → View → ℕ → ℕ
+signatureWord g v l =
+    cond (eqb (bankOffset g l) 0) 0x0020
+    (cond (eqb (bankOffset g l) 1) (deviceCode g)
+    (cond (eqb (bankOffset g l) 5) (v .configuration)
+    (cond (eqb (blockOffset g l) 2) (bitIf (not (v .unprotected)) 0x0001)
     0x0000)))
 
 -- "query, 51h, 52h, 59h at bank offsets 10h, 11h, 12h and 0000h elsewhere"
@@ -59,13 +63,15 @@ queryWord o = cond (eqb o 0x10) 0x51 (cond (eqb o 0x11) 0x52 (cond (eqb o 0x12) 
 
 -- "By the mode of the bank: array, the word at the location, but the status word while an operation runs in that bank; status, the
 -- status word; signature ..; query .."
-unfoldable pub readIn : State → List ℕ → Mode → ℕ → ℕ
-readIn s xs Array l =
-    cond (runsIn (geometry s) (s .activity .running) (bankOf (geometry s) l)) (statusWord s (bankOf (geometry s) l)) (getD xs l 0)
-readIn s xs Status l = statusWord s (bankOf (geometry s) l)
-readIn s xs Signature l = signatureWord s l
-readIn s xs Query l = queryWord (bankOffset (geometry s) l)
+unfoldable pub readIn : Geometry → View → List ℕ → Mode → Place → ℕ
+readIn g v xs Array p = cond (runsIn g (v .activity .running) (p .bank)) (statusWord g (v .activity) (v .flags) (p .bank)) (getD xs (p .location) 0)
+readIn g v xs Status p = statusWord g (v .activity) (v .flags) (p .bank)
+readIn g v xs Signature p = signatureWord g v (p .location)
+readIn g v xs Query p = queryWord (bankOffset g (p .location))
 
--- the word that a read at location l shows
+-- the word that a read at an address shows
+unfoldable pub readAt : State → List ℕ → Place → ℕ
+readAt s xs p = readIn (geometry s) (viewAt s p) xs (viewAt s p .mode) p
+
 unfoldable pub readWord : State → List ℕ → ℕ → ℕ
-readWord s xs l = readIn s xs (modeOf s (bankOf (geometry s) l)) l
+readWord s xs address = readAt s xs (placeOf (geometry s) address)

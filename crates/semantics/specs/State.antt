@@ -3,7 +3,7 @@
 use Prim.Native.Nat.{ℕ}
 use mathlib.Core.Bool.{Bool, true, false, cond, _||_}
 use mathlib.Core.List.{List}
-use lib.ListN.{getD, set, replicate}
+use lib.ListN.{getD, replicate}
 use Rattle.geometry.specs.declared.Part.{Part}
 use Rattle.geometry.specs.declared.Geometry.{Geometry}
 use Rattle.geometry.specs.Blocks.{geometryOf}
@@ -29,9 +29,6 @@ geometry s = geometryOf (s .part)
 
 -- ---- one field changed. antt has no update of a record, so that each is written out here once
 
-abbrev pub withBanks : State → List Bank → State
-withBanks s x = record { part = s .part; banks = x; activity = s .activity; flags = s .flags; unprotected = s .unprotected; configuration = s .configuration; supply = s .supply }
-
 abbrev pub withActivity : State → Activity → State
 withActivity s x = record { part = s .part; banks = s .banks; activity = x; flags = s .flags; unprotected = s .unprotected; configuration = s .configuration; supply = s .supply }
 
@@ -41,18 +38,15 @@ withFlags s x = record { part = s .part; banks = s .banks; activity = s .activit
 abbrev pub withProtection : State → List ℕ → State
 withProtection s x = record { part = s .part; banks = s .banks; activity = s .activity; flags = s .flags; unprotected = x; configuration = s .configuration; supply = s .supply }
 
-abbrev pub withConfiguration : State → ℕ → State
-withConfiguration s x = record { part = s .part; banks = s .banks; activity = s .activity; flags = s .flags; unprotected = s .unprotected; configuration = x; supply = s .supply }
-
 abbrev pub withSupply : State → Bool → State
 withSupply s x = record { part = s .part; banks = s .banks; activity = s .activity; flags = s .flags; unprotected = s .unprotected; configuration = s .configuration; supply = x }
 
--- the read mode of bank k, and the state with another
-abbrev pub modeOf : State → ℕ → Mode
-modeOf s k = (getD (s .banks) k (record { mode = Array })) .mode
+-- the read mode of bank k
+abbrev pub modeIn : List Bank → ℕ → Mode
+modeIn l k = (getD l k (record { mode = Array })) .mode
 
-abbrev pub withMode : State → ℕ → Mode → State
-withMode s k m = withBanks s (set (s .banks) k (record { mode = m }))
+abbrev pub modeOf : State → ℕ → Mode
+modeOf s k = modeIn (s .banks) k
 
 -- ---- what is under way
 
@@ -91,9 +85,6 @@ noFlags = flagsOf false false false false
 -- a flag that is set stays set
 abbrev pub joined : Flags → Flags → Flags
 joined f g = flagsOf (f .sr5 || g .sr5) (f .sr4 || g .sr4) (f .sr3 || g .sr3) (f .sr1 || g .sr1)
-
-abbrev pub raise : State → Flags → State
-raise s f = withFlags s (joined (s .flags) f)
 
 -- ---- power-up
 

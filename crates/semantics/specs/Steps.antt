@@ -64,7 +64,7 @@ next s a = record { state = s; answer = a }
 
 -- the state after, and the answer of, a step that is accepted, that is, not refused. "Reset gives the power-up state but keeps the supply"
 unfoldable pub accepted : State → List ℕ → Step → Next
-accepted s xs (Read address) = next s (Word (readWord s xs (location (geometry s) address)))
+accepted s xs (Read address) = next s (Word (readWord s xs address))
 accepted s xs (Write address w) = next (written s address w) Done
 accepted s xs (Work n) = next (worked s n) (Units (unitsDone (geometry s) (s .activity .running) n))
 accepted s xs (Supply on) = next (withSupply s on) Done

@@ -10,6 +10,8 @@ use Rattle.geometry.specs.declared.Geometry.{Geometry}
 use Rattle.geometry.specs.Blocks.{startOf, sizeOf}
 use Rattle.semantics.specs.declared.Running.{Running}
 use Rattle.semantics.specs.declared.Running.the-variants as running
+use Rattle.semantics.specs.declared.Activity.{Activity}
+use Rattle.semantics.specs.declared.Worked.{Worked}
 use Rattle.semantics.specs.declared.State.{State}
 use Rattle.semantics.specs.Numbers.{within}
 use Rattle.semantics.specs.State.{geometry, withActivity, withRunning}
@@ -46,10 +48,13 @@ tabulate (suc n) f = let x : ℕ = f 0 in x ∷ tabulate n (λ L. f (suc L))
 unfoldable pub arrayAfter : Geometry → Running → ℕ → List ℕ → List ℕ
 arrayAfter g r m xs = tabulate (length xs) (λ L. wordAfter g r m L (getD xs L 0))
 
--- the state after up to n units
+-- what is under way after up to n units, and how many they were
+unfoldable pub workedOn : Geometry → Activity → ℕ → Worked
+workedOn g a n = record { activity = withRunning a (runningAfter g (a .running) (unitsDone g (a .running) n)); units = unitsDone g (a .running) n }
+
+-- the state and the array after up to n units
 unfoldable pub worked : State → ℕ → State
-worked s n =
-    withActivity s (withRunning (s .activity) (runningAfter (geometry s) (s .activity .running) (unitsDone (geometry s) (s .activity .running) n)))
+worked s n = withActivity s (workedOn (geometry s) (s .activity) n .activity)
 
 unfoldable pub workedArray : State → ℕ → List ℕ → List ℕ
 workedArray s n xs = arrayAfter (geometry s) (s .activity .running) (unitsDone (geometry s) (s .activity .running) n) xs

@@ -1,10 +1,8 @@
--- The write step: document 01, "Write, address, data."
+-- The write step: document 01, "Write, address, data.". A cycle is said over what it sees at the place of its address; what it does not see stays.
 -- Assumes nothing.
 use Prim.Native.Nat.{ℕ, _%_}
 use mathlib.Core.Bool.{Bool, true, false, not, cond, _&&_}
 use lib.Dec.{eqb}
-use Rattle.geometry.specs.Blocks.{location, blockOf, bankOf}
-use Rattle.protection.specs.Words.{isUnprotected, withUnprotected}
 use Rattle.semantics.specs.declared.Mode.the-variants.{Array, Status, Signature, Query}
 use Rattle.semantics.specs.declared.Setup.{Setup}
 use Rattle.semantics.specs.declared.Setup.the-variants as setup
@@ -20,7 +18,10 @@ use Rattle.semantics.specs.declared.Command.the-variants as command
 use Rattle.semantics.specs.declared.LockCommand.{LockCommand}
 use Rattle.semantics.specs.declared.LockCommand.the-variants as lock
 use Rattle.semantics.specs.declared.State.{State}
-use Rattle.semantics.specs.State.{geometry, withActivity, withFlags, withProtection, withConfiguration, withMode, activity, withSetup, withRunning, runs, programSuspended, eraseSuspended, flagsOf, noFlags, raise}
+use Rattle.semantics.specs.declared.Place.{Place}
+use Rattle.semantics.specs.declared.View.{View}
+use Rattle.semantics.specs.State.{geometry, activity, withSetup, withRunning, runs, programSuspended, eraseSuspended, flagsOf, noFlags}
+use Rattle.semantics.specs.View.{placeOf, viewAt, withView, withActivity, withFlags, withConfiguration, withMode, withProtection, raise}
 use Rattle.semantics.specs.WellFormed.{erasing}
 
 -- ---- the first cycle: "The command is data modulo 256. With no set-up pending:"
@@ -65,69 +66,71 @@ accepts a setup.Program = not (runs (a .running)) && not (programSuspended (a .p
 accepts a setup.Erase = not (runs (a .running)) && (not (programSuspended (a .program)) && not (eraseSuspended (a .erase)))
 accepts a setup.Lock = not (runs (a .running)) && not (programSuspended (a .program))
 
--- a set-up cycle in bank k, which "puts the bank of its own address in status mode"; one that is not accepted is ignored
-unfoldable pub setUp : State → ℕ → Setup → State
-setUp s k x = cond (accepts (s .activity) x) (withMode (withActivity s (withSetup (s .activity) x)) k Status) s
+-- a set-up cycle, which "puts the bank of its own address in status mode"; one that is not accepted is ignored
+unfoldable pub setUp : View → Setup → View
+setUp v x = cond (accepts (v .activity) x) (withMode (withActivity v (withSetup (v .activity) x)) Status) v
 
 -- "50h, nothing running: the flags are cleared."
-unfoldable pub clearStatus : State → State
-clearStatus s = cond (runs (s .activity .running)) s (withFlags s noFlags)
+unfoldable pub clearStatus : View → View
+clearStatus v = cond (runs (v .activity .running)) v (withFlags v noFlags)
 
 -- "FFh, 70h, 90h, 98h, always: the addressed bank's mode becomes array, status, signature, query." "Anything else is ignored without a flag"
-unfoldable pub firstCycle : State → ℕ → Command → State
-firstCycle s k command.ReadArray = withMode s k Array
-firstCycle s k command.ReadStatus = withMode s k Status
-firstCycle s k command.ReadSignature = withMode s k Signature
-firstCycle s k command.ReadQuery = withMode s k Query
-firstCycle s k command.Suspend = withActivity s (suspended (s .activity) (s .activity .running))
-firstCycle s k command.Resume = withActivity s (resume (s .activity))
-firstCycle s k command.ClearStatus = clearStatus s
-firstCycle s k command.SetUpProgram = setUp s k setup.Program
-firstCycle s k command.SetUpErase = setUp s k setup.Erase
-firstCycle s k command.SetUpLock = setUp s k setup.Lock
-firstCycle s k command.Unknown = s
+unfoldable pub firstCycle : View → Command → View
+firstCycle v command.ReadArray = withMode v Array
+firstCycle v command.ReadStatus = withMode v Status
+firstCycle v command.ReadSignature = withMode v Signature
+firstCycle v command.ReadQuery = withMode v Query
+firstCycle v command.Suspend = withActivity v (suspended (v .activity) (v .activity .running))
+firstCycle v command.Resume = withActivity v (resume (v .activity))
+firstCycle v command.ClearStatus = clearStatus v
+firstCycle v command.SetUpProgram = setUp v setup.Program
+firstCycle v command.SetUpErase = setUp v setup.Erase
+firstCycle v command.SetUpLock = setUp v setup.Lock
+firstCycle v command.Unknown = v
 
 -- ---- the second cycle: "it ends the set-up, its address alone names the word or block, and the first rule that applies holds"
 
--- "supply off, set SR4 and SR3; block protected, SR4 and SR1; block of the suspended erase, SR4; else a program runs": at location l of
--- block b, with the whole word w as data
-unfoldable pub programCycle : State → ℕ → ℕ → ℕ → State
-programCycle s b l w =
-    cond (not (s .supply)) (raise s (flagsOf false true true false))
-    (cond (not (isUnprotected (s .unprotected) b)) (raise s (flagsOf false true false true))
-    (cond (erasing (s .activity .erase) b) (raise s (flagsOf false true false false))
-    (withActivity s (withRunning (s .activity) (running.Program l w)))))
+-- "supply off, set SR4 and SR3; block protected, SR4 and SR1; block of the suspended erase, SR4; else a program runs": with the whole word w as data
+unfoldable pub programCycle : View → Place → ℕ → View
+programCycle v p w =
+    cond (not (v .supply)) (raise v (flagsOf false true true false))
+    (cond (not (v .unprotected)) (raise v (flagsOf false true false true))
+    (cond (erasing (v .activity .erase) (p .block)) (raise v (flagsOf false true false false))
+    (withActivity v (withRunning (v .activity) (running.Program (p .location) w)))))
 
 -- "command not D0h, set SR5 and SR4; supply off, SR5 and SR3; protected, SR5 and SR1; else an erase runs with no word done"
-unfoldable pub eraseCycle : State → ℕ → ℕ → State
-eraseCycle s b c =
-    cond (not (eqb c 0xD0)) (raise s (flagsOf true true false false))
-    (cond (not (s .supply)) (raise s (flagsOf true false true false))
-    (cond (not (isUnprotected (s .unprotected) b)) (raise s (flagsOf true false false true))
-    (withActivity s (withRunning (s .activity) (running.Erase b 0)))))
+unfoldable pub eraseCycle : View → Place → ℕ → View
+eraseCycle v p c =
+    cond (not (eqb c 0xD0)) (raise v (flagsOf true true false false))
+    (cond (not (v .supply)) (raise v (flagsOf true false true false))
+    (cond (not (v .unprotected)) (raise v (flagsOf true false false true))
+    (withActivity v (withRunning (v .activity) (running.Erase (p .block) 0)))))
 
 unfoldable pub lockCommandOf : ℕ → LockCommand
 lockCommandOf c = cond (eqb c 0x01) lock.Protect (cond (eqb c 0xD0) lock.Unprotect (cond (eqb c 0x03) lock.Configure lock.Unknown))
 
 -- "01h protects the block, D0h opens it, 03h sets the configuration register to the address modulo 65,536; else SR5 and SR4. Supply is not
 -- looked at."
-unfoldable pub lockCycle : State → ℕ → ℕ → LockCommand → State
-lockCycle s b address lock.Protect = withProtection s (withUnprotected (s .unprotected) b false)
-lockCycle s b address lock.Unprotect = withProtection s (withUnprotected (s .unprotected) b true)
-lockCycle s b address lock.Configure = withConfiguration s (address % 65536)
-lockCycle s b address lock.Unknown = raise s (flagsOf true true false false)
+unfoldable pub lockCycle : View → Place → LockCommand → View
+lockCycle v p lock.Protect = withProtection v false
+lockCycle v p lock.Unprotect = withProtection v true
+lockCycle v p lock.Configure = withConfiguration v (p .address % 65536)
+lockCycle v p lock.Unknown = raise v (flagsOf true true false false)
 
--- the end of the set-up, with bank k, that of the second cycle's own address, in status mode
-unfoldable pub settle : State → ℕ → State
-settle s k = withMode (withActivity s (withSetup (s .activity) setup.Nothing)) k Status
+-- the end of the set-up, with the bank of the second cycle's own address in status mode
+unfoldable pub settle : View → View
+settle v = withMode (withActivity v (withSetup (v .activity) setup.Nothing)) Status
 
--- the cycle at location l of an address, by the set-up that is pending
-unfoldable pub cycle : State → Setup → ℕ → ℕ → ℕ → State
-cycle s setup.Nothing l address w = firstCycle s (bankOf (geometry s) l) (commandOf (w % 256))
-cycle s setup.Program l address w = programCycle (settle s (bankOf (geometry s) l)) (blockOf (geometry s) l) l w
-cycle s setup.Erase l address w = eraseCycle (settle s (bankOf (geometry s) l)) (blockOf (geometry s) l) (w % 256)
-cycle s setup.Lock l address w = lockCycle (settle s (bankOf (geometry s) l)) (blockOf (geometry s) l) address (lockCommandOf (w % 256))
+-- the cycle of a word w, by the set-up that is pending
+unfoldable pub cycle : View → Setup → Place → ℕ → View
+cycle v setup.Nothing p w = firstCycle v (commandOf (w % 256))
+cycle v setup.Program p w = programCycle (settle v) p w
+cycle v setup.Erase p w = eraseCycle (settle v) p (w % 256)
+cycle v setup.Lock p w = lockCycle (settle v) p (lockCommandOf (w % 256))
 
--- the state after a write of the word w
+-- the state after a write of the word w at a place, and to an address
+unfoldable pub writtenAt : State → Place → ℕ → State
+writtenAt s p w = withView s p (cycle (viewAt s p) (s .activity .setup) p w)
+
 unfoldable pub written : State → ℕ → ℕ → State
-written s address w = cycle s (s .activity .setup) (location (geometry s) address) address w
+written s address w = writtenAt s (placeOf (geometry s) address) w

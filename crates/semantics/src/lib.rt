@@ -67,6 +67,30 @@ pub struct State {
     pub supply: bool,
 }
 
+// What an address names: its location, and the bank and the block that this lies in.
+pub struct Place {
+    pub address: u32,
+    pub location: u32,
+    pub bank: u32,
+    pub block: u32,
+}
+
+// What a read or a write at a place sees of a state, and may change: of the modes that of the addressed bank, of the protection that of the addressed block.
+pub struct View {
+    pub activity: Activity,
+    pub flags: Flags,
+    pub configuration: u16,
+    pub supply: bool,
+    pub mode: Mode,
+    pub unprotected: bool,
+}
+
+// What is under way after work, and the units that were done.
+pub struct Worked {
+    pub activity: Activity,
+    pub units: u32,
+}
+
 // One of the five steps: read an address; write a word to an address; work up to so many units; switch the supply; reset.
 pub enum Step {
     Read(u32),

@@ -5,16 +5,21 @@ use semantics::Activity;
 use semantics::Bank;
 use semantics::Flags;
 use semantics::Mode;
+use semantics::Place;
 use semantics::Running;
 use semantics::Setup;
 use semantics::State;
+use semantics::Step;
 use semantics::SuspendedErase;
 use semantics::SuspendedProgram;
+use semantics::View;
 ghost use mathlib.Core.Path.{_≡_};
+ghost use Prim.Native.Nat.{_<_};
 ghost use Rattle.geometry.specs.Blocks.{geometryOf};
-ghost use Rattle.semantics.specs.State.{withActivity, withFlags, withProtection, withConfiguration, withSupply, withMode, modeOf, flagsOf, noFlags, joined, raise, powerUp};
+ghost use Rattle.semantics.specs.State.{withActivity, withProtection, withSupply, modeIn, flagsOf, noFlags, joined, powerUp};
+ghost use Rattle.semantics.specs.View.{placeOf, viewAt, withView};
 ghost use Rattle.semantics.specs.WellFormed.{wellFormed};
-ghost use Rattle.semantics.specs.Steps.{stateRefusal, addressRefusal, countRefusal};
+ghost use Rattle.semantics.specs.Steps.{stateRefusal, addressRefusal, countRefusal, stepRefusal, firstRefusal};
 
 // ---- one field changed
 
@@ -25,24 +30,10 @@ pub fn with_activity(mut s: State, x: Activity) -> State
     s
 }
 
-pub fn with_flags(mut s: State, x: Flags) -> State
-    ensures { λ r. ⌜ r ≡ withFlags s x ⌝ }
-{
-    s.flags = x;
-    s
-}
-
 pub fn with_protection(mut s: State, x: [u64; 5]) -> State
     ensures { λ r. ⌜ r ≡ withProtection s x ⌝ }
 {
     s.unprotected = x;
-    s
-}
-
-pub fn with_configuration(mut s: State, x: u16) -> State
-    ensures { λ r. ⌜ r ≡ withConfiguration s x ⌝ }
-{
-    s.configuration = x;
     s
 }
 
@@ -53,25 +44,70 @@ pub fn with_supply(mut s: State, x: bool) -> State
     s
 }
 
+// ---- places and views
+
+// What an address names on a part.
+pub fn place_of(part: Part, address: u32) -> Place
+    ensures { λ r. ⌜ r ≡ placeOf (geometryOf part) address ⌝ }
+    ensures bank { λ r. ⌜ r .bank < 16 ⌝ }
+    ensures block { λ r. ⌜ r .block < 259 ⌝ }
+{
+    let location = geometry::location_of(part, address);
+    let bank = geometry::bank_of(part, location);
+    let block = geometry::block_of(part, location);
+    Place {
+        address,
+        location,
+        bank,
+        block,
+    }
+}
+
 // The read mode of a bank; a number that is no bank is given array.
-pub fn mode_of(s: State, bank: u32) -> Mode
-    ensures { λ r. ⌜ r ≡ modeOf s bank ⌝ }
+pub fn mode_of(banks: [Bank; 16], bank: u32) -> Mode
+    ensures { λ r. ⌜ r ≡ modeIn banks bank ⌝ }
 {
     if bank < 16 {
         let i = bank as usize;
-        let banks = s.banks;
         let b = banks[i];
         return b.mode;
     }
     Mode::Array
 }
 
-// The state with a bank in another read mode; a number that is no bank changes none.
-pub fn with_mode(mut s: State, bank: u32, x: Mode) -> State
-    ensures { λ r. ⌜ r ≡ withMode s bank x ⌝ }
+// What is seen of the state at a place.
+pub fn view_at(s: State, p: Place) -> View
+    ensures { λ r. ⌜ r ≡ viewAt s p ⌝ }
 {
+    let banks = s.banks;
+    let words = s.unprotected;
+    let activity = s.activity;
+    let flags = s.flags;
+    View {
+        activity,
+        flags,
+        configuration: s.configuration,
+        supply: s.supply,
+        mode: mode_of(banks, p.bank),
+        unprotected: protection::is_unprotected(words, p.block),
+    }
+}
+
+// The state with what is seen at a place changed; a number that is no bank changes no mode.
+pub fn with_view(mut s: State, p: Place, v: View) -> State
+    ensures { λ r. ⌜ r ≡ withView s p v ⌝ }
+{
+    let activity = v.activity;
+    let flags = v.flags;
+    let mode = v.mode;
+    let bank = p.bank;
+    s.activity = activity;
+    s.flags = flags;
+    s.configuration = v.configuration;
+    s.supply = v.supply;
+    protection::set_block(&mut s.unprotected, p.block, v.unprotected);
     if bank < 16 {
-        let b = Bank { mode: x };
+        let b = Bank { mode };
         s.banks[bank as usize] = b;
         return s;
     }
@@ -105,15 +141,6 @@ pub fn join(f: Flags, g: Flags) -> Flags
     }
 }
 
-// The state with these flags set beside those that were.
-pub fn with_raised(mut s: State, g: Flags) -> State
-    ensures { λ r. ⌜ r ≡ raise s g ⌝ }
-{
-    let f = s.flags;
-    s.flags = join(f, g);
-    s
-}
-
 // ---- power-up
 
 pub fn power_up(part: Part) -> State
@@ -133,6 +160,15 @@ pub fn power_up(part: Part) -> State
         configuration: 0xffff,
         supply: false,
     }
+}
+
+// Reset: the power-up state, but for the supply.
+pub fn reset(s: State) -> State
+    ensures { λ r. ⌜ r ≡ withSupply (powerUp (s .part)) (s .supply) ⌝ }
+{
+    let part = s.part;
+    let on = s.supply;
+    with_supply(power_up(part), on)
 }
 
 // ---- refusals
@@ -176,6 +212,19 @@ pub fn address_refusal(part: Part, address: u32) -> u32
     5
 }
 
+// What a step's own numbers are refused for, 0 where for nothing.
+pub fn step_refusal(part: Part, x: Step) -> u32
+    ensures { λ r. ⌜ r ≡ stepRefusal (geometryOf part) x ⌝ }
+{
+    match x {
+        Step::Read(address) => address_refusal(part, address),
+        Step::Write(address, word) => address_refusal(part, address),
+        Step::Work(count) => count_refusal(count),
+        Step::Supply(on) => 0,
+        Step::Reset => 0,
+    }
+}
+
 // The refusal of a work count, 0 where there is none.
 pub fn count_refusal(n: u32) -> u32
     ensures { λ r. ⌜ r ≡ countRefusal n ⌝ }
@@ -184,4 +233,14 @@ pub fn count_refusal(n: u32) -> u32
         return 4;
     }
     0
+}
+
+// The first of two refusals that is one: 0 is none.
+pub fn first_refusal(a: u32, b: u32) -> u32
+    ensures { λ r. ⌜ r ≡ firstRefusal a b ⌝ }
+{
+    if a == 0 {
+        return b;
+    }
+    a
 }

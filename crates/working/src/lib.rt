@@ -1,10 +1,12 @@
 // The work on the borrowed array: units of what runs, at every location.
 use geometry::Part;
+use semantics::Activity;
 use semantics::Running;
+use semantics::Worked;
 ghost use mathlib.Core.Path.{_≡_};
 ghost use Prim.Native.Nat.{min};
 ghost use Rattle.geometry.specs.Blocks.{geometryOf};
-ghost use Rattle.semantics.specs.Working.{arrayAfter};
+ghost use Rattle.semantics.specs.Working.{unitsDone, arrayAfter, workedOn};
 ghost use Rattle.working.specs.Array.{anded, filled};
 
 // The lesser of two.
@@ -50,5 +52,20 @@ pub fn apply(part: Part, r: Running, m: u32, array: &mut [u16])
             let from = first + done as usize;
             fill(array, from, from + m as usize);
         }
+    }
+}
+
+// Up to n units of what runs.
+pub fn work(part: Part, a: Activity, array: &mut [u16], n: u32) -> Worked
+    ensures worked { λ r. ⌜ r ≡ workedOn (geometryOf part) a n ⌝ }
+    ensures array { λ r. ⌜ now (array .exit) ≡ arrayAfter (geometryOf part) (a .running) (unitsDone (geometryOf part) (a .running) n) (now (array .entry)) ⌝ }
+{
+    let running = a.running;
+    let units = operation::units_done(part, running, n);
+    apply(part, running, units, array);
+    let after = operation::running_after(part, running, units);
+    Worked {
+        activity: operation::with_running(a, after),
+        units,
     }
 }

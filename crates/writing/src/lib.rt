@@ -1,13 +1,51 @@
-// What a write makes of a state: the first and the second cycles of the commands (document 01, "Write, address, data."). The array is not touched.
-// Each function takes every state and number.
+// What a write makes of what it sees of a state: the first and the second cycles of the commands (document 01, "Write, address, data."). The array is not touched.
+// Each function takes every view and number.
+use semantics::Activity;
 use semantics::Command;
+use semantics::Flags;
 use semantics::LockCommand;
 use semantics::Mode;
+use semantics::Place;
 use semantics::Running;
 use semantics::Setup;
 use semantics::State;
+use semantics::View;
 ghost use mathlib.Core.Path.{_≡_};
+ghost use Rattle.semantics.specs.View.{viewAt, withActivity, withMode, raise};
 ghost use Rattle.semantics.specs.Writing.{commandOf, setUp, clearStatus, firstCycle, programCycle, eraseCycle, lockCommandOf, lockCycle, settle, cycle, written};
+
+// ---- a view changed
+
+fn with_activity(mut v: View, x: Activity) -> View
+    ensures { λ r. ⌜ r ≡ withActivity v x ⌝ }
+{
+    v.activity = x;
+    v
+}
+
+fn with_mode(v: View, x: Mode) -> View
+    ensures { λ r. ⌜ r ≡ withMode v x ⌝ }
+{
+    let activity = v.activity;
+    let flags = v.flags;
+    View {
+        activity,
+        flags,
+        configuration: v.configuration,
+        supply: v.supply,
+        mode: x,
+        unprotected: v.unprotected,
+    }
+}
+
+// The view with these flags set beside those that were.
+fn with_raised(mut v: View, x: Flags) -> View
+    ensures { λ r. ⌜ r ≡ raise v x ⌝ }
+{
+    let f = v.flags;
+    v.flags = state::join(f, x);
+    v
+}
 
 // ---- the first cycle
 
@@ -31,89 +69,91 @@ fn command_of(c: u16) -> Command
     }
 }
 
-// A set-up cycle in a bank; one that is not accepted is ignored.
-fn set_up(s: State, bank: u32, x: Setup) -> State
-    ensures { λ r. ⌜ r ≡ setUp s bank x ⌝ }
+// A set-up cycle; one that is not accepted is ignored.
+fn set_up(v: View, x: Setup) -> View
+    ensures { λ r. ⌜ r ≡ setUp v x ⌝ }
 {
-    let a = s.activity;
+    let a = v.activity;
     if operation::accepts(a, x) {
-        let t = state::with_activity(s, operation::with_setup(a, x));
-        return state::with_mode(t, bank, Mode::Status);
+        return with_mode(with_activity(v, operation::with_setup(a, x)), Mode::Status);
     }
-    s
+    v
 }
 
-fn clear_status(s: State) -> State
-    ensures { λ r. ⌜ r ≡ clearStatus s ⌝ }
+fn clear_status(mut v: View) -> View
+    ensures { λ r. ⌜ r ≡ clearStatus v ⌝ }
 {
-    let a = s.activity;
+    let a = v.activity;
     let running = a.running;
     if operation::runs(running) {
-        return s;
+        return v;
     }
-    state::with_flags(s, state::no_flags())
+    v.flags = state::no_flags();
+    v
 }
 
-fn first_cycle(s: State, bank: u32, c: Command) -> State
-    ensures { λ r. ⌜ r ≡ firstCycle s bank c ⌝ }
+fn first_cycle(v: View, c: Command) -> View
+    ensures { λ r. ⌜ r ≡ firstCycle v c ⌝ }
 {
-    let a = s.activity;
+    let a = v.activity;
     match c {
-        Command::ReadArray => state::with_mode(s, bank, Mode::Array),
-        Command::ReadStatus => state::with_mode(s, bank, Mode::Status),
-        Command::ReadSignature => state::with_mode(s, bank, Mode::Signature),
-        Command::ReadQuery => state::with_mode(s, bank, Mode::Query),
-        Command::Suspend => state::with_activity(s, operation::suspended(a)),
-        Command::Resume => state::with_activity(s, operation::resume(a)),
-        Command::ClearStatus => clear_status(s),
-        Command::SetUpProgram => set_up(s, bank, Setup::Program),
-        Command::SetUpErase => set_up(s, bank, Setup::Erase),
-        Command::SetUpLock => set_up(s, bank, Setup::Lock),
-        Command::Unknown => s,
+        Command::ReadArray => with_mode(v, Mode::Array),
+        Command::ReadStatus => with_mode(v, Mode::Status),
+        Command::ReadSignature => with_mode(v, Mode::Signature),
+        Command::ReadQuery => with_mode(v, Mode::Query),
+        Command::Suspend => with_activity(v, operation::suspended(a)),
+        Command::Resume => with_activity(v, operation::resume(a)),
+        Command::ClearStatus => clear_status(v),
+        Command::SetUpProgram => set_up(v, Setup::Program),
+        Command::SetUpErase => set_up(v, Setup::Erase),
+        Command::SetUpLock => set_up(v, Setup::Lock),
+        Command::Unknown => v,
     }
 }
 
 // ---- the second cycle
 
-// After a program set-up: the word is programmed at the location, which lies in the block, or flags say why not.
-fn program_cycle(s: State, block: u32, location: u32, word: u16) -> State
-    ensures { λ r. ⌜ r ≡ programCycle s block location word ⌝ }
+// After a program set-up: the word is programmed at the place, or flags say why not.
+fn program_cycle(v: View, p: Place, word: u16) -> View
+    ensures { λ r. ⌜ r ≡ programCycle v p word ⌝ }
 {
-    let a = s.activity;
+    let a = v.activity;
     let erase = a.erase;
-    let words = s.unprotected;
-    let on = s.supply;
-    if !on {
-        return state::with_raised(s, state::flags_of(false, true, true, false));
+    if !v.supply {
+        return with_raised(v, state::flags_of(false, true, true, false));
     }
-    if !protection::is_unprotected(words, block) {
-        return state::with_raised(s, state::flags_of(false, true, false, true));
+    if !v.unprotected {
+        return with_raised(v, state::flags_of(false, true, false, true));
     }
-    if operation::erasing(erase, block) {
-        return state::with_raised(s, state::flags_of(false, true, false, false));
+    if operation::erasing(erase, p.block) {
+        return with_raised(v, state::flags_of(false, true, false, false));
     }
-    let running = Running::Program { location, word };
-    state::with_activity(s, operation::with_running(a, running))
+    let running = Running::Program {
+        location: p.location,
+        word,
+    };
+    with_activity(v, operation::with_running(a, running))
 }
 
 // After an erase set-up: the block is erased where the command confirms it, or flags say why not.
-fn erase_cycle(s: State, block: u32, c: u16) -> State
-    ensures { λ r. ⌜ r ≡ eraseCycle s block c ⌝ }
+fn erase_cycle(v: View, p: Place, c: u16) -> View
+    ensures { λ r. ⌜ r ≡ eraseCycle v p c ⌝ }
 {
-    let a = s.activity;
-    let words = s.unprotected;
-    let on = s.supply;
+    let a = v.activity;
     if c != 0xd0 {
-        return state::with_raised(s, state::flags_of(true, true, false, false));
+        return with_raised(v, state::flags_of(true, true, false, false));
     }
-    if !on {
-        return state::with_raised(s, state::flags_of(true, false, true, false));
+    if !v.supply {
+        return with_raised(v, state::flags_of(true, false, true, false));
     }
-    if !protection::is_unprotected(words, block) {
-        return state::with_raised(s, state::flags_of(true, false, false, true));
+    if !v.unprotected {
+        return with_raised(v, state::flags_of(true, false, false, true));
     }
-    let running = Running::Erase { block, done: 0 };
-    state::with_activity(s, operation::with_running(a, running))
+    let running = Running::Erase {
+        block: p.block,
+        done: 0,
+    };
+    with_activity(v, operation::with_running(a, running))
 }
 
 // The command that a number is after a lock set-up.
@@ -129,43 +169,59 @@ fn lock_command_of(c: u16) -> LockCommand
 }
 
 // After a lock set-up. The configuration is the address's low 16 bits, whatever the location is.
-fn lock_cycle(s: State, block: u32, address: u32, c: LockCommand) -> State
-    ensures { λ r. ⌜ r ≡ lockCycle s block address c ⌝ }
+fn lock_cycle(mut v: View, p: Place, c: LockCommand) -> View
+    ensures { λ r. ⌜ r ≡ lockCycle v p c ⌝ }
 {
-    let words = s.unprotected;
     match c {
-        LockCommand::Protect => state::with_protection(s, protection::protected(words, block)),
-        LockCommand::Unprotect => state::with_protection(s, protection::unprotected(words, block)),
-        LockCommand::Configure => state::with_configuration(s, (address % 65536) as u16),
-        LockCommand::Unknown => state::with_raised(s, state::flags_of(true, true, false, false)),
+        LockCommand::Protect => {
+            v.unprotected = false;
+            v
+        }
+        LockCommand::Unprotect => {
+            v.unprotected = true;
+            v
+        }
+        LockCommand::Configure => {
+            v.configuration = (p.address % 65536) as u16;
+            v
+        }
+        LockCommand::Unknown => with_raised(v, state::flags_of(true, true, false, false)),
     }
 }
 
 // The end of the set-up, with the bank of the second cycle in status mode.
-fn settle(s: State, bank: u32) -> State
-    ensures { λ r. ⌜ r ≡ settle s bank ⌝ }
+fn settle(v: View) -> View
+    ensures { λ r. ⌜ r ≡ settle v ⌝ }
 {
-    let a = s.activity;
-    let t = state::with_activity(s, operation::with_setup(a, Setup::Nothing));
-    state::with_mode(t, bank, Mode::Status)
+    let a = v.activity;
+    with_mode(
+        with_activity(v, operation::with_setup(a, Setup::Nothing)),
+        Mode::Status,
+    )
 }
 
 // ---- a write
 
-// The cycle at a location, by the set-up that is pending. A program takes the whole word, any other its low byte.
-fn cycle(s: State, setup: Setup, location: u32, address: u32, word: u16) -> State
-    ensures { λ r. ⌜ r ≡ cycle s setup location address word ⌝ }
+// The cycle at a place, by the set-up that is pending. A program takes the whole word, any other its low byte.
+fn cycle(v: View, p: Place, word: u16) -> View
+    ensures { λ r. ⌜ r ≡ cycle v (v .activity .setup) p word ⌝ }
 {
-    let part = s.part;
-    let bank = geometry::bank_of(part, location);
-    let block = geometry::block_of(part, location);
+    let a = v.activity;
+    let setup = a.setup;
     let c = word % 256;
     match setup {
-        Setup::Nothing => first_cycle(s, bank, command_of(c)),
-        Setup::Program => program_cycle(settle(s, bank), block, location, word),
-        Setup::Erase => erase_cycle(settle(s, bank), block, c),
-        Setup::Lock => lock_cycle(settle(s, bank), block, address, lock_command_of(c)),
+        Setup::Nothing => first_cycle(v, command_of(c)),
+        Setup::Program => program_cycle(settle(v), p, word),
+        Setup::Erase => erase_cycle(settle(v), p, c),
+        Setup::Lock => lock_cycle(settle(v), p, lock_command_of(c)),
     }
+}
+
+// What a write of a word makes of what it sees of the state at a place.
+pub fn view_after(s: State, p: Place, word: u16) -> View
+    ensures { λ r. ⌜ r ≡ cycle (viewAt s p) (s .activity .setup) p word ⌝ }
+{
+    cycle(state::view_at(s, p), p, word)
 }
 
 // The state after a write of a word to an address.
@@ -173,8 +229,6 @@ pub fn written(s: State, address: u32, word: u16) -> State
     ensures { λ r. ⌜ r ≡ written s address word ⌝ }
 {
     let part = s.part;
-    let a = s.activity;
-    let setup = a.setup;
-    let location = geometry::location_of(part, address);
-    cycle(s, setup, location, address, word)
+    let p = state::place_of(part, address);
+    state::with_view(s, p, view_after(s, p, word))
 }

@@ -1,96 +1,52 @@
--- `playback::run` meets its contract. The invariant: the first i numbers have been played (`Sofar`), and no length has changed. Assumes nothing.
-use Prim.Native.Nat.{_≤_, _-_}
-use mathlib.Core.Path.{_≡_, refl, sym, _∙_}
+-- `playback::run` meets its contract. The invariant: the first i numbers have been played, and what the state and the array are refused for is as it was
+-- (`Going`). One step more is what the code made of the state, by the way that it came. Assumes nothing.
+use mathlib.Core.Logic.{⊎-elim}
+use mathlib.Core.Path.{_≡_, sym, ap, _∙_}
+use Prim.Native.Nat.{_-_, min}
 use native.Mathlib.Omega.{arith}
 use native.Mathlib.Numerals.{add-one}
 use borrow.Author.Needs.{needs}
 use lib.ListN.{length}
-use Rattle.playback.specs.Laws.{Sofar, sofar-none, sofar-next, sofar-end}
+use Rattle.semantics.specs.Held.{does-refused, does-read, does-write, does-work, does-supply, does-reset}
+use Rattle.playback.specs.Laws.{Going, going-none, going-next, sofar-end}
+use Rattle.playback.proofs.Fits.{five, sixteen}
 use Rattle.playback.proofs.run.Statement.{statement}
 use Rattle.playback.proofs.run.Tie as tie
-use Rattle.playback.proofs.run.Reads as reads
-use Rattle.playback.proofs.run.Lts as lts
-use Rattle.device.proofs.Device.step.Reads as step-reads
-use Rattle.playback.proofs.answer_code.Reads as answer-code-reads
-use Rattle.playback.proofs.decoded.Reads as decoded-reads
 
 abbrev Inv-loop : tie.InvT-loop
-Inv-loop steps answers₀ array₀ d₀ i₀ answers array d i =
-    Sofar d₀ steps answers₀ array₀ i d answers array × (length answers ≡ length answers₀) × (length array ≡ length array₀)
+Inv-loop steps answers₀ array₀ s₀ refused n i₀ answers array s i = Going refused s₀ steps answers₀ array₀ i s answers array × (n ≡ min (length steps) (length answers₀))
 
 abbrev μ-loop : tie.MeasureT-loop
-μ-loop steps answers₀ array₀ d₀ i₀ answers array d i = length steps - i
+μ-loop steps answers₀ array₀ s₀ refused n i₀ answers array s i = n - i
 
 loop-holds : tie.Need-loop-holds Inv-loop μ-loop
-loop-holds c = (sofar-none _ _ _ _, refl, refl)
-
-same-length : tie.Need-same-length Inv-loop μ-loop
-same-length c = search needs
-
-same-length-2 : tie.Need-same-length-2 Inv-loop μ-loop
-same-length-2 c = search needs
+loop-holds c =
+    let d = c .before .before .before .before .before .before .args .device in
+    let p = c .before .before .before .before .before .before .good .0 in
+    (going-none _ _ _ _ _ (record { same = c .before .state-refusal .ensures; sixteen = sixteen d _ p; five = five d _ p }), c .least .ensures)
 
 returns : tie.Need-returns Inv-loop μ-loop
-returns c = sofar-end _ _ _ _ _ _ _ _ (c .before .before .loop .inv .0) (λ p q. absurd (omega arith))
-
-mul-decoded : tie.Need-mul-decoded Inv-loop μ-loop
-mul-decoded c = search needs
-
-shared-slice-read-decoded : tie.Need-shared-slice-read-decoded Inv-loop μ-loop
-shared-slice-read-decoded c = search needs
-
-decoded-requires : tie.Need-decoded-requires Inv-loop μ-loop
-decoded-requires c κs = search needs
-
-enum-known-found : tie.Need-enum-known-found Inv-loop μ-loop
-enum-known-found c = search needs
-
-step-requires : tie.Need-step-requires Inv-loop μ-loop
-step-requires c κs = search needs
-
-answer-code-requires : tie.Need-answer-code-requires Inv-loop μ-loop
-answer-code-requires c κs = search needs
-
-mul-answers : tie.Need-mul-answers Inv-loop μ-loop
-mul-answers c = search needs
-
-slice-write-answers : tie.Need-slice-write-answers Inv-loop μ-loop
-slice-write-answers c = search needs
-
-add-i : tie.Need-add-i Inv-loop μ-loop
-add-i c = search needs
-
-loop-less : tie.Need-loop-less Inv-loop μ-loop
-loop-less c = search needs
+returns c = rw (c .ended .ensures) (sofar-end _ _ _ _ _ _ _ _ (c .before .before .before .before .before .before .loop .inv .0 .sofar) (λ p q. sym (c .before .before .before .decoded .ensures) ∙ c .before .enum-told .given .1))
 
 loop-again : tie.Need-loop-again Inv-loop μ-loop
-loop-again c = (
-  rw (add-one, c .before .answer-code .ensures)
-      (sofar-next _ _ _ _ _ _ _ _ _ (c .before .before .before .before .step .result) _ (c .before .before .before .before .before .before .before .before .before .before .before .before .before .loop .inv .0) (omega arith) (omega arith) (sym (c .before .before .before .before .before .before .before .before .before .decoded .ensures) ∙ c .before .before .before .before .before .before .before .found .given .1) (c .before .before .before .before .step .ensures .0) (c .before .before .before .before .step .ensures .1)),
-  search needs,
-  search needs,
-)
-
-enum-told : tie.Need-enum-told Inv-loop μ-loop
-enum-told c = search needs
-
-same-length-3 : tie.Need-same-length-3 Inv-loop μ-loop
-same-length-3 c = search needs
-
-same-length-4 : tie.Need-same-length-4 Inv-loop μ-loop
-same-length-4 c = search needs
+loop-again c =
+    let l = c .before .before .before .before .before .before .before .before .before .before .loop in
+    let g = l .inv .0 in
+    let d = c .before .before .before .step-refusal .ensures in
+    let e = c .before .before .first-refusal .ensures in (
+      rw (add-one, c .answer-code .ensures)
+          (going-next _ _ _ _ _ _ _ _ _ _ _ _ _ g (omega arith) (omega arith) (sym (c .before .before .before .before .before .before .before .decoded .ensures) ∙ c .before .before .before .before .before .found .given .1)
+          (⊎-elim (λ w. does-refused _ _ _ (g .held) _ _ _ d e _ _ _ (w .0 .taken) (w .2) (w .3) (w .1))
+          (⊎-elim (λ w. does-read _ _ _ (g .held) _ _ _ d e _ _ _ _ _ (w .0 .left) (w .2 .given .1) (w .5 .ensures) (w .7) (w .8) (w .6))
+          (⊎-elim (λ w. does-write _ _ _ (g .held) _ _ _ d e _ _ _ _ _ _ _ _ (w .0 .left) (w .2 .given .1) (w .4 .ensures .0) (w .5 .ensures) (w .9 .ensures) (w .11) (w .12) (w .10))
+          (⊎-elim (λ w. does-work _ _ _ (g .held) _ _ _ d e _ _ _ _ _ (w .0 .left) (w .2 .given .1) (w .6 .ensures .0) (w .11) (w .12) (w .10 ∙ w .6 .ensures .1))
+          (⊎-elim (λ w. does-supply _ _ _ (g .held) _ _ _ d e _ _ _ _ (w .0 .left) (w .2 .given .1) (w .5) (w .6) (w .4))
+          (λ w. does-reset _ _ _ (g .held) _ _ _ d e _ _ _ (w .0 .left) (w .2 .given .1) (w .5 ∙ w .3 .ensures) (w .6) (w .4)))))) (c .before .if1 .came))),
+      l .inv .1,
+    )
 
 returns-2 : tie.Need-returns-2 Inv-loop μ-loop
-returns-2 c = sofar-end _ _ _ _ _ _ _ _ (c .before .before .before .before .before .before .loop .inv .0) (λ p q. sym (c .before .before .decoded .ensures) ∙ c .enum-told .given .1)
-
-same-length-5 : tie.Need-same-length-5 Inv-loop μ-loop
-same-length-5 c = search needs
-
-same-length-6 : tie.Need-same-length-6 Inv-loop μ-loop
-same-length-6 c = search needs
-
-returns-3 : tie.Need-returns-3 Inv-loop μ-loop
-returns-3 c = sofar-end _ _ _ _ _ _ _ _ (c .before .loop .inv .0) (λ p q. absurd (omega arith))
+returns-2 c = rw (c .ended2 .ensures) (sofar-end _ _ _ _ _ _ _ _ (c .before .before .loop .inv .0 .sofar) (λ p q. absurd (omega arith)))
 
 pub run-spec : {M : Type 1} → statement M
 run-spec =
@@ -98,25 +54,40 @@ run-spec =
     (tie.spec
     Inv-loop
     μ-loop
+    (λ c κs. search needs)
+    (λ c κs. search needs)
     loop-holds
-    same-length
-    same-length-2
+    (λ c. search needs)
+    (λ c. search needs)
+    (λ c κs. search needs)
+    (λ c. search needs)
+    (λ c. search needs)
+    (λ c κs. search needs)
+    (λ c. search needs)
+    (λ c. search needs)
     returns
-    mul-decoded
-    shared-slice-read-decoded
-    decoded-requires
-    enum-known-found
-    step-requires
-    answer-code-requires
-    mul-answers
-    slice-write-answers
-    add-i
-    loop-less
+    (λ c κs. search needs)
+    (λ c κs. search needs)
+    (λ c. search needs)
+    (λ c κs. search needs)
+    (λ c. search needs)
+    (λ c κs. search needs)
+    (λ c κs. search needs)
+    (λ c. search needs)
+    (λ c. search needs)
+    (λ c κs. search needs)
+    (λ c. search needs)
+    (λ c κs. search needs)
+    (λ c. search needs)
+    (λ c. search needs)
+    (λ c κs. search needs)
+    (λ c κs. search needs)
+    (λ c. search needs)
+    (λ c. search needs)
+    (λ c. search needs)
+    (λ c. search needs)
     loop-again
-    enum-told
-    same-length-3
-    same-length-4
-    returns-2
-    same-length-5
-    same-length-6
-    returns-3)
+    (λ c κs. search needs)
+    (λ c. search needs)
+    (λ c. search needs)
+    returns-2)

@@ -1,11 +1,8 @@
 -- `reading::read_in` meets its contract: by the mode, and in array mode by the test of what runs in the bank. Assumes nothing.
+use Rattle.semantics.specs.Reading.{readIn, signatureWord}
 use borrow.Author.Needs.{needs}
-use Rattle.semantics.specs.Reading.{readIn}
 use Rattle.reading.proofs.read_in.Statement.{statement}
 use Rattle.reading.proofs.read_in.Tie as tie
-
-bank-of-requires : tie.Need-bank-of-requires
-bank-of-requires c κs = search needs
 
 enum-told : tie.Need-enum-told
 enum-told c = search needs
@@ -18,14 +15,7 @@ status-word-requires c κs = search needs
 
 returns : tie.Need-returns
 unfolding readIn
-returns c =
-    simp (
-      c .status-word .ensures,
-      ← c .before .before .before .before .before .bank-of .ensures .0,
-      c .before .before .before .enum-told .given .1,
-      ← c .before .before .runs-in .ensures,
-      c .before .if1 .taken,
-    )
+returns c = rw (c .before .before .before .enum-told .given .1, ← c .before .before .runs-in .ensures, c .before .if1 .taken) (c .status-word .ensures)
 
 word-at-requires : tie.Need-word-at-requires
 word-at-requires c κs = search needs
@@ -53,32 +43,24 @@ query-word-requires c κs = search needs
 
 returns-2 : tie.Need-returns-2
 unfolding readIn
-returns-2 c =
-    simp (
-      c .word-at .ensures,
-      ← c .before .before .before .before .before .bank-of .ensures .0,
-      c .before .before .before .enum-told .given .1,
-      ← c .before .before .runs-in .ensures,
-      c .before .if1 .left,
-    )
+returns-2 c = rw (c .before .before .before .enum-told .given .1, ← c .before .before .runs-in .ensures, c .before .if1 .left) (c .word-at .ensures)
 
 returns-3 : tie.Need-returns-3
 unfolding readIn
-returns-3 c = simp (c .status-word2 .ensures, c .before .before .before .bank-of .ensures .0, c .before .enum-told2 .given .1)
+returns-3 c = rw (c .before .enum-told2 .given .1) (c .status-word2 .ensures)
 
 returns-4 : tie.Need-returns-4
-unfolding readIn
-returns-4 c = simp (c .signature-word .ensures, c .before .enum-told3 .given .1)
+unfolding readIn signatureWord
+returns-4 c = rw (c .before .enum-told3 .given .1) (c .signature-word .ensures)
 
 returns-5 : tie.Need-returns-5
 unfolding readIn
-returns-5 c = simp (c .query-word .ensures, c .before .bank-offset .ensures, c .before .before .enum-told4 .given .1)
+returns-5 c = rw (c .before .before .enum-told4 .given .1, ← c .before .bank-offset .ensures) (c .query-word .ensures)
 
 pub read-in-spec : {M : Type 1} → statement M
 read-in-spec =
     tie.close
     (tie.spec
-    bank-of-requires
     enum-told
     runs-in-requires
     status-word-requires

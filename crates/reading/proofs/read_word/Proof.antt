@@ -1,21 +1,21 @@
--- `reading::read_word` meets its contract: by what the functions that it calls ensure. Assumes nothing.
+-- `reading::read_word` meets its contract: the place, the view there, and what it shows. Assumes nothing.
+use Rattle.semantics.specs.Reading.{readAt, readWord}
 use borrow.Author.Needs.{needs}
-use Rattle.semantics.specs.Reading.{readWord}
 use Rattle.reading.proofs.read_word.Statement.{statement}
 use Rattle.reading.proofs.read_word.Tie as tie
 
-bank-of-requires : tie.Need-bank-of-requires
-bank-of-requires c κs = search needs
+place-of-requires : tie.Need-place-of-requires
+place-of-requires c κs = search needs
 
-mode-of-requires : tie.Need-mode-of-requires
-mode-of-requires c κs = search needs
+view-at-requires : tie.Need-view-at-requires
+view-at-requires c κs = search needs
 
 read-in-requires : tie.Need-read-in-requires
 read-in-requires c κs = search needs
 
 returns : tie.Need-returns
-unfolding readWord
-returns c = simp (c .read-in .ensures, c .before .mode-of .ensures, c .before .before .bank-of .ensures .0)
+unfolding readWord readAt
+returns c = simp (c .read-in .ensures, c .before .view-at .ensures, c .before .before .place-of .ensures .0)
 
 pub read-word-spec : {M : Type 1} → statement M
-read-word-spec = tie.close (tie.spec bank-of-requires mode-of-requires read-in-requires returns)
+read-word-spec = tie.close (tie.spec place-of-requires view-at-requires read-in-requires returns)

@@ -1,7 +1,7 @@
 -- `reading::signature_word` meets its contract: by the tests of the offsets that led to each return. Assumes nothing.
-use borrow.Author.Needs.{needs}
 use borrow.Author.Tests.{ne-eqb}
 use Rattle.semantics.specs.Reading.{signatureWord}
+use borrow.Author.Needs.{needs}
 use Rattle.reading.proofs.signature_word.Statement.{statement}
 use Rattle.reading.proofs.signature_word.Tie as tie
 
@@ -26,41 +26,16 @@ returns-3 c = simp (← c .before .before .before .bank-offset .ensures, c .if3 
 block-offset-requires : tie.Need-block-offset-requires
 block-offset-requires c κs = search needs
 
-block-of-requires : tie.Need-block-of-requires
-block-of-requires c κs = search needs
-
-is-unprotected-requires : tie.Need-is-unprotected-requires
-is-unprotected-requires c κs = search needs
-
 bit-if-requires : tie.Need-bit-if-requires
 bit-if-requires c κs = search needs
 
 returns-4 : tie.Need-returns-4
 unfolding signatureWord
-returns-4 c =
-    simp (
-      c .bit-if .ensures .0,
-      c .before .is-unprotected .ensures,
-      c .before .before .block-of .ensures .0,
-      ← c .before .before .before .before .before .before .before .before .bank-offset .ensures,
-      ne-eqb _ _ (c .before .before .before .before .before .before .before .if1 .left),
-      ne-eqb _ _ (c .before .before .before .before .before .before .if2 .left),
-      ne-eqb _ _ (c .before .before .before .before .before .if3 .left),
-      ← c .before .before .before .before .block-offset .ensures,
-      c .before .before .before .if4 .taken,
-    )
+returns-4 c = simp (c .bit-if .ensures .0, ← c .before .before .before .before .before .before .before .bank-offset .ensures, ne-eqb _ _ (c .before .before .before .before .before .before .if1 .left), ne-eqb _ _ (c .before .before .before .before .before .if2 .left), ne-eqb _ _ (c .before .before .before .before .if3 .left), ← c .before .before .before .block-offset .ensures, c .before .before .if4 .taken)
 
 returns-5 : tie.Need-returns-5
 unfolding signatureWord
-returns-5 c =
-    simp (
-      ← c .before .before .before .before .before .bank-offset .ensures,
-      ne-eqb _ _ (c .before .before .before .before .if1 .left),
-      ne-eqb _ _ (c .before .before .before .if2 .left),
-      ne-eqb _ _ (c .before .before .if3 .left),
-      ← c .before .block-offset .ensures,
-      ne-eqb _ _ (c .if4 .left),
-    )
+returns-5 c = simp (← c .before .before .before .before .before .bank-offset .ensures, ne-eqb _ _ (c .before .before .before .before .if1 .left), ne-eqb _ _ (c .before .before .before .if2 .left), ne-eqb _ _ (c .before .before .if3 .left), ← c .before .block-offset .ensures, ne-eqb _ _ (c .if4 .left))
 
 pub signature-word-spec : {M : Type 1} → statement M
 signature-word-spec =
@@ -72,8 +47,6 @@ signature-word-spec =
     returns-2
     returns-3
     block-offset-requires
-    block-of-requires
-    is-unprotected-requires
     bit-if-requires
     returns-4
     returns-5)

@@ -1,6 +1,6 @@
--- `writing::clear_status` meets its contract: by the test of what runs. Assumes nothing.
-use borrow.Author.Needs.{needs}
+-- `writing::clear_status` meets its contract: by whether something runs. Assumes nothing.
 use Rattle.semantics.specs.Writing.{clearStatus}
+use borrow.Author.Needs.{needs}
 use Rattle.writing.proofs.clear_status.Statement.{statement}
 use Rattle.writing.proofs.clear_status.Tie as tie
 
@@ -14,14 +14,9 @@ returns c = simp (← c .before .runs .ensures, c .if1 .taken)
 no-flags-requires : tie.Need-no-flags-requires
 no-flags-requires c κs = search needs
 
-with-flags-requires : tie.Need-with-flags-requires
-with-flags-requires c κs = search needs
-
 returns-2 : tie.Need-returns-2
 unfolding clearStatus
-returns-2 c =
-    simp (c .with-flags .ensures, c .before .no-flags .ensures, ← c .before .before .before .runs .ensures, c .before .before .if1 .left)
+returns-2 c = simp (c .no-flags .ensures, ← c .before .before .runs .ensures, c .before .if1 .left)
 
 pub clear-status-spec : {M : Type 1} → statement M
-clear-status-spec =
-    tie.close (tie.spec runs-requires returns no-flags-requires with-flags-requires returns-2)
+clear-status-spec = tie.close (tie.spec runs-requires returns no-flags-requires returns-2)

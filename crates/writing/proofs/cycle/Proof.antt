@@ -1,14 +1,8 @@
--- `writing::cycle` meets its contract: by the set-up that is pending, and what the functions that it calls ensure. Assumes nothing.
-use borrow.Author.Needs.{needs}
+-- `writing::cycle` meets its contract: by the set-up that is pending. Assumes nothing.
 use Rattle.semantics.specs.Writing.{cycle}
+use borrow.Author.Needs.{needs}
 use Rattle.writing.proofs.cycle.Statement.{statement}
 use Rattle.writing.proofs.cycle.Tie as tie
-
-bank-of-requires : tie.Need-bank-of-requires
-bank-of-requires c κs = search needs
-
-block-of-requires : tie.Need-block-of-requires
-block-of-requires c κs = search needs
 
 enum-told : tie.Need-enum-told
 enum-told c = search needs
@@ -51,54 +45,24 @@ lock-cycle-requires c κs = search needs
 
 returns : tie.Need-returns
 unfolding cycle
-returns c =
-    simp (
-      c .first-cycle .ensures,
-      c .before .command-of .ensures,
-      c .before .before .before .before .before .bank-of .ensures .0,
-      c .before .before .enum-told .given .1,
-    )
+returns c = simp (c .first-cycle .ensures, c .before .command-of .ensures, c .before .before .enum-told .given .1)
 
 returns-2 : tie.Need-returns-2
 unfolding cycle
-returns-2 c =
-    simp (
-      c .program-cycle .ensures,
-      c .before .settle .ensures,
-      c .before .before .before .before .block-of .ensures .0,
-      c .before .before .before .before .before .bank-of .ensures .0,
-      c .before .before .enum-told2 .given .1,
-    )
+returns-2 c = simp (c .program-cycle .ensures, c .before .settle .ensures, c .before .before .enum-told2 .given .1)
 
 returns-3 : tie.Need-returns-3
 unfolding cycle
-returns-3 c =
-    simp (
-      c .erase-cycle .ensures,
-      c .before .settle2 .ensures,
-      c .before .before .before .before .block-of .ensures .0,
-      c .before .before .before .before .before .bank-of .ensures .0,
-      c .before .before .enum-told3 .given .1,
-    )
+returns-3 c = simp (c .erase-cycle .ensures, c .before .settle2 .ensures, c .before .before .enum-told3 .given .1)
 
 returns-4 : tie.Need-returns-4
 unfolding cycle
-returns-4 c =
-    simp (
-      c .lock-cycle .ensures,
-      c .before .lock-command-of .ensures,
-      c .before .before .settle3 .ensures,
-      c .before .before .before .before .before .block-of .ensures .0,
-      c .before .before .before .before .before .before .bank-of .ensures .0,
-      c .before .before .before .enum-told4 .given .1,
-    )
+returns-4 c = simp (c .lock-cycle .ensures, c .before .lock-command-of .ensures, c .before .before .settle3 .ensures, c .before .before .before .enum-told4 .given .1)
 
 pub cycle-spec : {M : Type 1} → statement M
 cycle-spec =
     tie.close
     (tie.spec
-    bank-of-requires
-    block-of-requires
     enum-told
     command-of-requires
     first-cycle-requires

@@ -1,7 +1,7 @@
--- `writing::erase_cycle` meets its contract: by the tests that led to each return, which are in the definition's order. Assumes nothing.
-use borrow.Author.Needs.{needs}
-use borrow.Author.Tests.{ne-eqb}
+-- `writing::erase_cycle` meets its contract: by the tests that led to each return. Assumes nothing.
+use borrow.Author.Tests.{ne-eqb, eq-eqb}
 use Rattle.semantics.specs.Writing.{eraseCycle}
+use borrow.Author.Needs.{needs}
 use Rattle.writing.proofs.erase_cycle.Statement.{statement}
 use Rattle.writing.proofs.erase_cycle.Tie as tie
 
@@ -23,11 +23,7 @@ with-raised-requires-2 c κs = search needs
 
 returns-2 : tie.Need-returns-2
 unfolding eraseCycle
-returns-2 c =
-    simp (c .with-raised2 .ensures, c .before .flags-of2 .ensures, c .before .before .before .if1 .left, c .before .before .if2 .taken)
-
-is-unprotected-requires : tie.Need-is-unprotected-requires
-is-unprotected-requires c κs = search needs
+returns-2 c = simp (c .with-raised2 .ensures, c .before .flags-of2 .ensures, eq-eqb _ _ (c .before .before .before .before .if1 .left), c .before .before .if2 .taken)
 
 flags-of-requires-3 : tie.Need-flags-of-requires-3
 flags-of-requires-3 c κs = search needs
@@ -37,15 +33,7 @@ with-raised-requires-3 c κs = search needs
 
 returns-3 : tie.Need-returns-3
 unfolding eraseCycle
-returns-3 c =
-    simp (
-      c .with-raised3 .ensures,
-      c .before .flags-of3 .ensures,
-      c .before .before .before .before .before .if1 .left,
-      c .before .before .before .before .if2 .left,
-      ← c .before .before .before .is-unprotected .ensures,
-      c .before .before .if3 .taken,
-    )
+returns-3 c = simp (c .with-raised3 .ensures, c .before .flags-of3 .ensures, eq-eqb _ _ (c .before .before .before .before .before .before .if1 .left), c .before .before .before .before .if2 .left, c .before .before .if3 .taken)
 
 with-running-requires : tie.Need-with-running-requires
 with-running-requires c κs = search needs
@@ -55,15 +43,7 @@ with-activity-requires c κs = search needs
 
 returns-4 : tie.Need-returns-4
 unfolding eraseCycle
-returns-4 c =
-    simp (
-      c .with-activity .ensures,
-      c .before .with-running .ensures,
-      c .before .before .before .before .before .if1 .left,
-      c .before .before .before .before .if2 .left,
-      ← c .before .before .before .is-unprotected .ensures,
-      c .before .before .if3 .left,
-    )
+returns-4 c = rw (c .with-activity .ensures, c .before .with-running .ensures, eq-eqb _ _ (c .before .before .before .before .before .before .if1 .left), c .before .before .before .before .if2 .left, c .before .before .if3 .left)
 
 pub erase-cycle-spec : {M : Type 1} → statement M
 erase-cycle-spec =
@@ -75,7 +55,6 @@ erase-cycle-spec =
     flags-of-requires-2
     with-raised-requires-2
     returns-2
-    is-unprotected-requires
     flags-of-requires-3
     with-raised-requires-3
     returns-3

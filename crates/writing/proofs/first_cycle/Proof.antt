@@ -1,6 +1,6 @@
--- `writing::first_cycle` meets its contract: by the command, and what the functions that it calls ensure. Assumes nothing.
-use borrow.Author.Needs.{needs}
+-- `writing::first_cycle` meets its contract: by the command. Assumes nothing.
 use Rattle.semantics.specs.Writing.{firstCycle}
+use borrow.Author.Needs.{needs}
 use Rattle.writing.proofs.first_cycle.Statement.{statement}
 use Rattle.writing.proofs.first_cycle.Tie as tie
 
@@ -75,19 +75,19 @@ enum-told-11 c = search needs
 
 returns : tie.Need-returns
 unfolding firstCycle
-returns c = simp (c .with-mode .ensures, c .before .enum-told .given .1)
+returns c = rw (c .before .enum-told .given .1) (c .with-mode .ensures)
 
 returns-2 : tie.Need-returns-2
 unfolding firstCycle
-returns-2 c = simp (c .with-mode2 .ensures, c .before .enum-told2 .given .1)
+returns-2 c = rw (c .before .enum-told2 .given .1) (c .with-mode2 .ensures)
 
 returns-3 : tie.Need-returns-3
 unfolding firstCycle
-returns-3 c = simp (c .with-mode3 .ensures, c .before .enum-told3 .given .1)
+returns-3 c = rw (c .before .enum-told3 .given .1) (c .with-mode3 .ensures)
 
 returns-4 : tie.Need-returns-4
 unfolding firstCycle
-returns-4 c = simp (c .with-mode4 .ensures, c .before .enum-told4 .given .1)
+returns-4 c = rw (c .before .enum-told4 .given .1) (c .with-mode4 .ensures)
 
 returns-5 : tie.Need-returns-5
 unfolding firstCycle
@@ -99,23 +99,23 @@ returns-6 c = simp (c .with-activity2 .ensures, c .before .resume .ensures, c .b
 
 returns-7 : tie.Need-returns-7
 unfolding firstCycle
-returns-7 c = simp (c .clear-status .ensures, c .before .enum-told7 .given .1)
+returns-7 c = rw (c .before .enum-told7 .given .1) (c .clear-status .ensures)
 
 returns-8 : tie.Need-returns-8
 unfolding firstCycle
-returns-8 c = simp (c .set-up .ensures, c .before .enum-told8 .given .1)
+returns-8 c = rw (c .before .enum-told8 .given .1) (c .set-up .ensures)
 
 returns-9 : tie.Need-returns-9
 unfolding firstCycle
-returns-9 c = simp (c .set-up2 .ensures, c .before .enum-told9 .given .1)
+returns-9 c = rw (c .before .enum-told9 .given .1) (c .set-up2 .ensures)
 
 returns-10 : tie.Need-returns-10
 unfolding firstCycle
-returns-10 c = simp (c .set-up3 .ensures, c .before .enum-told10 .given .1)
+returns-10 c = rw (c .before .enum-told10 .given .1) (c .set-up3 .ensures)
 
 returns-11 : tie.Need-returns-11
 unfolding firstCycle
-returns-11 c = simp (c .enum-told11 .given .1)
+returns-11 c = rw (c .enum-told11 .given .1)
 
 pub first-cycle-spec : {M : Type 1} → statement M
 first-cycle-spec =

@@ -1,35 +1,20 @@
--- `writing::lock_cycle` meets its contract: by the command, and what the functions that it calls ensure. Assumes nothing.
-use borrow.Author.Needs.{needs}
+-- `writing::lock_cycle` meets its contract: by the command. Assumes nothing.
 use Rattle.semantics.specs.Writing.{lockCycle}
+use borrow.Author.Needs.{needs}
 use Rattle.writing.proofs.lock_cycle.Statement.{statement}
 use Rattle.writing.proofs.lock_cycle.Tie as tie
 
 enum-told : tie.Need-enum-told
 enum-told c = search needs
 
-protected-requires : tie.Need-protected-requires
-protected-requires c κs = search needs
-
-with-protection-requires : tie.Need-with-protection-requires
-with-protection-requires c κs = search needs
-
 enum-told-2 : tie.Need-enum-told-2
 enum-told-2 c = search needs
-
-unprotected-requires : tie.Need-unprotected-requires
-unprotected-requires c κs = search needs
-
-with-protection-requires-2 : tie.Need-with-protection-requires-2
-with-protection-requires-2 c κs = search needs
 
 enum-told-3 : tie.Need-enum-told-3
 enum-told-3 c = search needs
 
-cast-with-configuration : tie.Need-cast-with-configuration
-cast-with-configuration c = search needs
-
-with-configuration-requires : tie.Need-with-configuration-requires
-with-configuration-requires c κs = search needs
+cast-v : tie.Need-cast-v
+cast-v c = search needs
 
 enum-told-4 : tie.Need-enum-told-4
 enum-told-4 c = search needs
@@ -42,15 +27,15 @@ with-raised-requires c κs = search needs
 
 returns : tie.Need-returns
 unfolding lockCycle
-returns c = simp (c .with-protection .ensures, c .before .protected .ensures, c .before .before .enum-told .given .1)
+returns c = simp (c .enum-told .given .1)
 
 returns-2 : tie.Need-returns-2
 unfolding lockCycle
-returns-2 c = simp (c .with-protection2 .ensures, c .before .unprotected .ensures, c .before .before .enum-told2 .given .1)
+returns-2 c = simp (c .enum-told2 .given .1)
 
 returns-3 : tie.Need-returns-3
 unfolding lockCycle
-returns-3 c = simp (c .with-configuration .ensures, c .before .enum-told3 .given .1)
+returns-3 c = simp (c .before .enum-told3 .given .1)
 
 returns-4 : tie.Need-returns-4
 unfolding lockCycle
@@ -61,14 +46,9 @@ lock-cycle-spec =
     tie.close
     (tie.spec
     enum-told
-    protected-requires
-    with-protection-requires
     enum-told-2
-    unprotected-requires
-    with-protection-requires-2
     enum-told-3
-    cast-with-configuration
-    with-configuration-requires
+    cast-v
     enum-told-4
     flags-of-requires
     with-raised-requires

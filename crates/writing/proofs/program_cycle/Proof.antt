@@ -1,6 +1,6 @@
--- `writing::program_cycle` meets its contract: by the tests that led to each return, which are in the definition's order. Assumes nothing.
-use borrow.Author.Needs.{needs}
+-- `writing::program_cycle` meets its contract: by the tests that led to each return. Assumes nothing.
 use Rattle.semantics.specs.Writing.{programCycle}
+use borrow.Author.Needs.{needs}
 use Rattle.writing.proofs.program_cycle.Statement.{statement}
 use Rattle.writing.proofs.program_cycle.Tie as tie
 
@@ -14,9 +14,6 @@ returns : tie.Need-returns
 unfolding programCycle
 returns c = simp (c .with-raised .ensures, c .before .flags-of .ensures, c .before .before .if1 .taken)
 
-is-unprotected-requires : tie.Need-is-unprotected-requires
-is-unprotected-requires c κs = search needs
-
 flags-of-requires-2 : tie.Need-flags-of-requires-2
 flags-of-requires-2 c κs = search needs
 
@@ -25,14 +22,7 @@ with-raised-requires-2 c κs = search needs
 
 returns-2 : tie.Need-returns-2
 unfolding programCycle
-returns-2 c =
-    simp (
-      c .with-raised2 .ensures,
-      c .before .flags-of2 .ensures,
-      c .before .before .before .before .if1 .left,
-      ← c .before .before .before .is-unprotected .ensures,
-      c .before .before .if2 .taken,
-    )
+returns-2 c = simp (c .with-raised2 .ensures, c .before .flags-of2 .ensures, c .before .before .before .before .if1 .left, c .before .before .if2 .taken)
 
 erasing-requires : tie.Need-erasing-requires
 erasing-requires c κs = search needs
@@ -45,16 +35,7 @@ with-raised-requires-3 c κs = search needs
 
 returns-3 : tie.Need-returns-3
 unfolding programCycle
-returns-3 c =
-    simp (
-      c .with-raised3 .ensures,
-      c .before .flags-of3 .ensures,
-      c .before .before .before .before .before .before .if1 .left,
-      ← c .before .before .before .before .before .is-unprotected .ensures,
-      c .before .before .before .before .if2 .left,
-      ← c .before .before .before .erasing .ensures,
-      c .before .before .if3 .taken,
-    )
+returns-3 c = simp (c .with-raised3 .ensures, c .before .flags-of3 .ensures, c .before .before .before .before .before .before .if1 .left, c .before .before .before .before .if2 .left, ← c .before .before .before .erasing .ensures, c .before .before .if3 .taken)
 
 with-running-requires : tie.Need-with-running-requires
 with-running-requires c κs = search needs
@@ -64,16 +45,7 @@ with-activity-requires c κs = search needs
 
 returns-4 : tie.Need-returns-4
 unfolding programCycle
-returns-4 c =
-    simp (
-      c .with-activity .ensures,
-      c .before .with-running .ensures,
-      c .before .before .before .before .before .before .if1 .left,
-      ← c .before .before .before .before .before .is-unprotected .ensures,
-      c .before .before .before .before .if2 .left,
-      ← c .before .before .before .erasing .ensures,
-      c .before .before .if3 .left,
-    )
+returns-4 c = rw (c .with-activity .ensures, c .before .with-running .ensures, c .before .before .before .before .before .before .if1 .left, c .before .before .before .before .if2 .left, ← c .before .before .before .erasing .ensures, c .before .before .if3 .left)
 
 pub program-cycle-spec : {M : Type 1} → statement M
 program-cycle-spec =
@@ -82,7 +54,6 @@ program-cycle-spec =
     flags-of-requires
     with-raised-requires
     returns
-    is-unprotected-requires
     flags-of-requires-2
     with-raised-requires-2
     returns-2

@@ -1,6 +1,6 @@
--- `writing::set_up` meets its contract: by the test whether the set-up is accepted. Assumes nothing.
-use borrow.Author.Needs.{needs}
+-- `writing::set_up` meets its contract: by whether the set-up is accepted. Assumes nothing.
 use Rattle.semantics.specs.Writing.{setUp}
+use borrow.Author.Needs.{needs}
 use Rattle.writing.proofs.set_up.Statement.{statement}
 use Rattle.writing.proofs.set_up.Tie as tie
 
@@ -18,14 +18,7 @@ with-mode-requires c κs = search needs
 
 returns : tie.Need-returns
 unfolding setUp
-returns c =
-    simp (
-      c .with-mode .ensures,
-      c .before .with-activity .ensures,
-      c .before .before .with-setup .ensures,
-      ← c .before .before .before .before .accepts .ensures,
-      c .before .before .before .if1 .taken,
-    )
+returns c = simp (c .with-mode .ensures, c .before .with-activity .ensures, c .before .before .with-setup .ensures, ← c .before .before .before .before .accepts .ensures, c .before .before .before .if1 .taken)
 
 returns-2 : tie.Need-returns-2
 unfolding setUp

@@ -1,6 +1,6 @@
--- `writing::settle` meets its contract: by what the functions that it calls ensure. Assumes nothing.
-use borrow.Author.Needs.{needs}
+-- `writing::settle` meets its contract. Assumes nothing.
 use Rattle.semantics.specs.Writing.{settle}
+use borrow.Author.Needs.{needs}
 use Rattle.writing.proofs.settle.Statement.{statement}
 use Rattle.writing.proofs.settle.Tie as tie
 

@@ -1,6 +1,6 @@
 -- `Device::read` meets its contract: the step by the refusal that was found. Assumes nothing.
-use mathlib.Core.Path.{sym, ap, _∙_}
-use Rattle.semantics.specs.declared.Step.the-variants.{Read, Write, Work, Supply, Reset}
+use mathlib.Core.Path.{sym, ap}
+use Rattle.semantics.specs.declared.Step.the-variants.{Read}
 use Rattle.semantics.specs.Steps.{accepted, stepRefusal}
 use Rattle.device.specs.Outcomes.{outcomeOf}
 use Rattle.device.specs.Refusals.{step-accepted, step-refused}
@@ -17,16 +17,12 @@ address-refusal-requires c κs = search needs
 first-refusal-requires : tie.Need-first-refusal-requires
 first-refusal-requires c κs = search needs
 
-location-of-requires : tie.Need-location-of-requires
-location-of-requires c κs = search needs
-
 read-word-requires : tie.Need-read-word-requires
 read-word-requires c κs = search needs
 
 returns : tie.Need-returns
 unfolding accepted stepRefusal
-returns c = rw (c .read-word .ensures, c .before .location-of .ensures .0)
-    (sym (ap outcomeOf (step-accepted _ _ (Read _) _ _ _ (c .before .before .before .before .before .state-refusal .ensures) (c .before .before .before .before .address-refusal .ensures) (c .before .before .before .first-refusal .ensures) (c .before .before .if1 .taken))))
+returns c = rw (c .read-word .ensures) (sym (ap outcomeOf (step-accepted _ _ (Read _) _ _ _ (c .before .before .before .before .state-refusal .ensures) (c .before .before .before .address-refusal .ensures) (c .before .before .first-refusal .ensures) (c .before .if1 .taken))))
 
 returns-2 : tie.Need-returns-2
 unfolding stepRefusal
@@ -39,7 +35,6 @@ read-spec =
     state-refusal-requires
     address-refusal-requires
     first-refusal-requires
-    location-of-requires
     read-word-requires
     returns
     returns-2)

@@ -1,7 +1,7 @@
--- `Device::work` meets its contract: the step by the refusal that was found, and the array by what `apply` makes of it. Assumes nothing.
+-- `Device::work` meets its contract: the step by the refusal that was found, and the array by what `work` makes of it. Assumes nothing.
 use mathlib.Core.Path.{sym, ap, _∙_}
 use Rattle.semantics.specs.declared.Step.the-variants.{Work}
-use Rattle.semantics.specs.Working.{worked, workedArray}
+use Rattle.semantics.specs.Working.{workedOn, worked, workedArray}
 use Rattle.semantics.specs.Steps.{accepted, acceptedArray, stepRefusal}
 use Rattle.device.specs.Outcomes.{outcomeOf}
 use Rattle.device.specs.Refusals.{step-accepted, step-refused, array-accepted, array-refused}
@@ -18,17 +18,8 @@ count-refusal-requires c κs = search needs
 first-refusal-requires : tie.Need-first-refusal-requires
 first-refusal-requires c κs = search needs
 
-units-done-requires : tie.Need-units-done-requires
-units-done-requires c κs = search needs
-
-apply-requires : tie.Need-apply-requires
-apply-requires c κs = search needs
-
-running-after-requires : tie.Need-running-after-requires
-running-after-requires c κs = search needs
-
-with-running-requires : tie.Need-with-running-requires
-with-running-requires c κs = search needs
+work-requires : tie.Need-work-requires
+work-requires c κs = search needs
 
 with-activity-requires : tie.Need-with-activity-requires
 with-activity-requires c κs = search needs
@@ -37,12 +28,8 @@ same-length : tie.Need-same-length
 same-length c = search needs
 
 returns : tie.Need-returns
-unfolding accepted acceptedArray worked workedArray stepRefusal
-returns c = (
-  rw (c .with-activity .ensures, c .before .with-running .ensures, c .before .before .running-after .ensures, c .before .before .before .before .before .before .before .units-done .ensures .0)
-      (sym (ap outcomeOf (step-accepted _ _ (Work _) _ _ _ (c .before .before .before .before .before .before .before .before .before .before .before .state-refusal .ensures) (c .before .before .before .before .before .before .before .before .before .before .count-refusal .ensures) (c .before .before .before .before .before .before .before .before .before .first-refusal .ensures) (c .before .before .before .before .before .before .before .before .if1 .taken)))),
-  c .before .before .before .before .before .apply .ensures ∙ rw (c .before .before .before .before .before .before .before .units-done .ensures .0) (sym (array-accepted _ _ (Work _) _ _ _ (c .before .before .before .before .before .before .before .before .before .before .before .state-refusal .ensures) (c .before .before .before .before .before .before .before .before .before .before .count-refusal .ensures) (c .before .before .before .before .before .before .before .before .before .first-refusal .ensures) (c .before .before .before .before .before .before .before .before .if1 .taken))),
-)
+unfolding accepted acceptedArray workedOn worked workedArray stepRefusal
+returns c = (rw (c .with-activity .ensures, c .before .before .before .before .work .ensures .0) (sym (ap outcomeOf (step-accepted _ _ (Work _) _ _ _ (c .before .before .before .before .before .before .before .before .before .state-refusal .ensures) (c .before .before .before .before .before .before .before .before .count-refusal .ensures) (c .before .before .before .before .before .before .before .first-refusal .ensures) (c .before .before .before .before .before .before .if1 .taken)))), c .before .before .before .before .work .ensures .1 ∙ sym (array-accepted _ _ (Work _) _ _ _ (c .before .before .before .before .before .before .before .before .before .state-refusal .ensures) (c .before .before .before .before .before .before .before .before .count-refusal .ensures) (c .before .before .before .before .before .before .before .first-refusal .ensures) (c .before .before .before .before .before .before .if1 .taken)))
 
 returns-2 : tie.Need-returns-2
 unfolding stepRefusal
@@ -55,10 +42,7 @@ work-spec =
     state-refusal-requires
     count-refusal-requires
     first-refusal-requires
-    units-done-requires
-    apply-requires
-    running-after-requires
-    with-running-requires
+    work-requires
     with-activity-requires
     same-length
     returns

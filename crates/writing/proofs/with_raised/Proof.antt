@@ -1,7 +1,7 @@
--- `state::with_raised` meets its contract: by what `join` ensures. Assumes nothing.
+-- `writing::with_raised` meets its contract: by what the join ensures. Assumes nothing.
 use borrow.Author.Needs.{needs}
-use Rattle.state.proofs.with_raised.Statement.{statement}
-use Rattle.state.proofs.with_raised.Tie as tie
+use Rattle.writing.proofs.with_raised.Statement.{statement}
+use Rattle.writing.proofs.with_raised.Tie as tie
 
 join-requires : tie.Need-join-requires
 join-requires c κs = search needs

@@ -1,8 +1,8 @@
--- `device::first_refusal` meets its contract, by its one test. Assumes nothing.
+-- `state::first_refusal` meets its contract, by its one test. Assumes nothing.
 use borrow.Author.Tests.{eq-eqb, ne-eqb}
 use Rattle.semantics.specs.Steps.{firstRefusal}
-use Rattle.device.proofs.first_refusal.Statement.{statement}
-use Rattle.device.proofs.first_refusal.Tie as tie
+use Rattle.state.proofs.first_refusal.Statement.{statement}
+use Rattle.state.proofs.first_refusal.Tie as tie
 
 returns : tie.Need-returns
 unfolding firstRefusal

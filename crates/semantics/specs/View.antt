@@ -1,0 +1,59 @@
+-- What an address names, and what a read or a write there sees of a state. A write changes the state there and nowhere else.
+-- Assumes nothing.
+use Prim.Native.Nat.{ℕ}
+use mathlib.Core.Bool.{Bool}
+use lib.ListN.{set}
+use Rattle.geometry.specs.declared.Geometry.{Geometry}
+use Rattle.geometry.specs.Blocks.{location, blockOf, bankOf}
+use Rattle.protection.specs.Words.{isUnprotected, withUnprotected}
+use Rattle.semantics.specs.declared.Mode.{Mode}
+use Rattle.semantics.specs.declared.Bank.{Bank}
+use Rattle.semantics.specs.declared.Activity.{Activity}
+use Rattle.semantics.specs.declared.Flags.{Flags}
+use Rattle.semantics.specs.declared.State.{State}
+use Rattle.semantics.specs.declared.Place.{Place}
+use Rattle.semantics.specs.declared.View.{View}
+use Rattle.semantics.specs.State.{modeOf, joined}
+
+-- an address's location, and the bank and the block that this lies in
+abbrev pub placeOf : Geometry → ℕ → Place
+placeOf g a = record { address = a; location = location g a; bank = bankOf g (location g a); block = blockOf g (location g a) }
+
+-- of the modes that of the addressed bank, of the protection that of the addressed block, and all else but the part
+abbrev pub viewAt : State → Place → View
+viewAt s p = record { activity = s .activity; flags = s .flags; configuration = s .configuration; supply = s .supply; mode = modeOf s (p .bank); unprotected = isUnprotected (s .unprotected) (p .block) }
+
+-- the state with that changed
+abbrev pub withView : State → Place → View → State
+withView s p v = record {
+  part = s .part;
+  banks = set (s .banks) (p .bank) (record { mode = v .mode });
+  activity = v .activity;
+  flags = v .flags;
+  unprotected = withUnprotected (s .unprotected) (p .block) (v .unprotected);
+  configuration = v .configuration;
+  supply = v .supply;
+}
+
+-- ---- one field changed
+
+abbrev pub withActivity : View → Activity → View
+withActivity v x = record { activity = x; flags = v .flags; configuration = v .configuration; supply = v .supply; mode = v .mode; unprotected = v .unprotected }
+
+abbrev pub withFlags : View → Flags → View
+withFlags v x = record { activity = v .activity; flags = x; configuration = v .configuration; supply = v .supply; mode = v .mode; unprotected = v .unprotected }
+
+abbrev pub withConfiguration : View → ℕ → View
+withConfiguration v x = record { activity = v .activity; flags = v .flags; configuration = x; supply = v .supply; mode = v .mode; unprotected = v .unprotected }
+
+abbrev pub withSupply : View → Bool → View
+withSupply v x = record { activity = v .activity; flags = v .flags; configuration = v .configuration; supply = x; mode = v .mode; unprotected = v .unprotected }
+
+abbrev pub withMode : View → Mode → View
+withMode v x = record { activity = v .activity; flags = v .flags; configuration = v .configuration; supply = v .supply; mode = x; unprotected = v .unprotected }
+
+abbrev pub withProtection : View → Bool → View
+withProtection v x = record { activity = v .activity; flags = v .flags; configuration = v .configuration; supply = v .supply; mode = v .mode; unprotected = x }
+
+abbrev pub raise : View → Flags → View
+raise v f = withFlags v (joined (v .flags) f)

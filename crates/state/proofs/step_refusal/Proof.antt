@@ -1,0 +1,67 @@
+-- `state::step_refusal` meets its contract: by the step. Assumes nothing.
+use Rattle.semantics.specs.Steps.{stepRefusal}
+use borrow.Author.Needs.{needs}
+use Rattle.state.proofs.step_refusal.Statement.{statement}
+use Rattle.state.proofs.step_refusal.Tie as tie
+
+enum-known-x : tie.Need-enum-known-x
+enum-known-x c = search needs
+
+address-refusal-requires : tie.Need-address-refusal-requires
+address-refusal-requires c κs = search needs
+
+enum-known-x-2 : tie.Need-enum-known-x-2
+enum-known-x-2 c = search needs
+
+address-refusal-requires-2 : tie.Need-address-refusal-requires-2
+address-refusal-requires-2 c κs = search needs
+
+enum-known-x-3 : tie.Need-enum-known-x-3
+enum-known-x-3 c = search needs
+
+count-refusal-requires : tie.Need-count-refusal-requires
+count-refusal-requires c κs = search needs
+
+enum-known-x-4 : tie.Need-enum-known-x-4
+enum-known-x-4 c = search needs
+
+enum-told : tie.Need-enum-told
+enum-told c = search needs
+
+returns : tie.Need-returns
+unfolding stepRefusal
+returns c = rw (c .before .before .x .given .1) (c .address-refusal .ensures)
+
+returns-2 : tie.Need-returns-2
+unfolding stepRefusal
+returns-2 c = rw (c .before .before .x2 .given .1) (c .address-refusal2 .ensures)
+
+returns-3 : tie.Need-returns-3
+unfolding stepRefusal
+returns-3 c = rw (c .before .before .x3 .given .1) (c .count-refusal .ensures)
+
+returns-4 : tie.Need-returns-4
+unfolding stepRefusal
+returns-4 c = rw (c .before .x4 .given .1)
+
+returns-5 : tie.Need-returns-5
+unfolding stepRefusal
+returns-5 c = rw (c .enum-told .given .1)
+
+pub step-refusal-spec : {M : Type 1} → statement M
+step-refusal-spec =
+    tie.close
+    (tie.spec
+    enum-known-x
+    address-refusal-requires
+    enum-known-x-2
+    address-refusal-requires-2
+    enum-known-x-3
+    count-refusal-requires
+    enum-known-x-4
+    enum-told
+    returns
+    returns-2
+    returns-3
+    returns-4
+    returns-5)

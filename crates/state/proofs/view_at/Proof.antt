@@ -1,0 +1,16 @@
+-- `state::view_at` meets its contract: by what the mode and the protection are. Assumes nothing.
+use borrow.Author.Needs.{needs}
+use Rattle.state.proofs.view_at.Statement.{statement}
+use Rattle.state.proofs.view_at.Tie as tie
+
+mode-of-requires : tie.Need-mode-of-requires
+mode-of-requires c κs = search needs
+
+is-unprotected-requires : tie.Need-is-unprotected-requires
+is-unprotected-requires c κs = search needs
+
+returns : tie.Need-returns
+returns c = simp (c .is-unprotected .ensures, c .before .mode-of .ensures)
+
+pub view-at-spec : {M : Type 1} → statement M
+view-at-spec = tie.close (tie.spec mode-of-requires is-unprotected-requires returns)

@@ -1,0 +1,26 @@
+-- `state::with_view` meets its contract: a number that is no bank is past the end of the array, where the definition changes nothing. Assumes nothing.
+use lib.Seq.{set-out}
+use Rattle.semantics.specs.declared.Bank.{Bank}
+use Rattle.state.proofs.Banks.{past}
+use borrow.Author.Needs.{needs}
+use Rattle.state.proofs.with_view.Statement.{statement}
+use Rattle.state.proofs.with_view.Tie as tie
+
+set-block-requires : tie.Need-set-block-requires
+set-block-requires c κs = search needs
+
+cast-b : tie.Need-cast-b
+cast-b c = search needs
+
+element-set-from-b : tie.Need-element-set-from-b
+element-set-from-b c = search needs
+
+returns : tie.Need-returns
+returns c = rw (c .before .set-block .ensures)
+
+returns-2 : tie.Need-returns-2
+returns-2 c = rw (c .before .set-block .ensures, set-out (c .before .before .before .before .before .args .t1 .banks) _ (record { mode = c .before .before .before .before .before .args .v .mode }) (past (c .before .before .before .before .before .args .t1) _ (c .before .before .before .before .before .good .0) _ (c .if1 .left)))
+
+pub with-view-spec : {M : Type 1} → statement M
+with-view-spec =
+    tie.close (tie.spec set-block-requires cast-b element-set-from-b returns returns-2)
