@@ -147,15 +147,15 @@ mode-cond : (b : Bool) (m : Mode) (x y : View) → x .mode ≡ m → y .mode ≡
 mode-cond true m x y p q = p
 mode-cond false m x y p q = q
 
-mode-setup : (v : View) (c : Setup) → (accepts (v .activity) c ≡ true → ⊥) → setUp v c .mode ≡ v .mode
+mode-setup : (v : View) (c : Setup) → (accepts (v .control .activity) c ≡ true → ⊥) → setUp v c .mode ≡ v .mode
 unfolding setUp
-mode-setup v c n = go (accepts (v .activity) c) refl
+mode-setup v c n = go (accepts (v .control .activity) c) refl
   where
-    go : (b : Bool) → accepts (v .activity) c ≡ b → (cond b (withMode (withActivity v (withSetup (v .activity) c)) Status) v) .mode ≡ v .mode
+    go : (b : Bool) → accepts (v .control .activity) c ≡ b → (cond b (withMode (withActivity v (withSetup (v .control .activity) c)) Status) v) .mode ≡ v .mode
     go true e = absurd (n e)
     go false e = refl
 
-mode-first : (v : View) (c : Command) → (ChangesMode (v .activity) c → ⊥) → firstCycle v c .mode ≡ v .mode
+mode-first : (v : View) (c : Command) → (ChangesMode (v .control .activity) c → ⊥) → firstCycle v c .mode ≡ v .mode
 unfolding firstCycle clearStatus
 mode-first v command.ReadArray n = absurd (n tt)
 mode-first v command.ReadStatus n = absurd (n tt)
@@ -163,7 +163,7 @@ mode-first v command.ReadSignature n = absurd (n tt)
 mode-first v command.ReadQuery n = absurd (n tt)
 mode-first v command.Suspend n = refl
 mode-first v command.Resume n = refl
-mode-first v command.ClearStatus n = mode-cond (runs (v .activity .running)) _ _ _ refl refl
+mode-first v command.ClearStatus n = mode-cond (runs (v .control .activity .running)) _ _ _ refl refl
 mode-first v command.SetUpProgram n = mode-setup v setup.Program n
 mode-first v command.SetUpErase n = mode-setup v setup.Erase n
 mode-first v command.SetUpLock n = mode-setup v setup.Lock n
@@ -180,7 +180,7 @@ pub view-back : (s : State) (p : Place) → withView s p (viewAt s p) ≡ s
 view-back s p = rw (bank-same (s .banks) (p .bank), protection.with-own-block (s .unprotected) (p .block))
 
 -- "no other write but FFh, 70h, 90h and 98h changes a mode": with no set-up pending, B0h, D0h, 50h, a set-up that is not accepted and any other command change none
-pub modes-all-stay : (s : State) (xs : List ℕ) (a w : ℕ) → s .activity .setup ≡ setup.Nothing → (ChangesMode (s .activity) (commandOf (w % 256)) → ⊥)
+pub modes-all-stay : (s : State) (xs : List ℕ) (a w : ℕ) → s .control .activity .setup ≡ setup.Nothing → (ChangesMode (s .control .activity) (commandOf (w % 256)) → ⊥)
     → stepOf s xs (Write a w) .state .banks ≡ s .banks
 unfolding stepOf accepted written writtenAt cycle
 modes-all-stay s xs a w e n = go (eqb (refusalOf s (length xs) (Write a w)) 0)
@@ -234,15 +234,15 @@ stay-joined f g h e = record {
   sr1 = λ k. ap (λ (i : Flags). i .sr1) e ∙ or-left (f .sr1) (g .sr1) k;
 }
 
-stay-cond : (f : Flags) (b : Bool) (x y : View) → Stay f (x .flags) → Stay f (y .flags) → Stay f ((cond b x y) .flags)
+stay-cond : (f : Flags) (b : Bool) (x y : View) → Stay f (x .control .flags) → Stay f (y .control .flags) → Stay f ((cond b x y) .control .flags)
 stay-cond f true x y p q = p
 stay-cond f false x y p q = q
 
-stay-setup : (v : View) (c : Setup) → Stay (v .flags) (setUp v c .flags)
+stay-setup : (v : View) (c : Setup) → Stay (v .control .flags) (setUp v c .control .flags)
 unfolding setUp
-stay-setup v c = stay-cond (v .flags) (accepts (v .activity) c) (withMode (withActivity v (withSetup (v .activity) c)) Status) v (stay-same _ _ refl) (stay-same _ _ refl)
+stay-setup v c = stay-cond (v .control .flags) (accepts (v .control .activity) c) (withMode (withActivity v (withSetup (v .control .activity) c)) Status) v (stay-same _ _ refl) (stay-same _ _ refl)
 
-stay-first : (v : View) (c : Command) → (c ≡ command.ClearStatus → ⊥) → Stay (v .flags) (firstCycle v c .flags)
+stay-first : (v : View) (c : Command) → (c ≡ command.ClearStatus → ⊥) → Stay (v .control .flags) (firstCycle v c .control .flags)
 unfolding firstCycle
 stay-first v command.ReadArray n = stay-same _ _ refl
 stay-first v command.ReadStatus n = stay-same _ _ refl
@@ -256,7 +256,7 @@ stay-first v command.SetUpErase n = stay-setup v setup.Erase
 stay-first v command.SetUpLock n = stay-setup v setup.Lock
 stay-first v command.Unknown n = stay-same _ _ refl
 
-stay-lock : (v : View) (p : Place) (c : LockCommand) → Stay (v .flags) (lockCycle (settle v) p c .flags)
+stay-lock : (v : View) (p : Place) (c : LockCommand) → Stay (v .control .flags) (lockCycle (settle v) p c .control .flags)
 unfolding lockCycle settle
 stay-lock v p lock.Protect = stay-same _ _ refl
 stay-lock v p lock.Unprotect = stay-same _ _ refl
@@ -270,39 +270,39 @@ ClearCommand setup.Program w = ⊥
 ClearCommand setup.Erase w = ⊥
 ClearCommand setup.Lock w = ⊥
 
-stay-cycle : (v : View) (c : Setup) (p : Place) (w : ℕ) → (ClearCommand c w → ⊥) → Stay (v .flags) (cycle v c p w .flags)
+stay-cycle : (v : View) (c : Setup) (p : Place) (w : ℕ) → (ClearCommand c w → ⊥) → Stay (v .control .flags) (cycle v c p w .control .flags)
 unfolding cycle programCycle eraseCycle settle
 stay-cycle v setup.Nothing p w n = stay-first v (commandOf (w % 256)) n
 stay-cycle v setup.Program p w n =
-    stay-cond _ (not (v .supply)) _ _ (stay-joined _ _ _ refl)
-    (stay-cond _ (not (v .unprotected)) _ _ (stay-joined _ _ _ refl) (stay-cond _ (erasing (v .activity .erase) (p .block)) _ _ (stay-joined _ _ _ refl) (stay-same _ _ refl)))
+    stay-cond _ (not (v .control .supply)) _ _ (stay-joined _ _ _ refl)
+    (stay-cond _ (not (v .unprotected)) _ _ (stay-joined _ _ _ refl) (stay-cond _ (erasing (v .control .activity .erase) (p .block)) _ _ (stay-joined _ _ _ refl) (stay-same _ _ refl)))
 stay-cycle v setup.Erase p w n =
     stay-cond _ (not (eqb (w % 256) 0xD0)) _ _ (stay-joined _ _ _ refl)
-    (stay-cond _ (not (v .supply)) _ _ (stay-joined _ _ _ refl) (stay-cond _ (not (v .unprotected)) _ _ (stay-joined _ _ _ refl) (stay-same _ _ refl)))
+    (stay-cond _ (not (v .control .supply)) _ _ (stay-joined _ _ _ refl) (stay-cond _ (not (v .unprotected)) _ _ (stay-joined _ _ _ refl) (stay-same _ _ refl)))
 stay-cycle v setup.Lock p w n = stay-lock v p _
 
 -- the step may clear the flags: a reset, or 50h with no set-up pending. (Refused, neither does; nor does 50h while something runs.)
 abbrev pub MayClear : State → Step → Type 0
 MayClear s (Read a) = ⊥
-MayClear s (Write a w) = ClearCommand (s .activity .setup) w
+MayClear s (Write a w) = ClearCommand (s .control .activity .setup) w
 MayClear s (Work n) = ⊥
 MayClear s (Supply on) = ⊥
 MayClear s Reset = Unit {0}
 
-stay-accepted : (s : State) (xs : List ℕ) (x : Step) → (MayClear s x → ⊥) → Stay (s .flags) (accepted s xs x .state .flags)
+stay-accepted : (s : State) (xs : List ℕ) (x : Step) → (MayClear s x → ⊥) → Stay (s .control .flags) (accepted s xs x .state .control .flags)
 unfolding accepted written writtenAt workedOn worked
 stay-accepted s xs (Read a) n = stay-same _ _ refl
-stay-accepted s xs (Write a w) n = stay-cycle (viewAt s (placeOf (geometry s) a)) (s .activity .setup) (placeOf (geometry s) a) w n
+stay-accepted s xs (Write a w) n = stay-cycle (viewAt s (placeOf (geometry s) a)) (s .control .activity .setup) (placeOf (geometry s) a) w n
 stay-accepted s xs (Work k) n = stay-same _ _ refl
 stay-accepted s xs (Supply on) n = stay-same _ _ refl
 stay-accepted s xs Reset n = absurd (n tt)
 
 -- "Flags once set stay until 50h or reset"
-pub flags-stay : (s : State) (xs : List ℕ) (x : Step) → (MayClear s x → ⊥) → Stay (s .flags) (stepOf s xs x .state .flags)
+pub flags-stay : (s : State) (xs : List ℕ) (x : Step) → (MayClear s x → ⊥) → Stay (s .control .flags) (stepOf s xs x .state .control .flags)
 unfolding stepOf
 flags-stay s xs x n = go (eqb (refusalOf s (length xs) x) 0)
   where
-    go : (b : Bool) → Stay (s .flags) ((cond b (accepted s xs x) (next s (Refused (refusalOf s (length xs) x)))) .state .flags)
+    go : (b : Bool) → Stay (s .control .flags) ((cond b (accepted s xs x) (next s (Refused (refusalOf s (length xs) x)))) .state .control .flags)
     go true = stay-accepted s xs x n
     go false = stay-same _ _ refl
 
@@ -321,7 +321,7 @@ alike-cond false x y u v p q = q
 
 alike-setup : (v : View) (f : Flags) (c : Setup) → unflaggedView (setUp (view.withFlags v f) c) ≡ unflaggedView (setUp v c)
 unfolding setUp
-alike-setup v f c = alike-cond (accepts (v .activity) c) _ _ _ _ refl refl
+alike-setup v f c = alike-cond (accepts (v .control .activity) c) _ _ _ _ refl refl
 
 alike-first : (v : View) (f : Flags) (c : Command) → unflaggedView (firstCycle (view.withFlags v f) c) ≡ unflaggedView (firstCycle v c)
 unfolding firstCycle clearStatus
@@ -331,7 +331,7 @@ alike-first v f command.ReadSignature = refl
 alike-first v f command.ReadQuery = refl
 alike-first v f command.Suspend = refl
 alike-first v f command.Resume = refl
-alike-first v f command.ClearStatus = alike-cond (runs (v .activity .running)) _ _ _ _ refl refl
+alike-first v f command.ClearStatus = alike-cond (runs (v .control .activity .running)) _ _ _ _ refl refl
 alike-first v f command.SetUpProgram = alike-setup v f setup.Program
 alike-first v f command.SetUpErase = alike-setup v f setup.Erase
 alike-first v f command.SetUpLock = alike-setup v f setup.Lock
@@ -348,15 +348,15 @@ alike-cycle : (v : View) (f : Flags) (c : Setup) (p : Place) (w : ℕ) → unfla
 unfolding cycle programCycle eraseCycle settle
 alike-cycle v f setup.Nothing p w = alike-first v f (commandOf (w % 256))
 alike-cycle v f setup.Program p w =
-    alike-cond (not (v .supply)) _ _ _ _ refl (alike-cond (not (v .unprotected)) _ _ _ _ refl (alike-cond (erasing (v .activity .erase) (p .block)) _ _ _ _ refl refl))
+    alike-cond (not (v .control .supply)) _ _ _ _ refl (alike-cond (not (v .unprotected)) _ _ _ _ refl (alike-cond (erasing (v .control .activity .erase) (p .block)) _ _ _ _ refl refl))
 alike-cycle v f setup.Erase p w =
-    alike-cond (not (eqb (w % 256) 0xD0)) _ _ _ _ refl (alike-cond (not (v .supply)) _ _ _ _ refl (alike-cond (not (v .unprotected)) _ _ _ _ refl refl))
+    alike-cond (not (eqb (w % 256) 0xD0)) _ _ _ _ refl (alike-cond (not (v .control .supply)) _ _ _ _ refl (alike-cond (not (v .unprotected)) _ _ _ _ refl refl))
 alike-cycle v f setup.Lock p w = alike-lock v f p (lockCommandOf (w % 256))
 
 alike-accepted : (s : State) (f : Flags) (xs : List ℕ) (x : Step) → unflagged (accepted (withFlags s f) xs x .state) ≡ unflagged (accepted s xs x .state)
 unfolding accepted written writtenAt workedOn worked
 alike-accepted s f xs (Read a) = refl
-alike-accepted s f xs (Write a w) = let p : Place = placeOf (geometry s) a in ap (withView s p) (alike-cycle (viewAt s p) f (s .activity .setup) p w)
+alike-accepted s f xs (Write a w) = let p : Place = placeOf (geometry s) a in ap (withView s p) (alike-cycle (viewAt s p) f (s .control .activity .setup) p w)
 alike-accepted s f xs (Work n) = refl
 alike-accepted s f xs (Supply on) = refl
 alike-accepted s f xs Reset = refl
@@ -460,7 +460,7 @@ module _ (g : Geometry) where
 -- the steps that leave what runs running: work, reads and supply; and, while something runs, every write but B0h
 abbrev pub Leaves : State → Step → Type 0
 Leaves s (Read a) = Unit {0}
-Leaves s (Write a w) = (runs (s .activity .running) ≡ true) × (w % 256 ≡ 0xB0 → ⊥)
+Leaves s (Write a w) = (runs (s .control .activity .running) ≡ true) × (w % 256 ≡ 0xB0 → ⊥)
 Leaves s (Work n) = Unit {0}
 Leaves s (Supply on) = Unit {0}
 Leaves s Reset = ⊥
@@ -510,16 +510,16 @@ good-after m x o =
     }
 
 -- what is well formed, by the two parts that are used here
-formed-alone : (s : State) → wellFormed s ≡ true → runningAlone (s .activity) ≡ true
+formed-alone : (s : State) → wellFormed s ≡ true → runningAlone (s .control .activity) ≡ true
 unfolding wellFormed activityFormed
-formed-alone s f = and-true-l (runningAlone (s .activity)) _ (and-true-l (activityFormed (geometry s) (s .activity)) _ f)
+formed-alone s f = and-true-l (runningAlone (s .control .activity)) _ (and-true-l (activityFormed (geometry s) (s .control .activity)) _ f)
 
-formed-fits : (s : State) → wellFormed s ≡ true → runningFits (geometry s) (s .activity .running) ≡ true
+formed-fits : (s : State) → wellFormed s ≡ true → runningFits (geometry s) (s .control .activity .running) ≡ true
 unfolding wellFormed activityFormed allFit
 formed-fits s f =
-    and-true-l (runningFits (geometry s) (s .activity .running)) _
-    (and-true-l (allFit (geometry s) (s .activity)) _
-    (and-true-r (eraseAlone (s .activity)) _ (and-true-r (programAlone (s .activity)) _ (and-true-r (runningAlone (s .activity)) _ (and-true-l (activityFormed (geometry s) (s .activity)) _ f)))))
+    and-true-l (runningFits (geometry s) (s .control .activity .running)) _
+    (and-true-l (allFit (geometry s) (s .control .activity)) _
+    (and-true-r (eraseAlone (s .control .activity)) _ (and-true-r (programAlone (s .control .activity)) _ (and-true-r (runningAlone (s .control .activity)) _ (and-true-l (activityFormed (geometry s) (s .control .activity)) _ f)))))
 
 fits-whole : (g : Geometry) (r : Running) → runningFits g r ≡ true → Whole g r
 unfolding runningFits eraseFits
@@ -527,8 +527,8 @@ fits-whole g running.Idle h = tt
 fits-whole g (running.Program l w) h = tt
 fits-whole g (running.Erase b n) h = ltb-true n (sizeOf g b) (and-true-r (ltb b (blocks g)) _ h)
 
-good-whole : (m : Machine) → Good m → Whole (geometry (m .state)) (m .state .activity .running)
-good-whole m o = fits-whole (geometry (m .state)) (m .state .activity .running) (formed-fits (m .state) (o .formed))
+good-whole : (m : Machine) → Good m → Whole (geometry (m .state)) (m .state .control .activity .running)
+good-whole m o = fits-whole (geometry (m .state)) (m .state .control .activity .running) (formed-fits (m .state) (o .formed))
 
 -- while something runs no set-up is pending
 no-setup : (a : Activity) → runningAlone a ≡ true → runs (a .running) ≡ true → a .setup ≡ setup.Nothing
@@ -568,16 +568,16 @@ only-B0 c n =
     (either-not (eqb c 0xD0) _ _ refl (either-not (eqb c 0x50) _ _ refl (either-not (eqb c 0x10) _ _ refl (either-not (eqb c 0x40) _ _ refl
     (either-not (eqb c 0x60) _ _ refl (either-not (eqb c 0x20) _ _ refl refl))))))))))
 
-running-cond : (b : Bool) (r : Running) (x y : View) → x .activity .running ≡ r → y .activity .running ≡ r → (cond b x y) .activity .running ≡ r
+running-cond : (b : Bool) (r : Running) (x y : View) → x .control .activity .running ≡ r → y .control .activity .running ≡ r → (cond b x y) .control .activity .running ≡ r
 running-cond true r x y p q = p
 running-cond false r x y p q = q
 
-running-setup : (v : View) (c : Setup) → setUp v c .activity .running ≡ v .activity .running
+running-setup : (v : View) (c : Setup) → setUp v c .control .activity .running ≡ v .control .activity .running
 unfolding setUp
-running-setup v c = running-cond (accepts (v .activity) c) _ _ _ refl refl
+running-setup v c = running-cond (accepts (v .control .activity) c) _ _ _ refl refl
 
 -- while something runs, every command but B0h leaves it running
-running-first : (v : View) (c : Command) → isSuspend c ≡ false → runs (v .activity .running) ≡ true → firstCycle v c .activity .running ≡ v .activity .running
+running-first : (v : View) (c : Command) → isSuspend c ≡ false → runs (v .control .activity .running) ≡ true → firstCycle v c .control .activity .running ≡ v .control .activity .running
 unfolding firstCycle clearStatus resume
 running-first v command.ReadArray n r = refl
 running-first v command.ReadStatus n r = refl
@@ -585,28 +585,28 @@ running-first v command.ReadSignature n r = refl
 running-first v command.ReadQuery n r = refl
 running-first v command.Suspend n r = absurd (true≢false n)
 running-first v command.Resume n r = rw r
-running-first v command.ClearStatus n r = running-cond (runs (v .activity .running)) _ _ _ refl refl
+running-first v command.ClearStatus n r = running-cond (runs (v .control .activity .running)) _ _ _ refl refl
 running-first v command.SetUpProgram n r = running-setup v setup.Program
 running-first v command.SetUpErase n r = running-setup v setup.Erase
 running-first v command.SetUpLock n r = running-setup v setup.Lock
 running-first v command.Unknown n r = refl
 
-running-written : (s : State) (a w : ℕ) → wellFormed s ≡ true → runs (s .activity .running) ≡ true → (w % 256 ≡ 0xB0 → ⊥) → written s a w .activity .running ≡ s .activity .running
+running-written : (s : State) (a w : ℕ) → wellFormed s ≡ true → runs (s .control .activity .running) ≡ true → (w % 256 ≡ 0xB0 → ⊥) → written s a w .control .activity .running ≡ s .control .activity .running
 unfolding written writtenAt cycle
 running-written s a w f r n =
     let p : Place = placeOf (geometry s) a in
-    ap (λ (c : Setup). cycle (viewAt s p) c p w .activity .running) (no-setup (s .activity) (formed-alone s f) r)
+    ap (λ (c : Setup). cycle (viewAt s p) c p w .control .activity .running) (no-setup (s .control .activity) (formed-alone s f) r)
     ∙ running-first (viewAt s p) (commandOf (w % 256)) (only-B0 (w % 256) n) r
 
 -- ---- one step, and a list of them
 
 -- one such step
 record Moves (s : State) (xs : List ℕ) (x : Step) (n : ℕ) : Type 0 where
-  runs-on : stepOf s xs x .state .activity .running ≡ runningAfter (geometry s) (s .activity .running) (unitsDone (geometry s) (s .activity .running) n)
-  tells : toldBy (stepOf s xs x .answer) ≡ unitsDone (geometry s) (s .activity .running) n
+  runs-on : stepOf s xs x .state .control .activity .running ≡ runningAfter (geometry s) (s .control .activity .running) (unitsDone (geometry s) (s .control .activity .running) n)
+  tells : toldBy (stepOf s xs x .answer) ≡ unitsDone (geometry s) (s .control .activity .running) n
 
-module _ (s : State) (xs : List ℕ) (formed : wellFormed s ≡ true) (good : stateRefusal s (length xs) ≡ 0) (whole : Whole (geometry s) (s .activity .running)) where
-  none-told : (n : ℕ) → n ≡ 0 → 0 ≡ unitsDone (geometry s) (s .activity .running) n
+module _ (s : State) (xs : List ℕ) (formed : wellFormed s ≡ true) (good : stateRefusal s (length xs) ≡ 0) (whole : Whole (geometry s) (s .control .activity .running)) where
+  none-told : (n : ℕ) → n ≡ 0 → 0 ≡ unitsDone (geometry s) (s .control .activity .running) n
   unfolding unitsDone
   none-told n h = omega arith
 
@@ -615,7 +615,7 @@ module _ (s : State) (xs : List ℕ) (formed : wellFormed s ≡ true) (good : st
   moves-work n (inl h) =
       let e = step-refused s xs good (Work n) 3 (count-bad n h) in
       subst (λ (k : ℕ). Moves s xs (Work n) k) (sym (ap (λ (b : Bool). cond b n 0) (lt-leb n 65535 h)))
-      (record { runs-on = rw e (sym (idle-units (geometry s) (s .activity .running) whole)); tells = rw e (none-told 0 refl) })
+      (record { runs-on = rw e (sym (idle-units (geometry s) (s .control .activity .running) whole)); tells = rw e (none-told 0 refl) })
   moves-work n (inr h) =
       let e = step-done s xs good (Work n) (count-good n h) in
       subst (λ (k : ℕ). Moves s xs (Work n) k) (sym (ap (λ (b : Bool). cond b n 0) (le-leb n 65535 h))) (record { runs-on = rw e; tells = rw e })
@@ -624,12 +624,12 @@ module _ (s : State) (xs : List ℕ) (formed : wellFormed s ≡ true) (good : st
   unfolding stepRefusal accepted
   moves-supply on =
       let e = step-done s xs good (Supply on) refl in
-      record { runs-on = rw e (sym (idle-units (geometry s) (s .activity .running) whole)); tells = rw e (none-told 0 refl) }
+      record { runs-on = rw e (sym (idle-units (geometry s) (s .control .activity .running) whole)); tells = rw e (none-told 0 refl) }
 
   moves-read : (a : ℕ) → Moves s xs (Read a) 0
   unfolding stepOf accepted
   moves-read a = record {
-    runs-on = ap (λ (t : State). t .activity .running) (read-changes-nothing s xs a .0) ∙ sym (idle-units (geometry s) (s .activity .running) whole);
+    runs-on = ap (λ (t : State). t .control .activity .running) (read-changes-nothing s xs a .0) ∙ sym (idle-units (geometry s) (s .control .activity .running) whole);
     tells = go (eqb (refusalOf s (length xs) (Read a)) 0) ∙ none-told 0 refl;
   }
     where
@@ -637,14 +637,14 @@ module _ (s : State) (xs : List ℕ) (formed : wellFormed s ≡ true) (good : st
       go true = refl
       go false = refl
 
-  moves-write : (a w : ℕ) → runs (s .activity .running) ≡ true → (w % 256 ≡ 0xB0 → ⊥) → Moves s xs (Write a w) 0
+  moves-write : (a w : ℕ) → runs (s .control .activity .running) ≡ true → (w % 256 ≡ 0xB0 → ⊥) → Moves s xs (Write a w) 0
   unfolding stepOf accepted
   moves-write a w r n = record {
-    runs-on = go (eqb (refusalOf s (length xs) (Write a w)) 0) ∙ sym (idle-units (geometry s) (s .activity .running) whole);
+    runs-on = go (eqb (refusalOf s (length xs) (Write a w)) 0) ∙ sym (idle-units (geometry s) (s .control .activity .running) whole);
     tells = go₂ (eqb (refusalOf s (length xs) (Write a w)) 0) ∙ none-told 0 refl;
   }
     where
-      go : (b : Bool) → (cond b (accepted s xs (Write a w)) (next s (Refused (refusalOf s (length xs) (Write a w))))) .state .activity .running ≡ s .activity .running
+      go : (b : Bool) → (cond b (accepted s xs (Write a w)) (next s (Refused (refusalOf s (length xs) (Write a w))))) .state .control .activity .running ≡ s .control .activity .running
       go true = running-written s a w formed r n
       go false = refl
 
@@ -670,22 +670,22 @@ less-left u a b = go (laws.order (a + b) u)
     go (inr i) = le-ltb b (u - a) (omega arith) ∙ sym (le-ltb (a + b) u i)
 
 abbrev left : Machine → ℕ
-left m = unitsLeft (geometry (m .state)) (m .state .activity .running)
+left m = unitsLeft (geometry (m .state)) (m .state .control .activity .running)
 
 left-step : (m : Machine) (x : Step) → Leaves (m .state) x → Good m → left (after m x) ≡ left m - offered x
 left-step m x h o =
     let k = kept-step (m .state) (m .array) x (o .five) in
     let v = good-moves m x h o in
-    rw (k .part, v .runs-on) (left-after (geometry (m .state)) (m .state .activity .running) (offered x) (good-whole m o))
+    rw (k .part, v .runs-on) (left-after (geometry (m .state)) (m .state .control .activity .running) (offered x) (good-whole m o))
 
 -- "Left running, a program ends at 1 unit and an erase at the size of its block, counted over all work steps.": after steps that leave it running, the units that
 -- were told come to what was offered, or to what was left where that is less; and it runs on exactly where less was offered than was left. By reached-good this
 -- holds of whatever is reached from power-up
 pub progress : (l : List Step) (m : Machine) → LeavesAll m l → Good m
-    → (toldAll m l ≡ min (offeredAll l) (unitsLeft (geometry (m .state)) (m .state .activity .running)))
-    × (runs (afterAll m l .state .activity .running) ≡ ltb (offeredAll l) (unitsLeft (geometry (m .state)) (m .state .activity .running)))
+    → (toldAll m l ≡ min (offeredAll l) (unitsLeft (geometry (m .state)) (m .state .control .activity .running)))
+    × (runs (afterAll m l .state .control .activity .running) ≡ ltb (offeredAll l) (unitsLeft (geometry (m .state)) (m .state .control .activity .running)))
 unfolding unitsDone
-progress [] m h o = (omega arith, runs-left (geometry (m .state)) (m .state .activity .running) (good-whole m o))
+progress [] m h o = (omega arith, runs-left (geometry (m .state)) (m .state .control .activity .running) (good-whole m o))
 progress (x ∷ l) m h o =
     let r = progress l (after m x) (h .1) (good-after m x o) in
     let e = left-step m x (h .0) o in

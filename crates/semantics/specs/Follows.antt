@@ -56,7 +56,7 @@ setupOf setup.Erase = erase-setup
 setupOf setup.Lock = lock-setup
 
 abbrev pub conditions : State → Conditions
-conditions s = record { supply = s .supply; unprotected = λ b. isUnprotected (s .unprotected) b; setup = setupOf (s .activity .setup) }
+conditions s = record { supply = s .control .supply; unprotected = λ b. isUnprotected (s .unprotected) b; setup = setupOf (s .control .activity .setup) }
 
 -- what is under way as a stack
 abbrev pub addErase : SuspendedErase → List (Live Operation)
@@ -72,11 +72,11 @@ addRunning running.Idle l = l
 addRunning (running.Program a w) l = live (recorder.program a w) 0 ∷ l
 addRunning (running.Erase b n) l = live (recorder.erase b) n ∷ l
 
-abbrev pub viewOf : Running → SuspendedProgram → SuspendedErase → Engine
-viewOf r p e = engine (runs r) (addRunning r (addProgram p (addErase e)))
+abbrev pub underWayOf : Running → SuspendedProgram → SuspendedErase → Engine
+underWayOf r p e = engine (runs r) (addRunning r (addProgram p (addErase e)))
 
-abbrev pub view : Activity → Engine
-view a = viewOf (a .running) (a .program) (a .erase)
+abbrev pub underWay : Activity → Engine
+underWay a = underWayOf (a .running) (a .program) (a .erase)
 
 -- which of the three go together
 abbrev pub Together : Running → SuspendedProgram → SuspendedErase → Type 0
@@ -89,29 +89,29 @@ Together (running.Erase b n) (program.Program k v) e = ⊥
 
 -- ---- the view answers as the device does
 
-held-view : (r : Running) (p : SuspendedProgram) (e : SuspendedErase) (q : Operation → Bool) → held? (viewOf r p e) q ≡ anyLive q (addProgram p (addErase e))
-held-view running.Idle p e q = refl
-held-view (running.Program l w) p e q = refl
-held-view (running.Erase b n) p e q = refl
+held-under-way : (r : Running) (p : SuspendedProgram) (e : SuspendedErase) (q : Operation → Bool) → held? (underWayOf r p e) q ≡ anyLive q (addProgram p (addErase e))
+held-under-way running.Idle p e q = refl
+held-under-way (running.Program l w) p e q = refl
+held-under-way (running.Erase b n) p e q = refl
 
-pub view-program : (r : Running) (p : SuspendedProgram) (e : SuspendedErase) → held? (viewOf r p e) isProgram ≡ programSuspended p
-view-program r p e = held-view r p e isProgram ∙ go p e
+pub under-way-program : (r : Running) (p : SuspendedProgram) (e : SuspendedErase) → held? (underWayOf r p e) isProgram ≡ programSuspended p
+under-way-program r p e = held-under-way r p e isProgram ∙ go p e
   where
     go : (p : SuspendedProgram) (e : SuspendedErase) → anyLive isProgram (addProgram p (addErase e)) ≡ programSuspended p
     go (program.Program l w) e = refl
     go program.Nothing erase.Nothing = refl
     go program.Nothing (erase.Erase b n) = refl
 
-pub view-any : (r : Running) (p : SuspendedProgram) (e : SuspendedErase) → held? (viewOf r p e) isAny ≡ (programSuspended p || eraseSuspended e)
-view-any r p e = held-view r p e isAny ∙ go p e
+pub under-way-any : (r : Running) (p : SuspendedProgram) (e : SuspendedErase) → held? (underWayOf r p e) isAny ≡ (programSuspended p || eraseSuspended e)
+under-way-any r p e = held-under-way r p e isAny ∙ go p e
   where
     go : (p : SuspendedProgram) (e : SuspendedErase) → anyLive isAny (addProgram p (addErase e)) ≡ (programSuspended p || eraseSuspended e)
     go (program.Program l w) e = refl
     go program.Nothing erase.Nothing = refl
     go program.Nothing (erase.Erase b n) = refl
 
-view-erase : (r : Running) (p : SuspendedProgram) (e : SuspendedErase) → held? (viewOf r p e) isErase ≡ eraseSuspended e
-view-erase r p e = held-view r p e isErase ∙ go p e
+under-way-erase : (r : Running) (p : SuspendedProgram) (e : SuspendedErase) → held? (underWayOf r p e) isErase ≡ eraseSuspended e
+under-way-erase r p e = held-under-way r p e isErase ∙ go p e
   where
     go : (p : SuspendedProgram) (e : SuspendedErase) → anyLive isErase (addProgram p (addErase e)) ≡ eraseSuspended e
     go (program.Program l w) erase.Nothing = refl
@@ -120,8 +120,8 @@ view-erase r p e = held-view r p e isErase ∙ go p e
     go program.Nothing (erase.Erase b n) = refl
 
 module _ (g : Geometry) where
-  view-erasing : (r : Running) (p : SuspendedProgram) (e : SuspendedErase) (b : ℕ) → held? (viewOf r p e) (isEraseOf g b) ≡ erasing e b
-  view-erasing r p e b = held-view r p e (isEraseOf g b) ∙ go p e
+  under-way-erasing : (r : Running) (p : SuspendedProgram) (e : SuspendedErase) (b : ℕ) → held? (underWayOf r p e) (isEraseOf g b) ≡ erasing e b
+  under-way-erasing r p e b = held-under-way r p e (isEraseOf g b) ∙ go p e
     where
       go : (p : SuspendedProgram) (e : SuspendedErase) → anyLive (isEraseOf g b) (addProgram p (addErase e)) ≡ erasing e b
       go (program.Program l w) erase.Nothing = refl
@@ -137,25 +137,25 @@ module _ (g : Geometry) where
   Lacking (running.Program l w) = Unit {0}
   Lacking (running.Erase b n) = n < sizeOf g b
 
-  pub view-worked : (n : ℕ) (r : Running) (p : SuspendedProgram) (e : SuspendedErase) → Lacking r
-      → viewOf (runningAfter g r (unitsDone g r n)) p e ≡ engine-after g (units n) (viewOf r p e)
+  pub under-way-worked : (n : ℕ) (r : Running) (p : SuspendedProgram) (e : SuspendedErase) → Lacking r
+      → underWayOf (runningAfter g r (unitsDone g r n)) p e ≡ engine-after g (units n) (underWayOf r p e)
   unfolding runningAfter unitsDone unitsLeft
-  view-worked n running.Idle p e h = refl
-  view-worked n (running.Program l w) p e h = go (ltb (min n 1) 1) refl
+  under-way-worked n running.Idle p e h = refl
+  under-way-worked n (running.Program l w) p e h = go (ltb (min n 1) 1) refl
     where
       go : (t : Bool) → ltb (min n 1) 1 ≡ t
-          → viewOf (cond t (running.Program l w) running.Idle) p e ≡ engine-after g (units n) (viewOf (running.Program l w) p e)
+          → underWayOf (cond t (running.Program l w) running.Idle) p e ≡ engine-after g (units n) (underWayOf (running.Program l w) p e)
       go false x = rw (eq-eqb (0 + min n (1 - 0)) 1 (omega (arith, ltb-false (min n 1) 1 x)))
       go true x =
           let z : 0 + min n (1 - 0) ≡ 0 = omega (arith, ltb-true (min n 1) 1 x) in
           rw (ne-eqb (0 + min n (1 - 0)) 1 (λ y. omega arith), z)
-  view-worked n (running.Erase b u) p e h = go (ltb (u + min n (sizeOf g b - u)) (sizeOf g b)) refl
+  under-way-worked n (running.Erase b u) p e h = go (ltb (u + min n (sizeOf g b - u)) (sizeOf g b)) refl
     where
       m : ℕ
       m = u + min n (sizeOf g b - u)
 
       go : (t : Bool) → ltb m (sizeOf g b) ≡ t
-          → viewOf (cond t (running.Erase b m) running.Idle) p e ≡ engine-after g (units n) (viewOf (running.Erase b u) p e)
+          → underWayOf (cond t (running.Erase b m) running.Idle) p e ≡ engine-after g (units n) (underWayOf (running.Erase b u) p e)
       go false x = rw (eq-eqb m (sizeOf g b) (omega (arith, ltb-false m (sizeOf g b) x)))
       go true x = let y = ltb-true m (sizeOf g b) x in rw (ne-eqb m (sizeOf g b) (λ z. omega arith))
 
@@ -168,12 +168,12 @@ module _ (g : Geometry) where
       go false e t f = let x = eqb-false L l e in sym (within-out (l + 0) (min n (1 - 0)) L (λ a b. omega arith))
 
   -- the words after work, as the recorder's event has them
-  pub words-view : (n : ℕ) (r : Running) (p : SuspendedProgram) (e : SuspendedErase) (m : ℕ → ℕ) (L : ℕ)
-      → wordAfter g r (unitsDone g r n) L (m L) ≡ words-after g (units n) (viewOf r p e) m L
+  pub words-under-way : (n : ℕ) (r : Running) (p : SuspendedProgram) (e : SuspendedErase) (m : ℕ → ℕ) (L : ℕ)
+      → wordAfter g r (unitsDone g r n) L (m L) ≡ words-after g (units n) (underWayOf r p e) m L
   unfolding wordAfter unitsDone unitsLeft
-  words-view n running.Idle p e m L = refl
-  words-view n (running.Program l w) p e m L = ap (λ (t : Bool). cond t (bitAnd (m L) w) (m L)) (one-word l n L)
-  words-view n (running.Erase b u) p e m L = refl
+  words-under-way n running.Idle p e m L = refl
+  words-under-way n (running.Program l w) p e m L = ap (λ (t : Bool). cond t (bitAnd (m L) w) (m L)) (one-word l n L)
+  words-under-way n (running.Erase b u) p e m L = refl
 
 -- ---- the commands
 
@@ -237,14 +237,14 @@ module _ (c : ℕ) where
 
 -- the event of a step, by the recorder's rule on the device as he would see it
 abbrev pub eventOf : Geometry → State → Step → Event
-eventOf g s x = rule g (conditions s) (busy (view (s .activity))) (held? (view (s .activity))) x
+eventOf g s x = rule g (conditions s) (busy (underWay (s .control .activity))) (held? (underWay (s .control .activity))) x
 
 module _ (g : Geometry) where
   -- the state t is, in what bears on the array, what the event v makes of the state s; and v changes no word
   abbrev pub Follows : Event → State → State → Type 0
   Follows v s t =
-      (conditions t ≡ conditions-after v (conditions s)) × (view (t .activity) ≡ engine-after g v (view (s .activity)))
-      × ((m : ℕ → ℕ) → words-after g v (view (s .activity)) m ≡ m)
+      (conditions t ≡ conditions-after v (conditions s)) × (underWay (t .control .activity) ≡ engine-after g v (underWay (s .control .activity)))
+      × ((m : ℕ → ℕ) → words-after g v (underWay (s .control .activity)) m ≡ m)
 
   pub follows-cond : (b : Bool) (v u : Event) (s x y : State) → (b ≡ true → Follows v s x) → (b ≡ false → Follows u s y) → Follows (cond b v u) s (cond b x y)
   follows-cond true v u s x y f h = f refl
@@ -255,14 +255,14 @@ module _ (g : Geometry) where
   module _ (s : State) (p : Place) where
     -- what the recorder would see of the state with this view at the place
     abbrev seen : View → Conditions
-    seen x = record { supply = x .supply; unprotected = λ c. cond (eqb c (p .block)) (x .unprotected) (isUnprotected (s .unprotected) c); setup = setupOf (x .activity .setup) }
+    seen x = record { supply = x .control .supply; unprotected = λ c. cond (eqb c (p .block)) (x .unprotected) (isUnprotected (s .unprotected) c); setup = setupOf (x .control .activity .setup) }
 
     -- the same of a view: y is what the event v makes of x
     abbrev FollowsAt : Event → View → View → Type 0
-    FollowsAt v x y = (seen y ≡ conditions-after v (seen x)) × (view (y .activity) ≡ engine-after g v (view (x .activity))) × ((m : ℕ → ℕ) → words-after g v (view (x .activity)) m ≡ m)
+    FollowsAt v x y = (seen y ≡ conditions-after v (seen x)) × (underWay (y .control .activity) ≡ engine-after g v (underWay (x .control .activity))) × ((m : ℕ → ℕ) → words-after g v (underWay (x .control .activity)) m ≡ m)
 
     seen-own : conditions s ≡ seen (viewAt s p)
-    seen-own = ap (λ (u : ℕ → Bool). record { supply = s .supply; unprotected = u; setup = setupOf (s .activity .setup) }) (fun-ext (λ c. go c (eqb c (p .block)) refl))
+    seen-own = ap (λ (u : ℕ → Bool). record { supply = s .control .supply; unprotected = u; setup = setupOf (s .control .activity .setup) }) (fun-ext (λ c. go c (eqb c (p .block)) refl))
       where
         go : (c : ℕ) (b : Bool) → eqb c (p .block) ≡ b → isUnprotected (s .unprotected) c ≡ cond b (isUnprotected (s .unprotected) (p .block)) (isUnprotected (s .unprotected) c)
         go c true e = ap (isUnprotected (s .unprotected)) (eqb-true c (p .block) e)
@@ -270,7 +270,7 @@ module _ (g : Geometry) where
 
     seen-put : length (s .unprotected) ≡ 5 → p .block < 259 → (y : View) → conditions (withView s p y) ≡ seen y
     seen-put h i y =
-        ap (λ (u : ℕ → Bool). record { supply = y .supply; unprotected = u; setup = setupOf (y .activity .setup) }) (fun-ext (λ c. protection.with-each (s .unprotected) (p .block) c (y .unprotected) h i))
+        ap (λ (u : ℕ → Bool). record { supply = y .control .supply; unprotected = u; setup = setupOf (y .control .activity .setup) }) (fun-ext (λ c. protection.with-each (s .unprotected) (p .block) c (y .unprotected) h i))
 
     -- what is put back at the place follows where the view does
     follows-put : length (s .unprotected) ≡ 5 → p .block < 259 → (v : Event) (y : View) → FollowsAt v (viewAt s p) y → Follows v s (withView s p y)
@@ -290,7 +290,7 @@ module _ (g : Geometry) where
     follows-suspend x (running.Erase b n) (program.Program k v) e m = absurd m
 
     follows-resume : (x : View) (r : Running) (q : SuspendedProgram) (e : SuspendedErase)
-        → FollowsAt (cond (runs r) nothing (cond (held? (viewOf r q e) isProgram) resume-program (cond (held? (viewOf r q e) isErase) resume-erase nothing)))
+        → FollowsAt (cond (runs r) nothing (cond (held? (underWayOf r q e) isProgram) resume-program (cond (held? (underWayOf r q e) isErase) resume-erase nothing)))
         (at x setup.Nothing r q e) (withActivity x (resume (activity setup.Nothing r q e)))
     unfolding resume
     follows-resume x running.Idle (program.Program l w) e = (refl, refl, λ m. refl)
@@ -299,15 +299,15 @@ module _ (g : Geometry) where
     follows-resume x (running.Program l w) q e = (refl, refl, λ m. refl)
     follows-resume x (running.Erase b n) q e = (refl, refl, λ m. refl)
 
-    follows-clear : (x : View) (b : Bool) (y : View) → seen y ≡ seen x → view (y .activity) ≡ view (x .activity) → FollowsAt nothing x (cond b x y)
+    follows-clear : (x : View) (b : Bool) (y : View) → seen y ≡ seen x → underWay (y .control .activity) ≡ underWay (x .control .activity) → FollowsAt nothing x (cond b x y)
     follows-clear x true y h k = (refl, refl, λ m. refl)
     follows-clear x false y h k = (h, k, λ m. refl)
 
     -- a set-up is accepted by the device exactly where the recorder begins it
-    follows-setup : (x : View) (c : Setup) (d : recorder.Setup) → setupOf c ≡ d → (b : Bool) → accepts (x .activity) c ≡ not b → FollowsAt (cond b nothing (setup-is d)) x (setUp x c)
+    follows-setup : (x : View) (c : Setup) (d : recorder.Setup) → setupOf c ≡ d → (b : Bool) → accepts (x .control .activity) c ≡ not b → FollowsAt (cond b nothing (setup-is d)) x (setUp x c)
     unfolding setUp
     follows-setup x c d z true e = rw e (refl, refl, λ m. refl)
-    follows-setup x c d z false e = rw e (ap (λ (i : recorder.Setup). record { supply = x .supply; unprotected = seen x .unprotected; setup = i }) z, refl, λ m. refl)
+    follows-setup x c d z false e = rw e (ap (λ (i : recorder.Setup). record { supply = x .control .supply; unprotected = seen x .unprotected; setup = i }) z, refl, λ m. refl)
 
     not-or : (a b : Bool) → (not a && not b) ≡ not (a || b)
     not-or true b = refl
@@ -319,7 +319,7 @@ module _ (g : Geometry) where
     not-or₃ false false c = refl
 
     follows-first : (x : View) (d : Conditions) (r : Running) (q : SuspendedProgram) (e : SuspendedErase) → Together r q e → (c : Command)
-        → FollowsAt (first-cycle g d (runs r) (held? (viewOf r q e)) (bears c)) (at x setup.Nothing r q e) (firstCycle (at x setup.Nothing r q e) c)
+        → FollowsAt (first-cycle g d (runs r) (held? (underWayOf r q e)) (bears c)) (at x setup.Nothing r q e) (firstCycle (at x setup.Nothing r q e) c)
     unfolding firstCycle clearStatus accepts
     follows-first x d r q e m command.ReadArray = (refl, refl, λ m. refl)
     follows-first x d r q e m command.ReadStatus = (refl, refl, λ m. refl)
@@ -329,17 +329,17 @@ module _ (g : Geometry) where
     follows-first x d r q e m command.Resume = follows-resume x r q e
     follows-first x d r q e m command.ClearStatus = follows-clear (at x setup.Nothing r q e) (runs r) _ refl refl
     follows-first x d r q e m command.SetUpProgram =
-        rw (view-program r q e) (follows-setup (at x setup.Nothing r q e) setup.Program program-setup refl (runs r || programSuspended q) (not-or (runs r) (programSuspended q)))
+        rw (under-way-program r q e) (follows-setup (at x setup.Nothing r q e) setup.Program program-setup refl (runs r || programSuspended q) (not-or (runs r) (programSuspended q)))
     follows-first x d r q e m command.SetUpLock =
-        rw (view-program r q e) (follows-setup (at x setup.Nothing r q e) setup.Lock lock-setup refl (runs r || programSuspended q) (not-or (runs r) (programSuspended q)))
+        rw (under-way-program r q e) (follows-setup (at x setup.Nothing r q e) setup.Lock lock-setup refl (runs r || programSuspended q) (not-or (runs r) (programSuspended q)))
     follows-first x d r q e m command.SetUpErase =
-        rw (view-any r q e)
+        rw (under-way-any r q e)
         (follows-setup (at x setup.Nothing r q e) setup.Erase erase-setup refl (runs r || (programSuspended q || eraseSuspended e)) (not-or₃ (runs r) (programSuspended q) (eraseSuspended e)))
     follows-first x d r q e m command.Unknown = (refl, refl, λ m. refl)
 
     -- ---- second cycles
 
-    follows-program : (x : View) (c : Setup) (q : SuspendedProgram) (e : SuspendedErase) (w : ℕ) (t u z : Bool) → x .supply ≡ t → x .unprotected ≡ u → erasing e (p .block) ≡ z
+    follows-program : (x : View) (c : Setup) (q : SuspendedProgram) (e : SuspendedErase) (w : ℕ) (t u z : Bool) → x .control .supply ≡ t → x .unprotected ≡ u → erasing e (p .block) ≡ z
         → FollowsAt (cond (t && (u && not z)) (accept (recorder.program (p .location) w)) (setup-is no-setup)) (at x c running.Idle q e) (programCycle (settle (at x c running.Idle q e)) p w)
     unfolding programCycle settle
     follows-program x c q e w false u z ht hu hz = rw ht (refl, refl, λ m. refl)
@@ -347,7 +347,7 @@ module _ (g : Geometry) where
     follows-program x c q e w true true true ht hu hz = rw (ht, hu, hz) (refl, refl, λ m. refl)
     follows-program x c q e w true true false ht hu hz = rw (ht, hu, hz) (refl, refl, λ m. refl)
 
-    follows-erase : (x : View) (c : Setup) (d : ℕ) (o t u : Bool) → eqb d 0xD0 ≡ o → x .supply ≡ t → x .unprotected ≡ u
+    follows-erase : (x : View) (c : Setup) (d : ℕ) (o t u : Bool) → eqb d 0xD0 ≡ o → x .control .supply ≡ t → x .unprotected ≡ u
         → FollowsAt (cond (o && (t && (u && true))) (accept (recorder.erase (p .block))) (setup-is no-setup)) (at x c running.Idle program.Nothing erase.Nothing)
         (eraseCycle (settle (at x c running.Idle program.Nothing erase.Nothing)) p d)
     unfolding eraseCycle settle
@@ -370,27 +370,27 @@ module _ (g : Geometry) where
     unfolding lockCycle lockCommandOf settle
     follows-lock x c r q e d true true z hh hk hz = absurd (omega (arith, eqb-true d 0x01 hh, eqb-true d 0xD0 hk))
     follows-lock x c r q e d true false z hh hk hz =
-        rw hh (ap (λ (u : ℕ → Bool). record { supply = x .supply; unprotected = u; setup = no-setup }) (twice false (x .unprotected)), refl, λ m. refl)
+        rw hh (ap (λ (u : ℕ → Bool). record { supply = x .control .supply; unprotected = u; setup = no-setup }) (twice false (x .unprotected)), refl, λ m. refl)
     follows-lock x c r q e d false true z hh hk hz =
-        rw (hh, hk) (ap (λ (u : ℕ → Bool). record { supply = x .supply; unprotected = u; setup = no-setup }) (twice true (x .unprotected)), refl, λ m. refl)
+        rw (hh, hk) (ap (λ (u : ℕ → Bool). record { supply = x .control .supply; unprotected = u; setup = no-setup }) (twice true (x .unprotected)), refl, λ m. refl)
     follows-lock x c r q e d false false true hh hk hz = rw (hh, hk, hz) (refl, refl, λ m. refl)
     follows-lock x c r q e d false false false hh hk hz = rw (hh, hk, hz) (refl, refl, λ m. refl)
 
   -- a write, by the set-up that is pending
-  follows-cycle : (s : State) (c : Setup) (r : Running) (q : SuspendedProgram) (e : SuspendedErase) → Together r q e → Ready (setupOf c) (runs r) (held? (viewOf r q e)) → (a w : ℕ)
+  follows-cycle : (s : State) (c : Setup) (r : Running) (q : SuspendedProgram) (e : SuspendedErase) → Together r q e → Ready (setupOf c) (runs r) (held? (underWayOf r q e)) → (a w : ℕ)
       → FollowsAt s (placeOf g a)
-      (cycle g (conditions (state.withActivity s (activity c r q e))) (runs r) (held? (viewOf r q e)) (setupOf c) (location g a) (w % 256) w)
+      (cycle g (conditions (state.withActivity s (activity c r q e))) (runs r) (held? (underWayOf r q e)) (setupOf c) (location g a) (w % 256) w)
       (withActivity (viewAt s (placeOf g a)) (activity c r q e)) (writing.cycle (withActivity (viewAt s (placeOf g a)) (activity c r q e)) c (placeOf g a) w)
   unfolding writing.cycle
   follows-cycle s setup.Nothing r q e m y a w =
       rw (commands-agree (w % 256)) (follows-first s (placeOf g a) (viewAt s (placeOf g a)) (conditions (state.withActivity s (activity setup.Nothing r q e))) r q e m (commandOf (w % 256)))
   follows-cycle s setup.Program running.Idle q e m y a w =
-      rw (view-erasing g running.Idle q e (blockOf g (location g a)))
-      (follows-program s (placeOf g a) (viewAt s (placeOf g a)) setup.Program q e w (s .supply) (isUnprotected (s .unprotected) (blockOf g (location g a))) (erasing e (blockOf g (location g a))) refl refl refl)
+      rw (under-way-erasing g running.Idle q e (blockOf g (location g a)))
+      (follows-program s (placeOf g a) (viewAt s (placeOf g a)) setup.Program q e w (s .control .supply) (isUnprotected (s .unprotected) (blockOf g (location g a))) (erasing e (blockOf g (location g a))) refl refl refl)
   follows-cycle s setup.Program (running.Program l v) q e m y a w = absurd (true≢false (y .0))
   follows-cycle s setup.Program (running.Erase b n) q e m y a w = absurd (true≢false (y .0))
   follows-cycle s setup.Erase running.Idle program.Nothing erase.Nothing m y a w =
-      follows-erase s (placeOf g a) (viewAt s (placeOf g a)) setup.Erase (w % 256) (eqb (w % 256) 0xD0) (s .supply) (isUnprotected (s .unprotected) (blockOf g (location g a))) refl refl refl
+      follows-erase s (placeOf g a) (viewAt s (placeOf g a)) setup.Erase (w % 256) (eqb (w % 256) 0xD0) (s .control .supply) (isUnprotected (s .unprotected) (blockOf g (location g a))) refl refl refl
   follows-cycle s setup.Erase running.Idle program.Nothing (erase.Erase b n) m y a w = absurd (true≢false (y .1))
   follows-cycle s setup.Erase running.Idle (program.Program l v) e m y a w = absurd (true≢false (y .1))
   follows-cycle s setup.Erase (running.Program l v) q e m y a w = absurd (true≢false (y .0))
@@ -399,11 +399,11 @@ module _ (g : Geometry) where
       follows-lock s (placeOf g a) (viewAt s (placeOf g a)) setup.Lock r q e (w % 256) (eqb (w % 256) 0x01) (eqb (w % 256) 0xD0) (eqb (w % 256) 0x03) refl refl refl
 
   -- and of the state
-  pub follows-written : (s : State) → Together (s .activity .running) (s .activity .program) (s .activity .erase) → Ready (setupOf (s .activity .setup)) (runs (s .activity .running)) (held? (view (s .activity)))
+  pub follows-written : (s : State) → Together (s .control .activity .running) (s .control .activity .program) (s .control .activity .erase) → Ready (setupOf (s .control .activity .setup)) (runs (s .control .activity .running)) (held? (underWay (s .control .activity)))
       → length (s .unprotected) ≡ 5 → (a w : ℕ) → blockOf g (location g a) < 259
-      → Follows (cycle g (conditions s) (runs (s .activity .running)) (held? (view (s .activity))) (setupOf (s .activity .setup)) (location g a) (w % 256) w) s (writtenAt s (placeOf g a) w)
+      → Follows (cycle g (conditions s) (runs (s .control .activity .running)) (held? (underWay (s .control .activity))) (setupOf (s .control .activity .setup)) (location g a) (w % 256) w) s (writtenAt s (placeOf g a) w)
   unfolding writtenAt
   follows-written s m y h a w k =
-      follows-put s (placeOf g a) h k (cycle g (conditions s) (runs (s .activity .running)) (held? (view (s .activity))) (setupOf (s .activity .setup)) (location g a) (w % 256) w)
-      (writing.cycle (viewAt s (placeOf g a)) (s .activity .setup) (placeOf g a) w)
-      (follows-cycle s (s .activity .setup) (s .activity .running) (s .activity .program) (s .activity .erase) m y a w)
+      follows-put s (placeOf g a) h k (cycle g (conditions s) (runs (s .control .activity .running)) (held? (underWay (s .control .activity))) (setupOf (s .control .activity .setup)) (location g a) (w % 256) w)
+      (writing.cycle (viewAt s (placeOf g a)) (s .control .activity .setup) (placeOf g a) w)
+      (follows-cycle s (s .control .activity .setup) (s .control .activity .running) (s .control .activity .program) (s .control .activity .erase) m y a w)

@@ -26,7 +26,7 @@ use Rattle.semantics.specs.Entries.{Entry, entry, Live, live}
 use Rattle.semantics.specs.Recorder as recorder
 use Rattle.semantics.specs.Recorder.{Operation, Conditions, base, len, put, kinds, isProgram, isAny}
 use Rattle.semantics.specs.Engine.{Engine, busy, stack, held?, Ready, Order, Inside, Sim, Matches, and-true-l, and-true-r, not-true, or-false-l}
-use Rattle.semantics.specs.Follows.{setupOf, addErase, addProgram, addRunning, viewOf, view-program, view-any, Together, Lacking}
+use Rattle.semantics.specs.Follows.{setupOf, addErase, addProgram, addRunning, underWayOf, under-way-program, under-way-any, Together, Lacking}
 
 and-both : {a b : Bool} → a ≡ true → b ≡ true → (a && b) ≡ true
 and-both p q = rw (p, q)
@@ -35,7 +35,7 @@ module _ (g : Geometry) where
   -- ---- from the agreement to the test
 
   -- the order of the stack says which of the three go together
-  pub together : (r : Running) (p : SuspendedProgram) (e : SuspendedErase) → Order g (stack (viewOf r p e)) → Together r p e
+  pub together : (r : Running) (p : SuspendedProgram) (e : SuspendedErase) → Order g (stack (underWayOf r p e)) → Together r p e
   together running.Idle p e o = tt
   together (running.Program l w) program.Nothing e o = tt
   together (running.Program l w) (program.Program k v) erase.Nothing o = false≢true (o .1)
@@ -45,7 +45,7 @@ module _ (g : Geometry) where
   together (running.Erase b n) (program.Program k v) erase.Nothing o = true≢false (o .0)
   together (running.Erase b n) (program.Program k v) (erase.Erase c m) o = o
 
-  pub lacking : (r : Running) (p : SuspendedProgram) (e : SuspendedErase) (j : List (Entry Operation)) → Matches g (runs r) (stack (viewOf r p e)) j → Lacking g r
+  pub lacking : (r : Running) (p : SuspendedProgram) (e : SuspendedErase) (j : List (Entry Operation)) → Matches g (runs r) (stack (underWayOf r p e)) j → Lacking g r
   lacking running.Idle p e j m = tt
   lacking (running.Program l w) p e j m = tt
   lacking (running.Erase b n) p e j m = entries.live-less (kinds g) m
@@ -101,7 +101,7 @@ module _ (g : Geometry) where
   apart-running sound (running.Program l w) (program.Program k v) e m i h = absurd m
   apart-running sound (running.Erase b n) p e m i h = refl
 
-  running-alone : (c : Setup) (r : Running) (p : SuspendedProgram) (e : SuspendedErase) → Together r p e → Ready (setupOf c) (runs r) (held? (viewOf r p e))
+  running-alone : (c : Setup) (r : Running) (p : SuspendedProgram) (e : SuspendedErase) → Together r p e → Ready (setupOf c) (runs r) (held? (underWayOf r p e))
       → implies (runs r) (not (pending c) && not (programSuspended p)) ≡ true
   running-alone c running.Idle p e m y = refl
   running-alone c (running.Program l w) (program.Program k v) e m y = absurd m
@@ -115,12 +115,12 @@ module _ (g : Geometry) where
   running-alone setup.Erase (running.Erase b n) program.Nothing e m y = absurd (true≢false (y .0))
   running-alone setup.Lock (running.Erase b n) program.Nothing e m y = absurd (true≢false (y .0))
 
-  program-alone : (c : Setup) (r : Running) (p : SuspendedProgram) (e : SuspendedErase) → Ready (setupOf c) (runs r) (held? (viewOf r p e)) → implies (programSuspended p) (not (pending c)) ≡ true
+  program-alone : (c : Setup) (r : Running) (p : SuspendedProgram) (e : SuspendedErase) → Ready (setupOf c) (runs r) (held? (underWayOf r p e)) → implies (programSuspended p) (not (pending c)) ≡ true
   program-alone c r program.Nothing e y = refl
   program-alone setup.Nothing r (program.Program l w) e y = refl
-  program-alone setup.Program r (program.Program l w) e y = absurd (true≢false (sym (view-program r (program.Program l w) e) ∙ y .1))
-  program-alone setup.Erase r (program.Program l w) e y = absurd (true≢false (sym (view-any r (program.Program l w) e) ∙ y .1))
-  program-alone setup.Lock r (program.Program l w) e y = absurd (true≢false (sym (view-program r (program.Program l w) e) ∙ y .1))
+  program-alone setup.Program r (program.Program l w) e y = absurd (true≢false (sym (under-way-program r (program.Program l w) e) ∙ y .1))
+  program-alone setup.Erase r (program.Program l w) e y = absurd (true≢false (sym (under-way-any r (program.Program l w) e) ∙ y .1))
+  program-alone setup.Lock r (program.Program l w) e y = absurd (true≢false (sym (under-way-program r (program.Program l w) e) ∙ y .1))
 
   no-erase-runs : (r : Running) (p : SuspendedProgram) (b n : ℕ) → Together r p (erase.Erase b n) → not (isErase r) ≡ true
   no-erase-runs running.Idle p b n m = refl
@@ -128,25 +128,25 @@ module _ (g : Geometry) where
   no-erase-runs (running.Erase c k) program.Nothing b n m = absurd m
   no-erase-runs (running.Erase c k) (program.Program l w) b n m = absurd m
 
-  no-erase-setup : (c : Setup) (r : Running) (p : SuspendedProgram) (b n : ℕ) → Ready (setupOf c) (runs r) (held? (viewOf r p (erase.Erase b n))) → not (isEraseSetup c) ≡ true
+  no-erase-setup : (c : Setup) (r : Running) (p : SuspendedProgram) (b n : ℕ) → Ready (setupOf c) (runs r) (held? (underWayOf r p (erase.Erase b n))) → not (isEraseSetup c) ≡ true
   no-erase-setup setup.Nothing r p b n y = refl
   no-erase-setup setup.Program r p b n y = refl
   no-erase-setup setup.Lock r p b n y = refl
-  no-erase-setup setup.Erase r program.Nothing b n y = absurd (true≢false (sym (view-any r program.Nothing (erase.Erase b n)) ∙ y .1))
-  no-erase-setup setup.Erase r (program.Program l w) b n y = absurd (true≢false (sym (view-any r (program.Program l w) (erase.Erase b n)) ∙ y .1))
+  no-erase-setup setup.Erase r program.Nothing b n y = absurd (true≢false (sym (under-way-any r program.Nothing (erase.Erase b n)) ∙ y .1))
+  no-erase-setup setup.Erase r (program.Program l w) b n y = absurd (true≢false (sym (under-way-any r (program.Program l w) (erase.Erase b n)) ∙ y .1))
 
-  erase-alone : (c : Setup) (r : Running) (p : SuspendedProgram) (e : SuspendedErase) → Together r p e → Ready (setupOf c) (runs r) (held? (viewOf r p e))
+  erase-alone : (c : Setup) (r : Running) (p : SuspendedProgram) (e : SuspendedErase) → Together r p e → Ready (setupOf c) (runs r) (held? (underWayOf r p e))
       → implies (eraseSuspended e) (not (isErase r) && not (isEraseSetup c)) ≡ true
   erase-alone c r p erase.Nothing m y = refl
   erase-alone c r p (erase.Erase b n) m y = and-both (no-erase-runs r p b n m) (no-erase-setup c r p b n y)
 
   -- what is under way, and agrees with a journal, is well formed
   pub formed : Sound g → (d : Conditions) (c : Setup) (r : Running) (p : SuspendedProgram) (e : SuspendedErase) (j : List (Entry Operation)) → d .setup ≡ setupOf c
-      → Sim g d (viewOf r p e) j → activityFormed g (activity c r p e) ≡ true
+      → Sim g d (underWayOf r p e) j → activityFormed g (activity c r p e) ≡ true
   unfolding activityFormed runningAlone programAlone eraseAlone allFit apart
   formed sound d c r p e j q s =
       let m = together r p e (s .order) in
-      let y : Ready (setupOf c) (runs r) (held? (viewOf r p e)) = rw q at (s .ready) in
+      let y : Ready (setupOf c) (runs r) (held? (underWayOf r p e)) = rw q at (s .ready) in
       let x = fits-running sound r (addProgram p (addErase e)) (s .inside) (entries.match-short (kinds g) (s .match)) in
       let z = fits-program p (addErase e) (x .1) (x .2) in
       let h = entries.match-spread (kinds g) (s .match) in
@@ -272,17 +272,17 @@ module _ (g : Geometry) where
   quiet-running (running.Program l w) p h = sym h
   quiet-running (running.Erase b n) p h = sym h
 
-  quiet-program : (r : Running) (p : SuspendedProgram) (e : SuspendedErase) → implies (programSuspended p) false ≡ true → held? (viewOf r p e) isProgram ≡ false
-  quiet-program r program.Nothing e h = view-program r program.Nothing e
+  quiet-program : (r : Running) (p : SuspendedProgram) (e : SuspendedErase) → implies (programSuspended p) false ≡ true → held? (underWayOf r p e) isProgram ≡ false
+  quiet-program r program.Nothing e h = under-way-program r program.Nothing e
   quiet-program r (program.Program l w) e h = absurd (false≢true h)
 
   quiet-any : (r : Running) (p : SuspendedProgram) (e : SuspendedErase) → implies (programSuspended p) false ≡ true → implies (eraseSuspended e) (not (isErase r) && false) ≡ true
-      → held? (viewOf r p e) isAny ≡ false
+      → held? (underWayOf r p e) isAny ≡ false
   quiet-any r (program.Program l w) e h k = absurd (false≢true h)
-  quiet-any r program.Nothing erase.Nothing h k = view-any r program.Nothing erase.Nothing
+  quiet-any r program.Nothing erase.Nothing h k = under-way-any r program.Nothing erase.Nothing
   quiet-any r program.Nothing (erase.Erase b n) h k = absurd (false≢true (and-true-r (not (isErase r)) false k))
 
-  ready-own : (c : Setup) (r : Running) (p : SuspendedProgram) (e : SuspendedErase) → Parts c r p e → Ready (setupOf c) (runs r) (held? (viewOf r p e))
+  ready-own : (c : Setup) (r : Running) (p : SuspendedProgram) (e : SuspendedErase) → Parts c r p e → Ready (setupOf c) (runs r) (held? (underWayOf r p e))
   ready-own setup.Nothing r p e x = tt
   ready-own setup.Program r p e x = (quiet-running r p (x .running-only), quiet-program r p e (x .program-only))
   ready-own setup.Lock r p e x = (quiet-running r p (x .running-only), quiet-program r p e (x .program-only))
@@ -290,7 +290,7 @@ module _ (g : Geometry) where
 
   -- a well-formed state agrees with the journal of what is under way in it
   pub formed-own : Sound g → (d : Conditions) (c : Setup) (r : Running) (p : SuspendedProgram) (e : SuspendedErase) → d .setup ≡ setupOf c → activityFormed g (activity c r p e) ≡ true
-      → Sim g d (viewOf r p e) (own r p e)
+      → Sim g d (underWayOf r p e) (own r p e)
   formed-own sound d c r p e q h =
       let x = parts c r p e h in
       record {

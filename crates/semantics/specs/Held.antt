@@ -89,15 +89,15 @@ module _ (c : ℕ) (s : State) (xs : List ℕ) (r : Held c s xs) (x : Step) (d e
   does-read b w h q i j k l = done (Read b) h q (rw (j, k, i)) l
 
   -- the view that is put back field by field
-  pub does-write : (b w : ℕ) (p : Place) (v : View) (u : List ℕ) → e ≡ 0 → x ≡ Write b w → p ≡ placeOf (geometry s) b → v ≡ cycle (viewAt s p) (s .activity .setup) p w
+  pub does-write : (b w : ℕ) (p : Place) (v : View) (u : List ℕ) → e ≡ 0 → x ≡ Write b w → p ≡ placeOf (geometry s) b → v ≡ cycle (viewAt s p) (s .control .activity .setup) p w
       → u ≡ withUnprotected (s .unprotected) (p .block) (v .unprotected)
-      → t ≡ record { part = s .part; banks = set (s .banks) (p .bank) (record { mode = v .mode }); activity = v .activity; flags = v .flags; unprotected = u; configuration = v .configuration; supply = v .supply }
+      → t ≡ record { part = s .part; control = v .control; banks = set (s .banks) (p .bank) (record { mode = v .mode }); unprotected = u }
       → a ≡ Done → ys ≡ xs → Does s xs x t a ys
   unfolding accepted acceptedArray written writtenAt
   does-write b w p v u h q i j k l m n = done (Write b w) h q (rw (l, k, j, i, m)) n
 
-  pub does-work : (n : ℕ) (o : Worked) → e ≡ 0 → x ≡ Work n → o ≡ workedOn (geometry s) (s .activity) n → t ≡ withActivity s (o .activity) → a ≡ Units (o .units)
-      → ys ≡ arrayAfter (geometry s) (s .activity .running) (unitsDone (geometry s) (s .activity .running) n) xs → Does s xs x t a ys
+  pub does-work : (n : ℕ) (o : Worked) → e ≡ 0 → x ≡ Work n → o ≡ workedOn (geometry s) (s .control .activity) n → t ≡ withActivity s (o .activity) → a ≡ Units (o .units)
+      → ys ≡ arrayAfter (geometry s) (s .control .activity .running) (unitsDone (geometry s) (s .control .activity .running) n) xs → Does s xs x t a ys
   unfolding accepted acceptedArray workedOn worked workedArray
   does-work n o h q i j k l = done (Work n) h q (rw (j, k, i)) l
 
@@ -105,6 +105,6 @@ module _ (c : ℕ) (s : State) (xs : List ℕ) (r : Held c s xs) (x : Step) (d e
   unfolding accepted acceptedArray
   does-supply on h q j k l = done (Supply on) h q (rw (j, k)) l
 
-  pub does-reset : e ≡ 0 → x ≡ Reset → t ≡ withSupply (powerUp (s .part)) (s .supply) → a ≡ Done → ys ≡ xs → Does s xs x t a ys
+  pub does-reset : e ≡ 0 → x ≡ Reset → t ≡ withSupply (powerUp (s .part)) (s .control .supply) → a ≡ Done → ys ≡ xs → Does s xs x t a ys
   unfolding accepted acceptedArray
   does-reset h q j k l = done Reset h q (rw (j, k)) l

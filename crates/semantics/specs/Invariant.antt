@@ -39,7 +39,7 @@ use Rattle.semantics.specs.Entries.{Entry, entry, running, suspended, fi
 use Rattle.semantics.specs.Recorder as recorder
 use Rattle.semantics.specs.Recorder.{Operation, Event, nothing, supplied, was-reset, units, Conditions, conditions-after, Recorder, beginning, recorded, recordedAll, journalOf, event, journal-after, reading, applied, base, len, put, kinds}
 use Rattle.semantics.specs.Engine.{Engine, busy, stack, held?, engine-after, words-after, Ready, Ok, rule-ok, Sim, sim-do, words-after-ok, rules-agree, Matches, After}
-use Rattle.semantics.specs.Follows.{conditions, view, viewOf, setupOf, eventOf, Together, Lacking, Follows, follows-written, view-worked, words-view}
+use Rattle.semantics.specs.Follows.{conditions, underWay, underWayOf, setupOf, eventOf, Together, Lacking, Follows, follows-written, under-way-worked, words-under-way}
 use Rattle.semantics.specs.Formed.{together, lacking, formed}
 
 -- ---- refusals
@@ -113,22 +113,22 @@ wordsOf xs L = getD xs L 0
 -- what a step makes of a state and an array is what the event v makes of them
 abbrev pub Steps : Event → State → List ℕ → State → List ℕ → Type 0
 Steps v s xs t ys =
-    (conditions t ≡ conditions-after v (conditions s)) × (view (t .activity) ≡ engine-after (geometry s) v (view (s .activity)))
-    × ((L : ℕ) → L < length xs → wordsOf ys L ≡ words-after (geometry s) v (view (s .activity)) (wordsOf xs) L)
+    (conditions t ≡ conditions-after v (conditions s)) × (underWay (t .control .activity) ≡ engine-after (geometry s) v (underWay (s .control .activity)))
+    × ((L : ℕ) → L < length xs → wordsOf ys L ≡ words-after (geometry s) v (underWay (s .control .activity)) (wordsOf xs) L)
 
 abbrev Steps-of : Event → State → List ℕ → Step → Type 0
 Steps-of v s xs x = Steps v s xs (stepOf s xs x .state) (arrayOf s xs x)
 
 -- the pieces of the invariant that a step asks for
 pub record Fit (s : State) : Type 0 where
-  pub alone : Together (s .activity .running) (s .activity .program) (s .activity .erase)
-  pub lacks : Lacking (geometry s) (s .activity .running)
-  pub ready : Ready (setupOf (s .activity .setup)) (busy (view (s .activity))) (held? (view (s .activity)))
+  pub alone : Together (s .control .activity .running) (s .control .activity .program) (s .control .activity .erase)
+  pub lacks : Lacking (geometry s) (s .control .activity .running)
+  pub ready : Ready (setupOf (s .control .activity .setup)) (busy (underWay (s .control .activity))) (held? (underWay (s .control .activity)))
   pub five : length (s .unprotected) ≡ 5
 
-no-conditions-yet : (s : State) → conditions (withSupply (powerUp (s .part)) (s .supply)) ≡ conditions-after was-reset (conditions s)
+no-conditions-yet : (s : State) → conditions (withSupply (powerUp (s .part)) (s .control .supply)) ≡ conditions-after was-reset (conditions s)
 unfolding powerUp
-no-conditions-yet s = ap (λ (u : ℕ → Bool). record { supply = s .supply; unprotected = u; setup = recorder.no-setup }) (fun-ext (λ b. protection.all-none b))
+no-conditions-yet s = ap (λ (u : ℕ → Bool). record { supply = s .control .supply; unprotected = u; setup = recorder.no-setup }) (fun-ext (λ b. protection.all-none b))
 
 module _ (s : State) (xs : List ℕ) (good : stateRefusal s (length xs) ≡ 0) (fit : Fit s) where
   sound : Sound (geometry s)
@@ -149,7 +149,7 @@ module _ (s : State) (xs : List ℕ) (good : stateRefusal s (length xs) ≡ 0) (
   steps-write a w (inl h) =
       let k : blockOf (geometry s) (location (geometry s) a) < 259 = laws.part-block-lt (s .part) (location (geometry s) a) (laws.location-lt (geometry s) sound a) in
       rw (lt-ltb a 16777216 h)
-      (quiet (recorder.cycle (geometry s) (conditions s) (busy (view (s .activity))) (held? (view (s .activity))) (setupOf (s .activity .setup)) (location (geometry s) a) (w % 256) w) (Write a w)
+      (quiet (recorder.cycle (geometry s) (conditions s) (busy (underWay (s .control .activity))) (held? (underWay (s .control .activity))) (setupOf (s .control .activity .setup)) (location (geometry s) a) (w % 256) w) (Write a w)
       (written s a w) (address-good (geometry s) sound a h) refl refl (follows-written (geometry s) s (fit .alone) (fit .ready) (fit .five) a w k))
   steps-write a w (inr h) = rw (le-ltb a 16777216 h) (refused-nothing (Write a w) 2 (address-bad (geometry s) a h))
 
@@ -164,8 +164,8 @@ module _ (s : State) (xs : List ℕ) (good : stateRefusal s (length xs) ≡ 0) (
   steps-work n (inr h) =
       rw (le-leb n 65535 h, step-done s xs good (Work n) (count-good n h), array-done s xs good (Work n) (count-good n h)) (
         refl,
-        view-worked (geometry s) n (s .activity .running) (s .activity .program) (s .activity .erase) (fit .lacks),
-        λ L k. array-word _ _ _ xs L k ∙ words-view (geometry s) n (s .activity .running) (s .activity .program) (s .activity .erase) (wordsOf xs) L,
+        under-way-worked (geometry s) n (s .control .activity .running) (s .control .activity .program) (s .control .activity .erase) (fit .lacks),
+        λ L k. array-word _ _ _ xs L k ∙ words-under-way (geometry s) n (s .control .activity .running) (s .control .activity .program) (s .control .activity .erase) (wordsOf xs) L,
       )
 
   -- every step is the event that the recorder's rule makes of it
@@ -175,7 +175,7 @@ module _ (s : State) (xs : List ℕ) (good : stateRefusal s (length xs) ≡ 0) (
   steps (Write a w) = steps-write a w (laws.order a 16777216)
   steps (Work n) = steps-work n (laws.order 65535 n)
   steps (Supply on) = quiet (supplied on) (Supply on) (withSupply s on) refl refl refl (refl, refl, λ m. refl)
-  steps Reset = quiet was-reset Reset (withSupply (powerUp (s .part)) (s .supply)) refl refl refl (no-conditions-yet s, refl, λ m. refl)
+  steps Reset = quiet was-reset Reset (withSupply (powerUp (s .part)) (s .control .supply)) refl refl refl (no-conditions-yet s, refl, λ m. refl)
 
 -- ---- what no step changes
 
@@ -216,7 +216,7 @@ pub record Agree (p : Part) (xs₀ : List ℕ) (m : Machine) (c : Recorder) : Ty
   pub five : length (m .state .unprotected) ≡ 5
   pub spare : spareZero (m .state .unprotected) ≡ true
   pub same : conditions (m .state) ≡ c .conditions
-  pub sim : Sim (geometryOf p) (conditions (m .state)) (view (m .state .activity)) (c .journal)
+  pub sim : Sim (geometryOf p) (conditions (m .state)) (underWay (m .state .control .activity)) (c .journal)
   pub word : (L : ℕ) → L < words (geometryOf p) → wordsOf (m .array) L ≡ After (geometryOf p) (c .journal) L (wordsOf xs₀ L)
 
 -- a state that agrees is well formed, so that 1 and 2 do not come
@@ -224,8 +224,8 @@ pub agree-formed : (p : Part) (xs₀ : List ℕ) (m : Machine) (c : Recorder) �
 unfolding wellFormed
 agree-formed p xs₀ m c a =
     let s : State = m .state in
-    let f : activityFormed (geometryOf p) (s .activity) ≡ true =
-    formed (geometryOf p) (laws.sound p) (conditions s) (s .activity .setup) (s .activity .running) (s .activity .program) (s .activity .erase) (c .journal) refl (a .sim)
+    let f : activityFormed (geometryOf p) (s .control .activity) ≡ true =
+    formed (geometryOf p) (laws.sound p) (conditions s) (s .control .activity .setup) (s .control .activity .running) (s .control .activity .program) (s .control .activity .erase) (c .journal) refl (a .sim)
     in
     rw (a .part, f, a .spare)
 
@@ -237,10 +237,10 @@ agree-own : (p : Part) (xs₀ : List ℕ) (m : Machine) (c : Recorder) → Agree
 agree-own p xs₀ m c a = subst (λ (q : Part). Agree q xs₀ m c) (sym (a .part)) a
 
 -- what a step asks for, from the agreement
-pub agree-fit : (s : State) (d : Conditions) (j : List (Entry Operation)) → length (s .unprotected) ≡ 5 → Sim (geometry s) (conditions s) (view (s .activity)) j → Fit s
+pub agree-fit : (s : State) (d : Conditions) (j : List (Entry Operation)) → length (s .unprotected) ≡ 5 → Sim (geometry s) (conditions s) (underWay (s .control .activity)) j → Fit s
 agree-fit s d j h sim = record {
-  alone = together (geometry s) (s .activity .running) (s .activity .program) (s .activity .erase) (sim .order);
-  lacks = lacking (geometry s) (s .activity .running) (s .activity .program) (s .activity .erase) j (sim .match);
+  alone = together (geometry s) (s .control .activity .running) (s .control .activity .program) (s .control .activity .erase) (sim .order);
+  lacks = lacking (geometry s) (s .control .activity .running) (s .control .activity .program) (s .control .activity .erase) j (sim .match);
   ready = sim .ready;
   five = h;
 }
@@ -255,8 +255,8 @@ agree-step xs₀ m c x a =
       five = k .five ∙ a .five;
       spare = k .spare (a .spare);
       same = f .0 ∙ ap (λ (d : Conditions). conditions-after v d) (a .same);
-      sim = subst₂ (λ d e. Sim g d e (journal-after g v (c .journal))) (sym (f .0)) (sym (f .1)) (sim-do g (laws.sound (s .part)) (conditions s) (view (s .activity)) (c .journal) v o (a .sim));
-      word = λ L h. f .2 L (omega (arith, a .size)) ∙ words-after-ok g v (conditions s) (view (s .activity)) (c .journal) (wordsOf xs) L (wordsOf xs₀ L) (a .sim) (a .word L h);
+      sim = subst₂ (λ d e. Sim g d e (journal-after g v (c .journal))) (sym (f .0)) (sym (f .1)) (sim-do g (laws.sound (s .part)) (conditions s) (underWay (s .control .activity)) (c .journal) v o (a .sim));
+      word = λ L h. f .2 L (omega (arith, a .size)) ∙ words-after-ok g v (conditions s) (underWay (s .control .activity)) (c .journal) (wordsOf xs) L (wordsOf xs₀ L) (a .sim) (a .word L h);
     })
   where
     s : State
@@ -271,8 +271,8 @@ agree-step xs₀ m c x a =
     v : Event
     v = eventOf (geometry (m .state)) (m .state) x
 
-    o : Ok (geometry (m .state)) (setupOf (m .state .activity .setup)) (busy (view (m .state .activity))) (held? (view (m .state .activity))) v
-    o = rule-ok (geometry (m .state)) (laws.sound (m .state .part)) (conditions (m .state)) (busy (view (m .state .activity))) (held? (view (m .state .activity))) (a .sim .ready) x
+    o : Ok (geometry (m .state)) (setupOf (m .state .control .activity .setup)) (busy (underWay (m .state .control .activity))) (held? (underWay (m .state .control .activity))) v
+    o = rule-ok (geometry (m .state)) (laws.sound (m .state .part)) (conditions (m .state)) (busy (underWay (m .state .control .activity))) (held? (underWay (m .state .control .activity))) (a .sim .ready) x
 
     f : Steps-of v (m .state) (m .array) x
     f = steps (m .state) (m .array) (agree-good (m .state .part) xs₀ m c a) (agree-fit (m .state) (c .conditions) (c .journal) (a .five) (a .sim)) x
@@ -283,7 +283,7 @@ agree-step xs₀ m c x a =
     q : event (geometry (m .state)) x c ≡ v
     q =
         ap (λ (d : Conditions). event (geometry (m .state)) x (record { conditions = d; journal = c .journal })) (sym (a .same))
-        ∙ rules-agree (geometry (m .state)) x (conditions (m .state)) (view (m .state .activity)) (c .journal) (a .sim)
+        ∙ rules-agree (geometry (m .state)) x (conditions (m .state)) (underWay (m .state .control .activity)) (c .journal) (a .sim)
 
 pub agree-after : (p : Part) (xs₀ : List ℕ) (m : Machine) (c : Recorder) (x : Step) → Agree p xs₀ m c → Agree p xs₀ (after m x) (recorded (geometryOf p) c x)
 agree-after p xs₀ m c x a =

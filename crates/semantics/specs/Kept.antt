@@ -19,21 +19,21 @@ use Rattle.semantics.specs.Steps.{stateRefusal, firstRefusal, refusalOf,
 use Rattle.semantics.specs.Entries.{Entry}
 use Rattle.semantics.specs.Recorder.{Operation, Event, journal-after}
 use Rattle.semantics.specs.Engine.{busy, held?, Sim, rule-ok, sim-do, and-true-l, and-true-r}
-use Rattle.semantics.specs.Follows.{conditions, view, eventOf}
+use Rattle.semantics.specs.Follows.{conditions, underWay, eventOf}
 use Rattle.semantics.specs.Formed.{formed, own, formed-own}
 use Rattle.semantics.specs.Invariant.{Steps, Kept, steps, state-good, kept-step, agree-fit}
 
 -- on an array of the part's length
 keeps-good : (s : State) (xs : List ℕ) (x : Step) → length (s .unprotected) ≡ 5 → length xs ≡ words (geometry s) → wellFormed s ≡ true → wellFormed (stepOf s xs x .state) ≡ true
 unfolding wellFormed
-keeps-good s xs x h n w = rw (q, z, k .spare (and-true-r (activityFormed (geometry s) (s .activity)) _ w))
+keeps-good s xs x h n w = rw (q, z, k .spare (and-true-r (activityFormed (geometry s) (s .control .activity)) _ w))
   where
     j : List (Entry Operation)
-    j = own (geometry s) (s .activity .running) (s .activity .program) (s .activity .erase)
+    j = own (geometry s) (s .control .activity .running) (s .control .activity .program) (s .control .activity .erase)
 
-    i : Sim (geometry s) (conditions s) (view (s .activity)) j
-    i = formed-own (geometry s) (laws.sound (s .part)) (conditions s) (s .activity .setup) (s .activity .running) (s .activity .program) (s .activity .erase) refl
-        (and-true-l (activityFormed (geometry s) (s .activity)) _ w)
+    i : Sim (geometry s) (conditions s) (underWay (s .control .activity)) j
+    i = formed-own (geometry s) (laws.sound (s .part)) (conditions s) (s .control .activity .setup) (s .control .activity .running) (s .control .activity .program) (s .control .activity .erase) refl
+        (and-true-l (activityFormed (geometry s) (s .control .activity)) _ w)
 
     v : Event
     v = eventOf (geometry s) s x
@@ -50,13 +50,13 @@ keeps-good s xs x h n w = rw (q, z, k .spare (and-true-r (activityFormed (geomet
     q : geometry t ≡ geometry s
     q = ap geometryOf (k .part)
 
-    y : Sim (geometry s) (conditions t) (view (t .activity)) (journal-after (geometry s) v j)
+    y : Sim (geometry s) (conditions t) (underWay (t .control .activity)) (journal-after (geometry s) v j)
     y = subst₂ (λ d e. Sim (geometry s) d e (journal-after (geometry s) v j)) (sym (f .0)) (sym (f .1))
-        (sim-do (geometry s) (laws.sound (s .part)) (conditions s) (view (s .activity)) j v
-        (rule-ok (geometry s) (laws.sound (s .part)) (conditions s) (busy (view (s .activity))) (held? (view (s .activity))) (i .ready) x) i)
+        (sim-do (geometry s) (laws.sound (s .part)) (conditions s) (underWay (s .control .activity)) j v
+        (rule-ok (geometry s) (laws.sound (s .part)) (conditions s) (busy (underWay (s .control .activity))) (held? (underWay (s .control .activity))) (i .ready) x) i)
 
-    z : activityFormed (geometry s) (t .activity) ≡ true
-    z = formed (geometry s) (laws.sound (s .part)) (conditions t) (t .activity .setup) (t .activity .running) (t .activity .program) (t .activity .erase) (journal-after (geometry s) v j) refl y
+    z : activityFormed (geometry s) (t .control .activity) ≡ true
+    z = formed (geometry s) (laws.sound (s .part)) (conditions t) (t .control .activity .setup) (t .control .activity .running) (t .control .activity .program) (t .control .activity .erase) (journal-after (geometry s) v j) refl y
 
 refused-back : (s : State) (xs : List ℕ) (x : Step) → eqb (length xs) (words (geometry s)) ≡ false → stepOf s xs x .state ≡ s
 unfolding stepOf refusalOf firstRefusal stateRefusal

@@ -53,7 +53,7 @@ unfoldable pub signatureWord : Geometry → View → ℕ → ℕ
 signatureWord g v l =
     cond (eqb (bankOffset g l) 0) 0x0020
     (cond (eqb (bankOffset g l) 1) (deviceCode g)
-    (cond (eqb (bankOffset g l) 5) (v .configuration)
+    (cond (eqb (bankOffset g l) 5) (v .control .configuration)
     (cond (eqb (blockOffset g l) 2) (bitIf (not (v .unprotected)) 0x0001)
     0x0000)))
 
@@ -64,8 +64,8 @@ queryWord o = cond (eqb o 0x10) 0x51 (cond (eqb o 0x11) 0x52 (cond (eqb o 0x12) 
 -- "By the mode of the bank: array, the word at the location, but the status word while an operation runs in that bank; status, the
 -- status word; signature ..; query .."
 unfoldable pub readIn : Geometry → View → List ℕ → Mode → Place → ℕ
-readIn g v xs Array p = cond (runsIn g (v .activity .running) (p .bank)) (statusWord g (v .activity) (v .flags) (p .bank)) (getD xs (p .location) 0)
-readIn g v xs Status p = statusWord g (v .activity) (v .flags) (p .bank)
+readIn g v xs Array p = cond (runsIn g (v .control .activity .running) (p .bank)) (statusWord g (v .control .activity) (v .control .flags) (p .bank)) (getD xs (p .location) 0)
+readIn g v xs Status p = statusWord g (v .control .activity) (v .control .flags) (p .bank)
 readIn g v xs Signature p = signatureWord g v (p .location)
 readIn g v xs Query p = queryWord (bankOffset g (p .location))
 

@@ -21,6 +21,7 @@ use Rattle.semantics.specs.declared.SuspendedErase.{SuspendedErase}
 use Rattle.semantics.specs.declared.SuspendedErase.the-variants as erase
 use Rattle.semantics.specs.declared.Activity.{Activity}
 use Rattle.semantics.specs.declared.Flags.{Flags}
+use Rattle.semantics.specs.declared.Control.{Control}
 use Rattle.semantics.specs.declared.State.{State}
 
 -- the geometry of the device's part
@@ -29,17 +30,32 @@ geometry s = geometryOf (s .part)
 
 -- ---- one field changed. antt has no update of a record, so that each is written out here once
 
-abbrev pub withActivity : State → Activity → State
-withActivity s x = record { part = s .part; banks = s .banks; activity = x; flags = s .flags; unprotected = s .unprotected; configuration = s .configuration; supply = s .supply }
+abbrev pub setActivity : Control → Activity → Control
+setActivity c x = record { activity = x; flags = c .flags; configuration = c .configuration; supply = c .supply }
 
-abbrev pub withFlags : State → Flags → State
-withFlags s x = record { part = s .part; banks = s .banks; activity = s .activity; flags = x; unprotected = s .unprotected; configuration = s .configuration; supply = s .supply }
+abbrev pub setFlags : Control → Flags → Control
+setFlags c x = record { activity = c .activity; flags = x; configuration = c .configuration; supply = c .supply }
+
+abbrev pub setConfiguration : Control → ℕ → Control
+setConfiguration c x = record { activity = c .activity; flags = c .flags; configuration = x; supply = c .supply }
+
+abbrev pub setSupply : Control → Bool → Control
+setSupply c x = record { activity = c .activity; flags = c .flags; configuration = c .configuration; supply = x }
+
+abbrev pub withControl : State → Control → State
+withControl s x = record { part = s .part; control = x; banks = s .banks; unprotected = s .unprotected }
 
 abbrev pub withProtection : State → List ℕ → State
-withProtection s x = record { part = s .part; banks = s .banks; activity = s .activity; flags = s .flags; unprotected = x; configuration = s .configuration; supply = s .supply }
+withProtection s x = record { part = s .part; control = s .control; banks = s .banks; unprotected = x }
+
+abbrev pub withActivity : State → Activity → State
+withActivity s x = withControl s (setActivity (s .control) x)
+
+abbrev pub withFlags : State → Flags → State
+withFlags s x = withControl s (setFlags (s .control) x)
 
 abbrev pub withSupply : State → Bool → State
-withSupply s x = record { part = s .part; banks = s .banks; activity = s .activity; flags = s .flags; unprotected = s .unprotected; configuration = s .configuration; supply = x }
+withSupply s x = withControl s (setSupply (s .control) x)
 
 -- the read mode of bank k
 abbrev pub modeIn : List Bank → ℕ → Mode
@@ -92,10 +108,7 @@ joined f g = flagsOf (f .sr5 || g .sr5) (f .sr4 || g .sr4) (f .sr3 || g .sr3) (f
 unfoldable pub powerUp : Part → State
 powerUp p = record {
   part = p;
+  control = record { activity = activity setup.Nothing running.Idle program.Nothing erase.Nothing; flags = noFlags; configuration = 0xFFFF; supply = false };
   banks = replicate 16 (record { mode = Array });
-  activity = activity setup.Nothing running.Idle program.Nothing erase.Nothing;
-  flags = noFlags;
   unprotected = allProtected;
-  configuration = 0xFFFF;
-  supply = false;
 }

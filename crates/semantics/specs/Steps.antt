@@ -66,9 +66,9 @@ next s a = record { state = s; answer = a }
 unfoldable pub accepted : State → List ℕ → Step → Next
 accepted s xs (Read address) = next s (Word (readWord s xs address))
 accepted s xs (Write address w) = next (written s address w) Done
-accepted s xs (Work n) = next (worked s n) (Units (unitsDone (geometry s) (s .activity .running) n))
+accepted s xs (Work n) = next (worked s n) (Units (unitsDone (geometry s) (s .control .activity .running) n))
 accepted s xs (Supply on) = next (withSupply s on) Done
-accepted s xs Reset = next (withSupply (powerUp (s .part)) (s .supply)) Done
+accepted s xs Reset = next (withSupply (powerUp (s .part)) (s .control .supply)) Done
 
 -- the array after a step that is not refused: only work touches it
 unfoldable pub acceptedArray : State → List ℕ → Step → List ℕ

@@ -10,10 +10,11 @@ use Rattle.semantics.specs.declared.Mode.{Mode}
 use Rattle.semantics.specs.declared.Bank.{Bank}
 use Rattle.semantics.specs.declared.Activity.{Activity}
 use Rattle.semantics.specs.declared.Flags.{Flags}
+use Rattle.semantics.specs.declared.Control.{Control}
 use Rattle.semantics.specs.declared.State.{State}
 use Rattle.semantics.specs.declared.Place.{Place}
 use Rattle.semantics.specs.declared.View.{View}
-use Rattle.semantics.specs.State.{modeOf, joined}
+use Rattle.semantics.specs.State.{modeOf, joined, setActivity, setFlags, setConfiguration, setSupply}
 
 -- an address's location, and the bank and the block that this lies in
 abbrev pub placeOf : Geometry → ℕ → Place
@@ -21,39 +22,40 @@ placeOf g a = record { address = a; location = location g a; bank = bankOf g (lo
 
 -- of the modes that of the addressed bank, of the protection that of the addressed block, and all else but the part
 abbrev pub viewAt : State → Place → View
-viewAt s p = record { activity = s .activity; flags = s .flags; configuration = s .configuration; supply = s .supply; mode = modeOf s (p .bank); unprotected = isUnprotected (s .unprotected) (p .block) }
+viewAt s p = record { control = s .control; mode = modeOf s (p .bank); unprotected = isUnprotected (s .unprotected) (p .block) }
 
 -- the state with that changed
 abbrev pub withView : State → Place → View → State
 withView s p v = record {
   part = s .part;
+  control = v .control;
   banks = set (s .banks) (p .bank) (record { mode = v .mode });
-  activity = v .activity;
-  flags = v .flags;
   unprotected = withUnprotected (s .unprotected) (p .block) (v .unprotected);
-  configuration = v .configuration;
-  supply = v .supply;
 }
 
 -- ---- one field changed
 
-abbrev pub withActivity : View → Activity → View
-withActivity v x = record { activity = x; flags = v .flags; configuration = v .configuration; supply = v .supply; mode = v .mode; unprotected = v .unprotected }
-
-abbrev pub withFlags : View → Flags → View
-withFlags v x = record { activity = v .activity; flags = x; configuration = v .configuration; supply = v .supply; mode = v .mode; unprotected = v .unprotected }
-
-abbrev pub withConfiguration : View → ℕ → View
-withConfiguration v x = record { activity = v .activity; flags = v .flags; configuration = x; supply = v .supply; mode = v .mode; unprotected = v .unprotected }
-
-abbrev pub withSupply : View → Bool → View
-withSupply v x = record { activity = v .activity; flags = v .flags; configuration = v .configuration; supply = x; mode = v .mode; unprotected = v .unprotected }
+abbrev pub withControl : View → Control → View
+withControl v x = record { control = x; mode = v .mode; unprotected = v .unprotected }
 
 abbrev pub withMode : View → Mode → View
-withMode v x = record { activity = v .activity; flags = v .flags; configuration = v .configuration; supply = v .supply; mode = x; unprotected = v .unprotected }
+withMode v x = record { control = v .control; mode = x; unprotected = v .unprotected }
 
 abbrev pub withProtection : View → Bool → View
-withProtection v x = record { activity = v .activity; flags = v .flags; configuration = v .configuration; supply = v .supply; mode = v .mode; unprotected = x }
+withProtection v x = record { control = v .control; mode = v .mode; unprotected = x }
 
+abbrev pub withActivity : View → Activity → View
+withActivity v x = withControl v (setActivity (v .control) x)
+
+abbrev pub withFlags : View → Flags → View
+withFlags v x = withControl v (setFlags (v .control) x)
+
+abbrev pub withConfiguration : View → ℕ → View
+withConfiguration v x = withControl v (setConfiguration (v .control) x)
+
+abbrev pub withSupply : View → Bool → View
+withSupply v x = withControl v (setSupply (v .control) x)
+
+-- flags set beside those that were
 abbrev pub raise : View → Flags → View
-raise v f = withFlags v (joined (v .flags) f)
+raise v f = withFlags v (joined (v .control .flags) f)

@@ -96,4 +96,4 @@ activityFormed g a = runningAlone a && (programAlone a && (eraseAlone a && (allF
 
 -- and "spare storage, if any, is zero": the protection words have more bits than there are blocks
 unfoldable pub wellFormed : State → Bool
-wellFormed s = activityFormed (geometry s) (s .activity) && spareZero (s .unprotected)
+wellFormed s = activityFormed (geometry s) (s .control .activity) && spareZero (s .unprotected)

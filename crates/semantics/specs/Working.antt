@@ -54,7 +54,7 @@ workedOn g a n = record { activity = withRunning a (runningAfter g (a .running) 
 
 -- the state and the array after up to n units
 unfoldable pub worked : State → ℕ → State
-worked s n = withActivity s (workedOn (geometry s) (s .activity) n .activity)
+worked s n = withActivity s (workedOn (geometry s) (s .control .activity) n .activity)
 
 unfoldable pub workedArray : State → ℕ → List ℕ → List ℕ
-workedArray s n xs = arrayAfter (geometry s) (s .activity .running) (unitsDone (geometry s) (s .activity .running) n) xs
+workedArray s n xs = arrayAfter (geometry s) (s .control .activity .running) (unitsDone (geometry s) (s .control .activity .running) n) xs

@@ -68,11 +68,11 @@ accepts a setup.Lock = not (runs (a .running)) && not (programSuspended (a .prog
 
 -- a set-up cycle, which "puts the bank of its own address in status mode"; one that is not accepted is ignored
 unfoldable pub setUp : View → Setup → View
-setUp v x = cond (accepts (v .activity) x) (withMode (withActivity v (withSetup (v .activity) x)) Status) v
+setUp v x = cond (accepts (v .control .activity) x) (withMode (withActivity v (withSetup (v .control .activity) x)) Status) v
 
 -- "50h, nothing running: the flags are cleared."
 unfoldable pub clearStatus : View → View
-clearStatus v = cond (runs (v .activity .running)) v (withFlags v noFlags)
+clearStatus v = cond (runs (v .control .activity .running)) v (withFlags v noFlags)
 
 -- "FFh, 70h, 90h, 98h, always: the addressed bank's mode becomes array, status, signature, query." "Anything else is ignored without a flag"
 unfoldable pub firstCycle : View → Command → View
@@ -80,8 +80,8 @@ firstCycle v command.ReadArray = withMode v Array
 firstCycle v command.ReadStatus = withMode v Status
 firstCycle v command.ReadSignature = withMode v Signature
 firstCycle v command.ReadQuery = withMode v Query
-firstCycle v command.Suspend = withActivity v (suspended (v .activity) (v .activity .running))
-firstCycle v command.Resume = withActivity v (resume (v .activity))
+firstCycle v command.Suspend = withActivity v (suspended (v .control .activity) (v .control .activity .running))
+firstCycle v command.Resume = withActivity v (resume (v .control .activity))
 firstCycle v command.ClearStatus = clearStatus v
 firstCycle v command.SetUpProgram = setUp v setup.Program
 firstCycle v command.SetUpErase = setUp v setup.Erase
@@ -93,18 +93,18 @@ firstCycle v command.Unknown = v
 -- "supply off, set SR4 and SR3; block protected, SR4 and SR1; block of the suspended erase, SR4; else a program runs": with the whole word w as data
 unfoldable pub programCycle : View → Place → ℕ → View
 programCycle v p w =
-    cond (not (v .supply)) (raise v (flagsOf false true true false))
+    cond (not (v .control .supply)) (raise v (flagsOf false true true false))
     (cond (not (v .unprotected)) (raise v (flagsOf false true false true))
-    (cond (erasing (v .activity .erase) (p .block)) (raise v (flagsOf false true false false))
-    (withActivity v (withRunning (v .activity) (running.Program (p .location) w)))))
+    (cond (erasing (v .control .activity .erase) (p .block)) (raise v (flagsOf false true false false))
+    (withActivity v (withRunning (v .control .activity) (running.Program (p .location) w)))))
 
 -- "command not D0h, set SR5 and SR4; supply off, SR5 and SR3; protected, SR5 and SR1; else an erase runs with no word done"
 unfoldable pub eraseCycle : View → Place → ℕ → View
 eraseCycle v p c =
     cond (not (eqb c 0xD0)) (raise v (flagsOf true true false false))
-    (cond (not (v .supply)) (raise v (flagsOf true false true false))
+    (cond (not (v .control .supply)) (raise v (flagsOf true false true false))
     (cond (not (v .unprotected)) (raise v (flagsOf true false false true))
-    (withActivity v (withRunning (v .activity) (running.Erase (p .block) 0)))))
+    (withActivity v (withRunning (v .control .activity) (running.Erase (p .block) 0)))))
 
 unfoldable pub lockCommandOf : ℕ → LockCommand
 lockCommandOf c = cond (eqb c 0x01) lock.Protect (cond (eqb c 0xD0) lock.Unprotect (cond (eqb c 0x03) lock.Configure lock.Unknown))
@@ -119,7 +119,7 @@ lockCycle v p lock.Unknown = raise v (flagsOf true true false false)
 
 -- the end of the set-up, with the bank of the second cycle's own address in status mode
 unfoldable pub settle : View → View
-settle v = withMode (withActivity v (withSetup (v .activity) setup.Nothing)) Status
+settle v = withMode (withActivity v (withSetup (v .control .activity) setup.Nothing)) Status
 
 -- the cycle of a word w, by the set-up that is pending
 unfoldable pub cycle : View → Setup → Place → ℕ → View
@@ -130,7 +130,7 @@ cycle v setup.Lock p w = lockCycle (settle v) p (lockCommandOf (w % 256))
 
 -- the state after a write of the word w at a place, and to an address
 unfoldable pub writtenAt : State → Place → ℕ → State
-writtenAt s p w = withView s p (cycle (viewAt s p) (s .activity .setup) p w)
+writtenAt s p w = withView s p (cycle (viewAt s p) (s .control .activity .setup) p w)
 
 unfoldable pub written : State → ℕ → ℕ → State
 written s address w = writtenAt s (placeOf (geometry s) address) w

@@ -55,16 +55,20 @@ pub struct Flags {
     pub sr1: bool,
 }
 
-// `unprotected`: bit b % 64 of word b / 64 is 1 where block b is unprotected (document 01: open).
-// `supply`: VPP is on.
-pub struct State {
-    pub part: Part,
-    pub banks: [Bank; 16],
+// What is held once, and not for each bank or block: what is under way, the flags, the configuration register, and whether the supply (VPP) is on.
+pub struct Control {
     pub activity: Activity,
     pub flags: Flags,
-    pub unprotected: [u64; 5],
     pub configuration: u16,
     pub supply: bool,
+}
+
+// `unprotected`: bit b % 64 of word b / 64 is 1 where block b is unprotected (document 01: open).
+pub struct State {
+    pub part: Part,
+    pub control: Control,
+    pub banks: [Bank; 16],
+    pub unprotected: [u64; 5],
 }
 
 // What an address names: its location, and the bank and the block that this lies in.
@@ -77,10 +81,7 @@ pub struct Place {
 
 // What a read or a write at a place sees of a state, and may change: of the modes that of the addressed bank, of the protection that of the addressed block.
 pub struct View {
-    pub activity: Activity,
-    pub flags: Flags,
-    pub configuration: u16,
-    pub supply: bool,
+    pub control: Control,
     pub mode: Mode,
     pub unprotected: bool,
 }
