@@ -84,15 +84,15 @@ impl Device {
     {
         let s = self.state;
         let part = s.part;
-        let a = s.activity;
+        let c = s.control;
         let e = state::first_refusal(
             state::state_refusal(s, array.len()),
             state::count_refusal(count),
         );
         if e == 0 {
-            let o = working::work(part, a, array, count);
-            let after = o.activity;
-            let next = state::with_activity(s, after);
+            let o = working::work(part, c, array, count);
+            let after = o.control;
+            let next = state::with_control(s, after);
             return Outcome {
                 device: Device { state: next },
                 answer: Answer::Units(o.units),

@@ -10,7 +10,7 @@ use Rattle.device.proofs.Device as device-type
 use Rattle.device.specs.declared.Device.{Device}
 
 pub five : (d : Device) (vs : List Val) → Is (row device-type.the-type) d vs → length (d .state .unprotected) ≡ 5
-five d vs p = let q = p .1 .1 .0 .1 .1 in simp length-map at (q .1 .1 .1 .1 .0 .1 .0 .1)
+five d vs p = let q = p .1 .1 .0 .1 .1 in simp length-map at (q .1 .1 .0 .1 .0 .1)
 
 pub sixteen : (d : Device) (vs : List Val) → Is (row device-type.the-type) d vs → length (d .state .banks) ≡ 16
 sixteen d vs p = let q = p .1 .1 .0 .1 .1 in simp length-map at (q .1 .0 .1 .0 .1)

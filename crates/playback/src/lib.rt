@@ -90,8 +90,7 @@ pub fn run(device: Device, steps: &[u64], answers: &mut [u64], array: &mut [u16]
     let n = least(steps.len(), answers.len());
     let mut i: usize = 0;
     while i < n {
-        let found = decoded(steps[i]);
-        let Decoded::Valid(x) = found else {
+        let Decoded::Valid(x) = decoded(steps[i]) else {
             return ended(i, s);
         };
         let part = s.part;
@@ -101,33 +100,25 @@ pub fn run(device: Device, steps: &[u64], answers: &mut [u64], array: &mut [u16]
             answer = Answer::Refused(e);
         } else {
             match x {
-                Step::Read(address) => {
-                    let word = reading::read_word(s, array, address);
-                    answer = Answer::Word(word);
-                }
+                Step::Read(address) => answer = Answer::Word(reading::read_word(s, array, address)),
                 Step::Write(address, word) => {
                     let p = state::place_of(part, address);
                     let v = writing::view_after(s, p, word);
-                    let activity = v.activity;
-                    let flags = v.flags;
+                    let control = v.control;
                     let mode = v.mode;
-                    let b = Bank { mode };
                     let bank = p.bank;
-                    s.activity = activity;
-                    s.flags = flags;
-                    s.configuration = v.configuration;
-                    s.supply = v.supply;
-                    s.banks[bank as usize] = b;
+                    s.control = control;
+                    s.banks[bank as usize] = Bank { mode };
                     protection::set_block(&mut s.unprotected, p.block, v.unprotected);
                 }
                 Step::Work(count) => {
-                    let a = s.activity;
-                    let o = working::work(part, a, array, count);
-                    let after = o.activity;
-                    s.activity = after;
+                    let c = s.control;
+                    let o = working::work(part, c, array, count);
+                    let after = o.control;
+                    s.control = after;
                     answer = Answer::Units(o.units);
                 }
-                Step::Supply(on) => s.supply = on,
+                Step::Supply(on) => s.control.supply = on,
                 Step::Reset => s = state::reset(s),
             }
         }

@@ -62,7 +62,7 @@ pub fn signature_word(part: Part, v: View, location: u32) -> u16
         return device_code(part);
     }
     if offset == 5 {
-        return v.configuration;
+        return v.control.configuration;
     }
     if geometry::block_offset(part, location) == 2 {
         return bit_if(!v.unprotected, 0x0001);
@@ -96,9 +96,9 @@ fn word_at(array: &[u16], location: u32) -> u16
 fn read_in(part: Part, v: View, array: &[u16], p: Place) -> u16
     ensures { λ r. ⌜ r ≡ readIn (geometryOf part) v (now (array .entry)) (v .mode) p ⌝ }
 {
-    let a = v.activity;
+    let a = v.control.activity;
     let running = a.running;
-    let flags = v.flags;
+    let flags = v.control.flags;
     let mode = v.mode;
     match mode {
         Mode::Array => {

@@ -19,7 +19,7 @@ use Rattle.semantics.specs.declared.Answer.the-variants.{Word, Units, Do
 use Rattle.semantics.specs.declared.Place.{Place}
 use Rattle.semantics.specs.declared.View.{View}
 use Rattle.semantics.specs.declared.Worked.{Worked}
-use Rattle.semantics.specs.State.{geometry, withActivity, withSupply, powerUp}
+use Rattle.semantics.specs.State.{geometry, withControl, withSupply, powerUp}
 use Rattle.semantics.specs.View.{placeOf, viewAt}
 use Rattle.semantics.specs.Reading.{readWord}
 use Rattle.semantics.specs.Writing.{cycle, writtenAt, written}
@@ -91,12 +91,12 @@ module _ (c : ℕ) (s : State) (xs : List ℕ) (r : Held c s xs) (x : Step) (d e
   -- the view that is put back field by field
   pub does-write : (b w : ℕ) (p : Place) (v : View) (u : List ℕ) → e ≡ 0 → x ≡ Write b w → p ≡ placeOf (geometry s) b → v ≡ cycle (viewAt s p) (s .control .activity .setup) p w
       → u ≡ withUnprotected (s .unprotected) (p .block) (v .unprotected)
-      → t ≡ record { part = s .part; control = v .control; banks = set (s .banks) (p .bank) (record { mode = v .mode }); unprotected = u }
+      → t ≡ record { part = s .part; banks = set (s .banks) (p .bank) (record { mode = v .mode }); unprotected = u; control = v .control }
       → a ≡ Done → ys ≡ xs → Does s xs x t a ys
   unfolding accepted acceptedArray written writtenAt
   does-write b w p v u h q i j k l m n = done (Write b w) h q (rw (l, k, j, i, m)) n
 
-  pub does-work : (n : ℕ) (o : Worked) → e ≡ 0 → x ≡ Work n → o ≡ workedOn (geometry s) (s .control .activity) n → t ≡ withActivity s (o .activity) → a ≡ Units (o .units)
+  pub does-work : (n : ℕ) (o : Worked) → e ≡ 0 → x ≡ Work n → o ≡ workedOn (geometry s) (s .control) n → t ≡ withControl s (o .control) → a ≡ Units (o .units)
       → ys ≡ arrayAfter (geometry s) (s .control .activity .running) (unitsDone (geometry s) (s .control .activity .running) n) xs → Does s xs x t a ys
   unfolding accepted acceptedArray workedOn worked workedArray
   does-work n o h q i j k l = done (Work n) h q (rw (j, k, i)) l

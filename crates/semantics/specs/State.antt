@@ -43,10 +43,10 @@ abbrev pub setSupply : Control → Bool → Control
 setSupply c x = record { activity = c .activity; flags = c .flags; configuration = c .configuration; supply = x }
 
 abbrev pub withControl : State → Control → State
-withControl s x = record { part = s .part; control = x; banks = s .banks; unprotected = s .unprotected }
+withControl s x = record { part = s .part; banks = s .banks; unprotected = s .unprotected; control = x }
 
 abbrev pub withProtection : State → List ℕ → State
-withProtection s x = record { part = s .part; control = s .control; banks = s .banks; unprotected = x }
+withProtection s x = record { part = s .part; banks = s .banks; unprotected = x; control = s .control }
 
 abbrev pub withActivity : State → Activity → State
 withActivity s x = withControl s (setActivity (s .control) x)
@@ -108,7 +108,7 @@ joined f g = flagsOf (f .sr5 || g .sr5) (f .sr4 || g .sr4) (f .sr3 || g .sr3) (f
 unfoldable pub powerUp : Part → State
 powerUp p = record {
   part = p;
-  control = record { activity = activity setup.Nothing running.Idle program.Nothing erase.Nothing; flags = noFlags; configuration = 0xFFFF; supply = false };
   banks = replicate 16 (record { mode = Array });
   unprotected = allProtected;
+  control = record { activity = activity setup.Nothing running.Idle program.Nothing erase.Nothing; flags = noFlags; configuration = 0xFFFF; supply = false };
 }

@@ -22,27 +22,27 @@ placeOf g a = record { address = a; location = location g a; bank = bankOf g (lo
 
 -- of the modes that of the addressed bank, of the protection that of the addressed block, and all else but the part
 abbrev pub viewAt : State → Place → View
-viewAt s p = record { control = s .control; mode = modeOf s (p .bank); unprotected = isUnprotected (s .unprotected) (p .block) }
+viewAt s p = record { mode = modeOf s (p .bank); unprotected = isUnprotected (s .unprotected) (p .block); control = s .control }
 
 -- the state with that changed
 abbrev pub withView : State → Place → View → State
 withView s p v = record {
   part = s .part;
-  control = v .control;
   banks = set (s .banks) (p .bank) (record { mode = v .mode });
   unprotected = withUnprotected (s .unprotected) (p .block) (v .unprotected);
+  control = v .control;
 }
 
 -- ---- one field changed
 
 abbrev pub withControl : View → Control → View
-withControl v x = record { control = x; mode = v .mode; unprotected = v .unprotected }
+withControl v x = record { mode = v .mode; unprotected = v .unprotected; control = x }
 
 abbrev pub withMode : View → Mode → View
-withMode v x = record { control = v .control; mode = x; unprotected = v .unprotected }
+withMode v x = record { mode = x; unprotected = v .unprotected; control = v .control }
 
 abbrev pub withProtection : View → Bool → View
-withProtection v x = record { control = v .control; mode = v .mode; unprotected = x }
+withProtection v x = record { mode = v .mode; unprotected = x; control = v .control }
 
 abbrev pub withActivity : View → Activity → View
 withActivity v x = withControl v (setActivity (v .control) x)

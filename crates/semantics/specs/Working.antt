@@ -10,11 +10,11 @@ use Rattle.geometry.specs.declared.Geometry.{Geometry}
 use Rattle.geometry.specs.Blocks.{startOf, sizeOf}
 use Rattle.semantics.specs.declared.Running.{Running}
 use Rattle.semantics.specs.declared.Running.the-variants as running
-use Rattle.semantics.specs.declared.Activity.{Activity}
+use Rattle.semantics.specs.declared.Control.{Control}
 use Rattle.semantics.specs.declared.Worked.{Worked}
 use Rattle.semantics.specs.declared.State.{State}
 use Rattle.semantics.specs.Numbers.{within}
-use Rattle.semantics.specs.State.{geometry, withActivity, withRunning}
+use Rattle.semantics.specs.State.{geometry, setActivity, withControl, withRunning}
 
 -- "a program ends at 1 unit and an erase at the size of its block": the units that are left
 unfoldable pub unitsLeft : Geometry → Running → ℕ
@@ -49,12 +49,12 @@ unfoldable pub arrayAfter : Geometry → Running → ℕ → List ℕ → List �
 arrayAfter g r m xs = tabulate (length xs) (λ L. wordAfter g r m L (getD xs L 0))
 
 -- what is under way after up to n units, and how many they were
-unfoldable pub workedOn : Geometry → Activity → ℕ → Worked
-workedOn g a n = record { activity = withRunning a (runningAfter g (a .running) (unitsDone g (a .running) n)); units = unitsDone g (a .running) n }
+unfoldable pub workedOn : Geometry → Control → ℕ → Worked
+workedOn g c n = record { control = setActivity c (withRunning (c .activity) (runningAfter g (c .activity .running) (unitsDone g (c .activity .running) n))); units = unitsDone g (c .activity .running) n }
 
 -- the state and the array after up to n units
 unfoldable pub worked : State → ℕ → State
-worked s n = withActivity s (workedOn (geometry s) (s .control .activity) n .activity)
+worked s n = withControl s (workedOn (geometry s) (s .control) n .control)
 
 unfoldable pub workedArray : State → ℕ → List ℕ → List ℕ
 workedArray s n xs = arrayAfter (geometry s) (s .control .activity .running) (unitsDone (geometry s) (s .control .activity .running) n) xs

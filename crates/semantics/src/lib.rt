@@ -66,9 +66,9 @@ pub struct Control {
 // `unprotected`: bit b % 64 of word b / 64 is 1 where block b is unprotected (document 01: open).
 pub struct State {
     pub part: Part,
-    pub control: Control,
     pub banks: [Bank; 16],
     pub unprotected: [u64; 5],
+    pub control: Control,
 }
 
 // What an address names: its location, and the bank and the block that this lies in.
@@ -81,14 +81,14 @@ pub struct Place {
 
 // What a read or a write at a place sees of a state, and may change: of the modes that of the addressed bank, of the protection that of the addressed block.
 pub struct View {
-    pub control: Control,
     pub mode: Mode,
     pub unprotected: bool,
+    pub control: Control,
 }
 
-// What is under way after work, and the units that were done.
+// What work makes of the control, and the units that were done.
 pub struct Worked {
-    pub activity: Activity,
+    pub control: Control,
     pub units: u32,
 }
 

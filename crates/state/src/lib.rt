@@ -3,6 +3,7 @@
 use geometry::Part;
 use semantics::Activity;
 use semantics::Bank;
+use semantics::Control;
 use semantics::Flags;
 use semantics::Mode;
 use semantics::Place;
@@ -16,17 +17,17 @@ use semantics::View;
 ghost use mathlib.Core.Path.{_≡_};
 ghost use Prim.Native.Nat.{_<_};
 ghost use Rattle.geometry.specs.Blocks.{geometryOf};
-ghost use Rattle.semantics.specs.State.{withActivity, withProtection, withSupply, modeIn, flagsOf, noFlags, joined, powerUp};
+ghost use Rattle.semantics.specs.State.{withControl, withProtection, withSupply, modeIn, flagsOf, noFlags, joined, powerUp};
 ghost use Rattle.semantics.specs.View.{placeOf, viewAt, withView};
 ghost use Rattle.semantics.specs.WellFormed.{wellFormed};
 ghost use Rattle.semantics.specs.Steps.{stateRefusal, addressRefusal, countRefusal, stepRefusal, firstRefusal};
 
 // ---- one field changed
 
-pub fn with_activity(mut s: State, x: Activity) -> State
-    ensures { λ r. ⌜ r ≡ withActivity s x ⌝ }
+pub fn with_control(mut s: State, x: Control) -> State
+    ensures { λ r. ⌜ r ≡ withControl s x ⌝ }
 {
-    s.activity = x;
+    s.control = x;
     s
 }
 
@@ -40,7 +41,7 @@ pub fn with_protection(mut s: State, x: [u64; 5]) -> State
 pub fn with_supply(mut s: State, x: bool) -> State
     ensures { λ r. ⌜ r ≡ withSupply s x ⌝ }
 {
-    s.supply = x;
+    s.control.supply = x;
     s
 }
 
@@ -81,15 +82,11 @@ pub fn view_at(s: State, p: Place) -> View
 {
     let banks = s.banks;
     let words = s.unprotected;
-    let activity = s.activity;
-    let flags = s.flags;
+    let control = s.control;
     View {
-        activity,
-        flags,
-        configuration: s.configuration,
-        supply: s.supply,
         mode: mode_of(banks, p.bank),
         unprotected: protection::is_unprotected(words, p.block),
+        control,
     }
 }
 
@@ -97,14 +94,10 @@ pub fn view_at(s: State, p: Place) -> View
 pub fn with_view(mut s: State, p: Place, v: View) -> State
     ensures { λ r. ⌜ r ≡ withView s p v ⌝ }
 {
-    let activity = v.activity;
-    let flags = v.flags;
+    let control = v.control;
     let mode = v.mode;
     let bank = p.bank;
-    s.activity = activity;
-    s.flags = flags;
-    s.configuration = v.configuration;
-    s.supply = v.supply;
+    s.control = control;
     protection::set_block(&mut s.unprotected, p.block, v.unprotected);
     if bank < 16 {
         let b = Bank { mode };
@@ -149,25 +142,27 @@ pub fn power_up(part: Part) -> State
     State {
         part,
         banks: [Bank { mode: Mode::Array }; 16],
-        activity: Activity {
-            setup: Setup::Nothing,
-            running: Running::Idle,
-            program: SuspendedProgram::Nothing,
-            erase: SuspendedErase::Nothing,
-        },
-        flags: no_flags(),
         unprotected: protection::all_protected(),
-        configuration: 0xffff,
-        supply: false,
+        control: Control {
+            activity: Activity {
+                setup: Setup::Nothing,
+                running: Running::Idle,
+                program: SuspendedProgram::Nothing,
+                erase: SuspendedErase::Nothing,
+            },
+            flags: no_flags(),
+            configuration: 0xffff,
+            supply: false,
+        },
     }
 }
 
 // Reset: the power-up state, but for the supply.
 pub fn reset(s: State) -> State
-    ensures { λ r. ⌜ r ≡ withSupply (powerUp (s .part)) (s .supply) ⌝ }
+    ensures { λ r. ⌜ r ≡ withSupply (powerUp (s .part)) (s .control .supply) ⌝ }
 {
     let part = s.part;
-    let on = s.supply;
+    let on = s.control.supply;
     with_supply(power_up(part), on)
 }
 
@@ -178,7 +173,7 @@ pub fn well_formed(s: State) -> bool
     ensures { λ r. ⌜ r ≡ wellFormed s ⌝ }
 {
     let part = s.part;
-    let a = s.activity;
+    let a = s.control.activity;
     let words = s.unprotected;
     operation::activity_formed(part, a) & protection::spare_zero(words)
 }

@@ -1,6 +1,6 @@
 // The work on the borrowed array: units of what runs, at every location.
 use geometry::Part;
-use semantics::Activity;
+use semantics::Control;
 use semantics::Running;
 use semantics::Worked;
 ghost use mathlib.Core.Path.{_≡_};
@@ -56,16 +56,15 @@ pub fn apply(part: Part, r: Running, m: u32, array: &mut [u16])
 }
 
 // Up to n units of what runs.
-pub fn work(part: Part, a: Activity, array: &mut [u16], n: u32) -> Worked
-    ensures worked { λ r. ⌜ r ≡ workedOn (geometryOf part) a n ⌝ }
-    ensures array { λ r. ⌜ now (array .exit) ≡ arrayAfter (geometryOf part) (a .running) (unitsDone (geometryOf part) (a .running) n) (now (array .entry)) ⌝ }
+pub fn work(part: Part, mut c: Control, array: &mut [u16], n: u32) -> Worked
+    ensures worked { λ r. ⌜ r ≡ workedOn (geometryOf part) c n ⌝ }
+    ensures array { λ r. ⌜ now (array .exit) ≡ arrayAfter (geometryOf part) (c .activity .running) (unitsDone (geometryOf part) (c .activity .running) n) (now (array .entry)) ⌝ }
 {
+    let a = c.activity;
     let running = a.running;
     let units = operation::units_done(part, running, n);
     apply(part, running, units, array);
     let after = operation::running_after(part, running, units);
-    Worked {
-        activity: operation::with_running(a, after),
-        units,
-    }
+    c.activity = operation::with_running(a, after);
+    Worked { control: c, units }
 }

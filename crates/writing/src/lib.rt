@@ -19,22 +19,20 @@ ghost use Rattle.semantics.specs.Writing.{commandOf, setUp, clearStatus, firstC
 fn with_activity(mut v: View, x: Activity) -> View
     ensures { λ r. ⌜ r ≡ withActivity v x ⌝ }
 {
-    v.activity = x;
+    let mut control = v.control;
+    control.activity = x;
+    v.control = control;
     v
 }
 
 fn with_mode(v: View, x: Mode) -> View
     ensures { λ r. ⌜ r ≡ withMode v x ⌝ }
 {
-    let activity = v.activity;
-    let flags = v.flags;
+    let control = v.control;
     View {
-        activity,
-        flags,
-        configuration: v.configuration,
-        supply: v.supply,
         mode: x,
         unprotected: v.unprotected,
+        control,
     }
 }
 
@@ -42,8 +40,10 @@ fn with_mode(v: View, x: Mode) -> View
 fn with_raised(mut v: View, x: Flags) -> View
     ensures { λ r. ⌜ r ≡ raise v x ⌝ }
 {
-    let f = v.flags;
-    v.flags = state::join(f, x);
+    let mut control = v.control;
+    let f = control.flags;
+    control.flags = state::join(f, x);
+    v.control = control;
     v
 }
 
@@ -73,7 +73,7 @@ fn command_of(c: u16) -> Command
 fn set_up(v: View, x: Setup) -> View
     ensures { λ r. ⌜ r ≡ setUp v x ⌝ }
 {
-    let a = v.activity;
+    let a = v.control.activity;
     if operation::accepts(a, x) {
         return with_mode(with_activity(v, operation::with_setup(a, x)), Mode::Status);
     }
@@ -83,19 +83,21 @@ fn set_up(v: View, x: Setup) -> View
 fn clear_status(mut v: View) -> View
     ensures { λ r. ⌜ r ≡ clearStatus v ⌝ }
 {
-    let a = v.activity;
+    let a = v.control.activity;
     let running = a.running;
     if operation::runs(running) {
         return v;
     }
-    v.flags = state::no_flags();
+    let mut control = v.control;
+    control.flags = state::no_flags();
+    v.control = control;
     v
 }
 
 fn first_cycle(v: View, c: Command) -> View
     ensures { λ r. ⌜ r ≡ firstCycle v c ⌝ }
 {
-    let a = v.activity;
+    let a = v.control.activity;
     match c {
         Command::ReadArray => with_mode(v, Mode::Array),
         Command::ReadStatus => with_mode(v, Mode::Status),
@@ -117,9 +119,9 @@ fn first_cycle(v: View, c: Command) -> View
 fn program_cycle(v: View, p: Place, word: u16) -> View
     ensures { λ r. ⌜ r ≡ programCycle v p word ⌝ }
 {
-    let a = v.activity;
+    let a = v.control.activity;
     let erase = a.erase;
-    if !v.supply {
+    if !v.control.supply {
         return with_raised(v, state::flags_of(false, true, true, false));
     }
     if !v.unprotected {
@@ -139,11 +141,11 @@ fn program_cycle(v: View, p: Place, word: u16) -> View
 fn erase_cycle(v: View, p: Place, c: u16) -> View
     ensures { λ r. ⌜ r ≡ eraseCycle v p c ⌝ }
 {
-    let a = v.activity;
+    let a = v.control.activity;
     if c != 0xd0 {
         return with_raised(v, state::flags_of(true, true, false, false));
     }
-    if !v.supply {
+    if !v.control.supply {
         return with_raised(v, state::flags_of(true, false, true, false));
     }
     if !v.unprotected {
@@ -182,7 +184,8 @@ fn lock_cycle(mut v: View, p: Place, c: LockCommand) -> View
             v
         }
         LockCommand::Configure => {
-            v.configuration = (p.address % 65536) as u16;
+            let low = (p.address % 65536) as u16;
+            v.control.configuration = low;
             v
         }
         LockCommand::Unknown => with_raised(v, state::flags_of(true, true, false, false)),
@@ -193,7 +196,7 @@ fn lock_cycle(mut v: View, p: Place, c: LockCommand) -> View
 fn settle(v: View) -> View
     ensures { λ r. ⌜ r ≡ settle v ⌝ }
 {
-    let a = v.activity;
+    let a = v.control.activity;
     with_mode(
         with_activity(v, operation::with_setup(a, Setup::Nothing)),
         Mode::Status,
@@ -204,9 +207,9 @@ fn settle(v: View) -> View
 
 // The cycle at a place, by the set-up that is pending. A program takes the whole word, any other its low byte.
 fn cycle(v: View, p: Place, word: u16) -> View
-    ensures { λ r. ⌜ r ≡ cycle v (v .activity .setup) p word ⌝ }
+    ensures { λ r. ⌜ r ≡ cycle v (v .control .activity .setup) p word ⌝ }
 {
-    let a = v.activity;
+    let a = v.control.activity;
     let setup = a.setup;
     let c = word % 256;
     match setup {
@@ -219,7 +222,7 @@ fn cycle(v: View, p: Place, word: u16) -> View
 
 // What a write of a word makes of what it sees of the state at a place.
 pub fn view_after(s: State, p: Place, word: u16) -> View
-    ensures { λ r. ⌜ r ≡ cycle (viewAt s p) (s .activity .setup) p word ⌝ }
+    ensures { λ r. ⌜ r ≡ cycle (viewAt s p) (s .control .activity .setup) p word ⌝ }
 {
     cycle(state::view_at(s, p), p, word)
 }

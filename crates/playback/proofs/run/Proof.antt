@@ -35,12 +35,12 @@ loop-again c =
     let d = c .before .before .before .step-refusal .ensures in
     let e = c .before .before .first-refusal .ensures in (
       rw (add-one, c .answer-code .ensures)
-          (going-next _ _ _ _ _ _ _ _ _ _ _ _ _ g (omega arith) (omega arith) (sym (c .before .before .before .before .before .before .before .decoded .ensures) ∙ c .before .before .before .before .before .found .given .1)
+          (going-next _ _ _ _ _ _ _ _ _ _ _ _ _ g (omega arith) (omega arith) (sym (c .before .before .before .before .before .before .before .decoded .ensures) ∙ c .before .before .before .before .before .x .given .1)
           (⊎-elim (λ w. does-refused _ _ _ (g .held) _ _ _ d e _ _ _ (w .0 .taken) (w .2) (w .3) (w .1))
           (⊎-elim (λ w. does-read _ _ _ (g .held) _ _ _ d e _ _ _ _ _ (w .0 .left) (w .2 .given .1) (w .5 .ensures) (w .7) (w .8) (w .6))
-          (⊎-elim (λ w. does-write _ _ _ (g .held) _ _ _ d e _ _ _ _ _ _ _ _ (w .0 .left) (w .2 .given .1) (w .4 .ensures .0) (w .5 .ensures) (w .9 .ensures) (w .11) (w .12) (w .10))
+          (⊎-elim (λ w. does-write _ _ _ (g .held) _ _ _ d e _ _ _ _ _ _ _ _ (w .0 .left) (w .2 .given .1) (w .4 .ensures .0) (w .5 .ensures) (w .8 .ensures) (w .10) (w .11) (w .9))
           (⊎-elim (λ w. does-work _ _ _ (g .held) _ _ _ d e _ _ _ _ _ (w .0 .left) (w .2 .given .1) (w .6 .ensures .0) (w .11) (w .12) (w .10 ∙ w .6 .ensures .1))
-          (⊎-elim (λ w. does-supply _ _ _ (g .held) _ _ _ d e _ _ _ _ (w .0 .left) (w .2 .given .1) (w .5) (w .6) (w .4))
+          (⊎-elim (λ w. does-supply _ _ _ (g .held) _ _ _ d e _ _ _ _ (w .0 .left) (w .2 .given .1) (w .6) (w .7) (w .5))
           (λ w. does-reset _ _ _ (g .held) _ _ _ d e _ _ _ (w .0 .left) (w .2 .given .1) (w .5 ∙ w .3 .ensures) (w .6) (w .4)))))) (c .before .if1 .came))),
       l .inv .1,
     )

@@ -21,7 +21,7 @@ returns-2 c = simp (c .device-code .ensures, ← c .before .before .before .bank
 
 returns-3 : tie.Need-returns-3
 unfolding signatureWord
-returns-3 c = simp (← c .before .before .before .bank-offset .ensures, c .if3 .taken)
+returns-3 c = rw (← c .before .before .before .bank-offset .ensures, c .if3 .taken)
 
 block-offset-requires : tie.Need-block-offset-requires
 block-offset-requires c κs = search needs

@@ -4,15 +4,15 @@ use Rattle.semantics.specs.State.{powerUp}
 use Rattle.state.proofs.power_up.Statement.{statement}
 use Rattle.state.proofs.power_up.Tie as tie
 
-no-flags-requires : tie.Need-no-flags-requires
-no-flags-requires c κs = search needs
-
 all-protected-requires : tie.Need-all-protected-requires
 all-protected-requires c κs = search needs
 
+no-flags-requires : tie.Need-no-flags-requires
+no-flags-requires c κs = search needs
+
 returns : tie.Need-returns
 unfolding powerUp
-returns c = simp (c .before .no-flags .ensures, c .all-protected .ensures)
+returns c = simp (c .before .all-protected .ensures, c .no-flags .ensures)
 
 pub power-up-spec : {M : Type 1} → statement M
-power-up-spec = tie.close (tie.spec no-flags-requires all-protected-requires returns)
+power-up-spec = tie.close (tie.spec all-protected-requires no-flags-requires returns)

@@ -16,7 +16,7 @@ no-flags-requires c κs = search needs
 
 returns-2 : tie.Need-returns-2
 unfolding clearStatus
-returns-2 c = simp (c .no-flags .ensures, ← c .before .before .runs .ensures, c .before .if1 .left)
+returns-2 c = simp (c .no-flags .ensures, ← c .before .before .before .runs .ensures, c .before .before .if1 .left)
 
 pub clear-status-spec : {M : Type 1} → statement M
 clear-status-spec = tie.close (tie.spec runs-requires returns no-flags-requires returns-2)

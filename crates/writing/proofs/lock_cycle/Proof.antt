@@ -13,8 +13,8 @@ enum-told-2 c = search needs
 enum-told-3 : tie.Need-enum-told-3
 enum-told-3 c = search needs
 
-cast-v : tie.Need-cast-v
-cast-v c = search needs
+cast-low : tie.Need-cast-low
+cast-low c = search needs
 
 enum-told-4 : tie.Need-enum-told-4
 enum-told-4 c = search needs
@@ -35,7 +35,7 @@ returns-2 c = simp (c .enum-told2 .given .1)
 
 returns-3 : tie.Need-returns-3
 unfolding lockCycle
-returns-3 c = simp (c .before .enum-told3 .given .1)
+returns-3 c = simp (c .before .before .enum-told3 .given .1)
 
 returns-4 : tie.Need-returns-4
 unfolding lockCycle
@@ -48,7 +48,7 @@ lock-cycle-spec =
     enum-told
     enum-told-2
     enum-told-3
-    cast-v
+    cast-low
     enum-told-4
     flags-of-requires
     with-raised-requires

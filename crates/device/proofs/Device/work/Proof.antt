@@ -21,15 +21,15 @@ first-refusal-requires c κs = search needs
 work-requires : tie.Need-work-requires
 work-requires c κs = search needs
 
-with-activity-requires : tie.Need-with-activity-requires
-with-activity-requires c κs = search needs
+with-control-requires : tie.Need-with-control-requires
+with-control-requires c κs = search needs
 
 same-length : tie.Need-same-length
 same-length c = search needs
 
 returns : tie.Need-returns
 unfolding accepted acceptedArray workedOn worked workedArray stepRefusal
-returns c = (rw (c .with-activity .ensures, c .before .before .before .before .work .ensures .0) (sym (ap outcomeOf (step-accepted _ _ (Work _) _ _ _ (c .before .before .before .before .before .before .before .before .before .state-refusal .ensures) (c .before .before .before .before .before .before .before .before .count-refusal .ensures) (c .before .before .before .before .before .before .before .first-refusal .ensures) (c .before .before .before .before .before .before .if1 .taken)))), c .before .before .before .before .work .ensures .1 ∙ sym (array-accepted _ _ (Work _) _ _ _ (c .before .before .before .before .before .before .before .before .before .state-refusal .ensures) (c .before .before .before .before .before .before .before .before .count-refusal .ensures) (c .before .before .before .before .before .before .before .first-refusal .ensures) (c .before .before .before .before .before .before .if1 .taken)))
+returns c = (rw (c .with-control .ensures, c .before .before .before .before .work .ensures .0) (sym (ap outcomeOf (step-accepted _ _ (Work _) _ _ _ (c .before .before .before .before .before .before .before .before .before .state-refusal .ensures) (c .before .before .before .before .before .before .before .before .count-refusal .ensures) (c .before .before .before .before .before .before .before .first-refusal .ensures) (c .before .before .before .before .before .before .if1 .taken)))), c .before .before .before .before .work .ensures .1 ∙ sym (array-accepted _ _ (Work _) _ _ _ (c .before .before .before .before .before .before .before .before .before .state-refusal .ensures) (c .before .before .before .before .before .before .before .before .count-refusal .ensures) (c .before .before .before .before .before .before .before .first-refusal .ensures) (c .before .before .before .before .before .before .if1 .taken)))
 
 returns-2 : tie.Need-returns-2
 unfolding stepRefusal
@@ -43,7 +43,7 @@ work-spec =
     count-refusal-requires
     first-refusal-requires
     work-requires
-    with-activity-requires
+    with-control-requires
     same-length
     returns
     returns-2)
