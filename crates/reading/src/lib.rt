@@ -4,14 +4,15 @@ use geometry::Part;
 use semantics::Activity;
 use semantics::Flags;
 use semantics::Mode;
-use semantics::Place;
+use semantics::Running;
 use semantics::State;
 use semantics::View;
 ghost use mathlib.Core.Path.{_≡_};
 ghost use Prim.Native.Nat.{_≤_};
 ghost use lib.ListN.{getD};
 ghost use Rattle.geometry.specs.Blocks.{geometryOf};
-ghost use Rattle.semantics.specs.Reading.{bitIf, statusWord, deviceCode, signatureWord, queryWord, readIn, readWord};
+ghost use Rattle.semantics.specs.Reading.{bitIf, statusWord, deviceCode, signatureWord, queryWord, readWord};
+ghost use Rattle.reading.specs.Shown.{shown};
 
 // `n` where `on` holds, and else 0. The bound is what a sum of them asks.
 fn bit_if(on: bool, n: u16) -> u16
@@ -92,32 +93,42 @@ fn word_at(array: &[u16], location: u32) -> u16
     0
 }
 
-// The word that a read at a place shows, by the mode of the bank. In array mode it is the status word while an operation runs in the bank.
-fn read_in(part: Part, v: View, array: &[u16], p: Place) -> u16
-    ensures { λ r. ⌜ r ≡ readIn (geometryOf part) v (now (array .entry)) (v .mode) p ⌝ }
+// The mode that decides what a read shows: array mode shows the status word while an operation runs in the bank.
+fn shown(part: Part, mode: Mode, running: Running, bank: u32) -> Mode
+    ensures { λ r. ⌜ r ≡ shown (geometryOf part) mode running bank ⌝ }
 {
-    let a = v.control.activity;
-    let running = a.running;
-    let flags = v.control.flags;
-    let mode = v.mode;
     match mode {
         Mode::Array => {
-            if operation::runs_in(part, running, p.bank) {
-                return status_word(part, a, flags, p.bank);
+            if operation::runs_in(part, running, bank) {
+                return Mode::Status;
             }
-            word_at(array, p.location)
+            Mode::Array
         }
-        Mode::Status => status_word(part, a, flags, p.bank),
-        Mode::Signature => signature_word(part, v, p.location),
-        Mode::Query => query_word(geometry::bank_offset(part, p.location)),
+        Mode::Status => Mode::Status,
+        Mode::Signature => Mode::Signature,
+        Mode::Query => Mode::Query,
     }
 }
 
-// The word that a read at an address shows.
+// The word that a read at an address shows, by the mode of the bank. Of the place only the bank is looked up for every read: the block is for the signature.
 pub fn read_word(s: State, array: &[u16], address: u32) -> u16
     ensures { λ r. ⌜ r ≡ readWord s (now (array .entry)) address ⌝ }
 {
     let part = s.part;
-    let p = state::place_of(part, address);
-    read_in(part, state::view_at(s, p), array, p)
+    let banks = s.banks;
+    let a = s.control.activity;
+    let flags = s.control.flags;
+    let running = a.running;
+    let location = geometry::location_of(part, address);
+    let bank = geometry::bank_of(part, location);
+    let by = shown(part, state::mode_of(banks, bank), running, bank);
+    match by {
+        Mode::Array => word_at(array, location),
+        Mode::Status => status_word(part, a, flags, bank),
+        Mode::Signature => {
+            let p = state::place_of(part, address);
+            signature_word(part, state::view_at(s, p), location)
+        }
+        Mode::Query => query_word(geometry::bank_offset(part, location)),
+    }
 }

@@ -192,19 +192,15 @@ pub fn state_refusal(s: State, n: usize) -> u32
     2
 }
 
-// The refusal of an address, 0 where there is none: 3 where it is too large, or else 5 where its location lies in no block.
+// The refusal of an address, 0 where there is none. It is 3 where the address is too large; 5, its location in no block, is not tested, since every location
+// lies in a block (`address-good` of semantics).
 pub fn address_refusal(part: Part, address: u32) -> u32
     ensures { λ r. ⌜ r ≡ addressRefusal (geometryOf part) address ⌝ }
 {
     if 16777216 <= address {
         return 3;
     }
-    let location = geometry::location_of(part, address);
-    let block = geometry::block_of(part, location);
-    if block < geometry::block_count(part) {
-        return 0;
-    }
-    5
+    0
 }
 
 // What a step's own numbers are refused for, 0 where for nothing.
