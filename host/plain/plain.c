@@ -3,18 +3,21 @@
 #include <string.h>
 
 enum { ADDRESSES = 1 << 24, MOST_WORK = 65535 };
-enum { WRONG_LENGTH = 1, WRONG_ADDRESS = 3, WRONG_COUNT = 4 };
+enum { WRONG_LENGTH = 1, WRONG_ADDRESS = 3, WRONG_COUNT = 4 }; /* the numbers of the refusal card */
+enum { READ, WRITE, WORK, SUPPLY, RESET };                     /* the kind of a step: its number's upper 16 bits */
 enum { SR7 = 0x80, SR6 = 0x40, SR5 = 0x20, SR4 = 0x10, SR3 = 0x08, SR2 = 0x04, SR1 = 0x02, SR0 = 0x01 };
 
 /* Geometry */
 
-size_t plain_words(const struct plain *device) { return (size_t)256 << device->unit_shift; }
+static uint32_t array_words(const struct plain *device) { return (uint32_t)256 << device->unit_shift; }
 
-static uint32_t location_of(const struct plain *device, uint32_t address) { return address & (uint32_t)(plain_words(device) - 1); }
+static uint32_t bank_words(const struct plain *device) { return (uint32_t)16 << device->unit_shift; }
+
+static uint32_t location_of(const struct plain *device, uint32_t address) { return address & (array_words(device) - 1); }
 
 /* The location counted from the end at which the four small blocks lie. */
 static uint32_t from_small_end(const struct plain *device, uint32_t location) {
-    return device->top ? (uint32_t)plain_words(device) - 1 - location : location;
+    return device->top ? array_words(device) - 1 - location : location;
 }
 
 static uint32_t block_of(const struct plain *device, uint32_t location) {
@@ -31,24 +34,27 @@ static uint32_t block_words(const struct plain *device, uint32_t block) { return
 static uint32_t block_start(const struct plain *device, uint32_t block) {
     uint32_t words = block_words(device, block);
     uint32_t place = (block < 4 ? block : block - 3) * words;
-    return device->top ? (uint32_t)plain_words(device) - place - words : place;
+    return device->top ? array_words(device) - place - words : place;
 }
 
 /* State */
 
-void plain_power_up(struct plain *device, enum plain_part part) {
+static void power_up(struct plain *device, unsigned unit_shift, bool top) {
     memset(device, 0, sizeof *device);
-    device->top = part == PLAIN_FULL_TOP || part == PLAIN_BENCH_TOP;
-    device->unit_shift = part == PLAIN_FULL_BOTTOM || part == PLAIN_FULL_TOP ? 16 : 6;
+    device->unit_shift = unit_shift;
+    device->top = top;
     device->configuration = 0xFFFF;
     for (size_t block = 0; block < PLAIN_BLOCKS; block++)
         device->protected[block] = true;
 }
 
+void plain_power_up(struct plain *device, uint32_t part) { power_up(device, part < 2 ? 16 : 6, part % 2 == 1); }
+
+size_t plain_size(void) { return sizeof(struct plain); }
+
 static void reset(struct plain *device) {
     bool supply = device->supply;
-    enum plain_part part = device->unit_shift == 16 ? PLAIN_FULL_BOTTOM : PLAIN_BENCH_BOTTOM;
-    plain_power_up(device, device->top ? part + 1 : part);
+    power_up(device, device->unit_shift, device->top);
     device->supply = supply;
 }
 
@@ -82,7 +88,7 @@ static uint16_t signature_word(const struct plain *device, uint32_t location) {
     uint32_t block = block_of(device, location);
     if ((location & (block_words(device, block) - 1)) == 2)
         return device->protected[block] ? 1 : 0;
-    switch (location & (((uint32_t)16 << device->unit_shift) - 1)) {
+    switch (location & (bank_words(device) - 1)) {
     case 0: return 0x0020;
     case 1: return device->top ? 0x885E : 0x885F;
     case 5: return device->configuration;
@@ -91,7 +97,7 @@ static uint16_t signature_word(const struct plain *device, uint32_t location) {
 }
 
 static uint16_t query_word(const struct plain *device, uint32_t location) {
-    switch (location & (((uint32_t)16 << device->unit_shift) - 1)) {
+    switch (location & (bank_words(device) - 1)) {
     case 0x10: return 0x51;
     case 0x11: return 0x52;
     case 0x12: return 0x59;
@@ -247,29 +253,51 @@ static uint32_t work(struct plain *device, uint32_t units, uint16_t *array) {
 
 /* Steps */
 
-static struct plain_answer refuse(uint32_t refusal) { return (struct plain_answer){.refusal = refusal, .value = 0}; }
+static uint64_t refused(uint32_t refusal) { return (uint64_t)refusal << 32; }
 
-static struct plain_answer give(uint32_t value) { return (struct plain_answer){.refusal = 0, .value = value}; }
-
-struct plain_answer plain_take(struct plain *device, struct plain_step step, uint16_t *array, size_t count) {
-    if (count != plain_words(device))
-        return refuse(WRONG_LENGTH);
-    switch (step.kind) {
-    case PLAIN_READ:
-        if (step.address >= ADDRESSES)
-            return refuse(WRONG_ADDRESS);
-        return give(read_word(device, location_of(device, step.address), array));
-    case PLAIN_WRITE:
-        if (step.address >= ADDRESSES)
-            return refuse(WRONG_ADDRESS);
-        write_word(device, step.address, (uint16_t)step.value);
-        return give(0);
-    case PLAIN_WORK:
-        if (step.value > MOST_WORK)
-            return refuse(WRONG_COUNT);
-        return give(work(device, step.value, array));
-    case PLAIN_SUPPLY: device->supply = step.value != 0; return give(0);
-    case PLAIN_RESET: reset(device); return give(0);
+/* Whether a number is that of a step: m58.h leaves bits unused in all but a write. */
+static bool is_step(uint32_t kind, uint16_t data, uint32_t low) {
+    switch (kind) {
+    case WRITE: return true;
+    case READ:
+    case WORK: return data == 0;
+    case SUPPLY: return data == 0 && low <= 1;
+    case RESET: return data == 0 && low == 0;
+    default: return false;
     }
-    return give(0);
+}
+
+/* The answer of one step; `low` is its address, count or supply. */
+static uint64_t take(struct plain *device, uint32_t kind, uint16_t data, uint32_t low, uint16_t *array, size_t count) {
+    if (count != array_words(device))
+        return refused(WRONG_LENGTH);
+    switch (kind) {
+    case READ:
+        if (low >= ADDRESSES)
+            return refused(WRONG_ADDRESS);
+        return read_word(device, location_of(device, low), array);
+    case WRITE:
+        if (low >= ADDRESSES)
+            return refused(WRONG_ADDRESS);
+        write_word(device, low, data);
+        return 0;
+    case WORK:
+        if (low > MOST_WORK)
+            return refused(WRONG_COUNT);
+        return work(device, low, array);
+    case SUPPLY: device->supply = low == 1; return 0;
+    default: reset(device); return 0;
+    }
+}
+
+size_t plain_run(struct plain *device, const uint64_t *steps, size_t n, uint64_t *answers, uint16_t *array, size_t count) {
+    for (size_t i = 0; i < n; i++) {
+        uint32_t kind = (uint32_t)(steps[i] >> 48);
+        uint16_t data = (uint16_t)(steps[i] >> 32);
+        uint32_t low = (uint32_t)steps[i];
+        if (!is_step(kind, data, low))
+            return i;
+        answers[i] = take(device, kind, data, low, array, count);
+    }
+    return n;
 }

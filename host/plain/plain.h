@@ -1,5 +1,5 @@
 /* A model of the M58LT256KST/KSB written by hand in plain C: a yardstick of speed, and one more witness of what the steps answer.
- * It is written from the scope paper alone, as a C programmer would: one struct, behind a pointer, and a switch.
+ * It is written from document 01 alone: one struct, behind a pointer, and switches. Steps and answers are handed over as numbers, those of m58.h.
  *
  * A state held in a C struct is trusted: refusal 2 (state not well formed) is not tested, so a device must come from plain_power_up.
  * Refusal 5 (location in no block) cannot arise: every location lies in a block. */
@@ -12,7 +12,6 @@
 
 enum { PLAIN_BANKS = 16, PLAIN_BLOCKS = 259 };
 
-enum plain_part { PLAIN_FULL_BOTTOM, PLAIN_FULL_TOP, PLAIN_BENCH_BOTTOM, PLAIN_BENCH_TOP };
 enum plain_mode { PLAIN_ARRAY, PLAIN_STATUS, PLAIN_SIGNATURE, PLAIN_QUERY };
 enum plain_setup { PLAIN_NO_SETUP, PLAIN_PROGRAM_SETUP, PLAIN_ERASE_SETUP, PLAIN_LOCK_SETUP };
 enum plain_activity { PLAIN_IDLE, PLAIN_RUNNING, PLAIN_SUSPENDED };
@@ -38,26 +37,14 @@ struct plain {
     bool protected[PLAIN_BLOCKS];
 };
 
-enum plain_kind { PLAIN_READ, PLAIN_WRITE, PLAIN_WORK, PLAIN_SUPPLY, PLAIN_RESET };
+/* Fills `device` with the power-up state of a part, 0 to 3 (full bottom, full top, bench bottom, bench top). */
+void plain_power_up(struct plain *device, uint32_t part);
 
-/* `value` is a write's data, a work's count or a supply's 0 or 1. */
-struct plain_step {
-    enum plain_kind kind;
-    uint32_t address;
-    uint32_t value;
-};
+/* Plays `n` steps in order and writes the answer of step i to answers[i]. Returns how many were played: all of them, or those
+ * before the first number that is no step. `array` has `count` words; a count that is not the part's is refused by every step. */
+size_t plain_run(struct plain *device, const uint64_t *steps, size_t n, uint64_t *answers, uint16_t *array, size_t count);
 
-/* `refusal` is 0 or the number on the refusal card; beside a refusal the value is 0. */
-struct plain_answer {
-    uint32_t refusal;
-    uint32_t value;
-};
-
-void plain_power_up(struct plain *device, enum plain_part part);
-
-/* The words of the part's array. */
-size_t plain_words(const struct plain *device);
-
-struct plain_answer plain_take(struct plain *device, struct plain_step step, uint16_t *array, size_t count);
+/* The bytes of a device, for a caller that does not see the struct. */
+size_t plain_size(void);
 
 #endif
