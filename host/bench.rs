@@ -1,30 +1,41 @@
-//! Measures the static library against the independent second model, and its
-//! erase against plain filling of the same memory. Prints ratios only, since
-//! times say more of the machine than of the library.
+//! Measures the static library against the independent second model, the plain C
+//! model, another static library and, for erases, a plain fill of the same
+//! words. Prints ratios only, since times say more of the machine than of the
+//! library.
 //!
 //!     bench [rounds]
 
 mod library;
+mod other;
+mod plain;
 mod second {
     pub mod geometry;
     pub mod model;
     pub mod steps;
 }
 
+use plain::Plain;
 use second::model::{Device, Part, BANKS, BLOCKS};
 use second::steps::Step;
 use std::hint::black_box;
 use std::mem::size_of;
+use std::ops::Range;
 use std::process::ExitCode;
 use std::time::Instant;
 
 const PART: Part = Part::FullBottom;
 const ROUNDS: usize = 15;
 
-/// Seconds that a measured run of the second model takes at least, so that it is
-/// long against the clock and against what else the machine does. A list that
-/// is shorter is played again and again.
-const MEASURED: f64 = 0.02;
+/// Seconds that a measured run takes at least, so that it is long against the
+/// clock and against what else the machine does. A list that the quickest side
+/// plays in less is played again and again.
+const MEASURED: f64 = 0.01;
+
+/// Steps of a list that is long against a call.
+const LONG: usize = 200_000;
+
+/// The block that is read, programmed and erased where one is enough.
+const BLOCK: u32 = 100;
 
 /// Main blocks that are burned word by word.
 const BURNED: [u32; 4] = [4, 90, 180, 258];
@@ -38,16 +49,20 @@ fn main() -> ExitCode {
             return ExitCode::from(2);
         }
     };
-    println!("library against the second model, full bottom part, {rounds} rounds");
+    println!("library against others, full bottom part, {rounds} rounds: the median of the ratios and their middle half");
     println!("(1.00: as long as the other; 2.00: twice as long)\n");
-    println!("{:54} median    middle half", "");
+    let columns: String = Player::NAMES[1..]
+        .iter()
+        .map(|name| format!(" {name:>22}"))
+        .collect();
+    println!("{:42}{columns}", "");
     let mut bench = Bench::new(rounds);
-    bench.reads();
-    bench.writes();
-    bench.programs();
-    bench.erases();
-    bench.against_fill();
-    bench.same_array();
+    for workload in workloads() {
+        for &a_call in &workload.calls {
+            bench.measure(&workload, a_call);
+        }
+    }
+    bench.same_arrays();
     println!(
         "\nstate handed over: {} words, {} bytes",
         library::STATE_WORDS,
@@ -56,207 +71,329 @@ fn main() -> ExitCode {
     ExitCode::SUCCESS
 }
 
-/// The library and the second model, each with its own array.
+/// What is measured: a list of steps, played in calls of so many.
+struct Workload {
+    name: &'static str,
+    steps: Vec<Step>,
+    calls: Vec<usize>,
+    /// The words that the list leaves erased, where a fill does the same.
+    fill: Option<Range<usize>>,
+}
+
+/// All steps in one call.
+const ALL: usize = usize::MAX;
+
+fn workloads() -> Vec<Workload> {
+    let near = reads(start(BLOCK), PART.unit());
+    let far = reads(0, PART.array_length() as u32);
+    let whole = (0..BLOCKS as u32).flat_map(erase).collect();
+    let first = start(BLOCK) as usize;
+    let block = first..first + PART.unit() as usize;
+    vec![
+        list("reads in one block", near, &[ALL, 10, 1]),
+        list("reads all over the part", far, &[ALL, 1]),
+        list("status reads", status_reads(), &[ALL, 1]),
+        list("mode commands", mode_commands(), &[ALL, 1]),
+        list("word programs", programs(), &[ALL, 3, 1]),
+        list("programs with a poll", polled_programs(), &[ALL, 4, 1]),
+        list("burn of 4 main blocks", burn(), &[ALL]),
+        list("mixed list", mixed(), &[ALL, 1]),
+        list("erase by single units", slow_erase(), &[ALL]),
+        Workload {
+            fill: Some(block),
+            ..list("erase of a main block", erase(BLOCK), &[ALL])
+        },
+        Workload {
+            fill: Some(0..PART.array_length()),
+            ..list("erase of the whole part", whole, &[ALL])
+        },
+    ]
+}
+
+fn list(name: &'static str, steps: Vec<Step>, calls: &[usize]) -> Workload {
+    Workload {
+        name,
+        steps,
+        calls: calls.to_vec(),
+        fill: None,
+    }
+}
+
+fn reads(base: u32, range: u32) -> Vec<Step> {
+    let mut next = numbers();
+    (0..LONG).map(|_| Step::Read(base + next(range))).collect()
+}
+
+/// Reads of a bank in status mode.
+fn status_reads() -> Vec<Step> {
+    let mut steps = vec![Step::Write(start(BLOCK), 0x70)];
+    steps.extend(reads(start(BLOCK), PART.unit()));
+    steps
+}
+
+fn mode_commands() -> Vec<Step> {
+    let mut next = numbers();
+    let mut command = || {
+        let start = bank_start(next(BANKS as u32));
+        Step::Write(start, [0xFF, 0x70, 0x90, 0x98][next(4) as usize])
+    };
+    (0..LONG).map(|_| command()).collect()
+}
+
+/// Set-up, data and one unit of work for each word.
+fn programs() -> Vec<Step> {
+    let locations = start(BLOCK)..start(BLOCK) + 50_000;
+    locations.flat_map(|at| program(at, 0x5A5A)).collect()
+}
+
+/// The same, and a read of the status after each.
+fn polled_programs() -> Vec<Step> {
+    let locations = start(BLOCK)..start(BLOCK) + 50_000;
+    locations
+        .flat_map(|at| program(at, 0xA5A5).into_iter().chain([Step::Read(at)]))
+        .collect()
+}
+
+fn burn() -> Vec<Step> {
+    let words = BURNED.iter().flat_map(|&block| {
+        let offsets = 0..PART.unit();
+        offsets.map(move |offset| (start(block) + offset, offset as u16))
+    });
+    words.flat_map(|(at, data)| program(at, data)).collect()
+}
+
+/// Erases a main block with one unit a step.
+fn slow_erase() -> Vec<Step> {
+    let mut steps = erase(BLOCK)[..2].to_vec();
+    steps.extend((0..PART.unit()).map(|_| Step::Work(1)));
+    steps
+}
+
+/// Reads, polled programs, nested programs in a suspended erase of a small
+/// block, protection and identification, in no order.
+fn mixed() -> Vec<Step> {
+    let mut next = numbers();
+    let mut steps = Vec::new();
+    while steps.len() < LONG {
+        let at = start(4 + next(BLOCKS as u32 - 4)) + next(PART.unit());
+        let write = |command| Step::Write(at, command);
+        match next(1000) {
+            0..=499 => steps.extend([write(0xFF), Step::Read(at), Step::Read(at ^ 1)]),
+            500..=799 => {
+                steps.extend(program(at, next(65_536) as u16));
+                steps.push(Step::Read(at));
+            }
+            800..=899 => {
+                let [set_up, data, work] = program(at, next(65_536) as u16);
+                let status = Step::Read(at);
+                steps.extend([set_up, data, write(0xB0), status, write(0xD0), work, status]);
+            }
+            900..=949 => steps.extend([write(0x60), write(0x01), write(0x60), write(0xD0)]),
+            950..=997 => {
+                let [signature, query] = [start(3) + 2, start(3) + 0x10].map(Step::Read);
+                steps.extend([write(0x90), signature, write(0x98), query, write(0x50)]);
+            }
+            _ => {
+                let small = start(next(4));
+                steps.extend([Step::Write(small, 0x20), Step::Write(small, 0xD0)]);
+                steps.extend([Step::Work(100), write(0xB0)]);
+                steps.extend(program(at, next(65_536) as u16));
+                steps.extend([write(0xD0), Step::Work(65_535), Step::Read(small)]);
+            }
+        }
+    }
+    steps
+}
+
+/// A model with what it holds of a device; or a fill, which holds none.
+enum Player {
+    Library([u64; library::STATE_WORDS]),
+    Second(Device),
+    Plain(Plain),
+    Other([u64; library::STATE_WORDS]),
+    Fill,
+}
+
+impl Player {
+    /// In the order of `all`.
+    const NAMES: [&'static str; 5] = [
+        "library",
+        "second model",
+        "plain C model",
+        "other library",
+        "fill",
+    ];
+
+    fn all() -> [Player; 5] {
+        let mut state = [0; library::STATE_WORDS];
+        library::power_up(PART.number(), &mut state);
+        let mut other_state = [0; library::STATE_WORDS];
+        other::power_up(PART.number(), &mut other_state);
+        [
+            Player::Library(state),
+            Player::Second(Device::power_up(PART.number())),
+            Player::Plain(Plain::power_up(PART.number())),
+            Player::Other(other_state),
+            Player::Fill,
+        ]
+    }
+}
+
+/// A list as the players take it: the second model the steps, the others their
+/// numbers, so many a call.
+struct List<'a> {
+    steps: &'a [Step],
+    numbers: Vec<u64>,
+    a_call: usize,
+    fill: Range<usize>,
+}
+
+impl<'a> List<'a> {
+    fn new(steps: &'a [Step], a_call: usize, fill: Range<usize>) -> List<'a> {
+        List {
+            steps,
+            numbers: steps.iter().copied().map(library::number).collect(),
+            a_call: a_call.min(steps.len()),
+            fill,
+        }
+    }
+
+    /// Plays the numbers by calls of a function.
+    fn calls(&self, answers: &mut [u64], mut run: impl FnMut(&[u64], &mut [u64]) -> usize) {
+        let answers = answers.chunks_mut(self.a_call);
+        for (numbers, answers) in self.numbers.chunks(self.a_call).zip(answers) {
+            run(numbers, answers);
+        }
+    }
+}
+
+/// A player with its own array and answers.
+struct Side {
+    player: Player,
+    array: Vec<u16>,
+    answers: Vec<u64>,
+}
+
+impl Side {
+    fn play(&mut self, list: &List) {
+        let Side {
+            player,
+            array,
+            answers,
+        } = self;
+        match player {
+            Player::Library(state) => {
+                list.calls(answers, |n, a| library::run(state, n, a, array));
+            }
+            Player::Other(state) => {
+                list.calls(answers, |n, a| other::run(state, n, a, array));
+            }
+            Player::Plain(device) => list.calls(answers, |n, a| device.run(n, a, array)),
+            Player::Second(device) => {
+                for (&step, answer) in list.steps.iter().zip(answers) {
+                    *answer = library::answer(device.step(array, step));
+                }
+            }
+            Player::Fill => {
+                array[list.fill.clone()].fill(0xFFFF);
+                black_box(array);
+            }
+        }
+    }
+}
+
 struct Bench {
     rounds: usize,
-    state: [u64; library::STATE_WORDS],
-    array: Vec<u16>,
-    device: Device,
-    model_array: Vec<u16>,
+    sides: [Side; 5],
 }
 
 impl Bench {
     fn new(rounds: usize) -> Bench {
-        let mut state = [0; library::STATE_WORDS];
-        library::power_up(PART.number(), &mut state);
-        let mut bench = Bench {
-            rounds,
-            state,
+        let sides = Player::all().map(|player| Side {
+            player,
             array: vec![0; PART.array_length()],
-            device: Device::power_up(PART.number()),
-            model_array: vec![0; PART.array_length()],
-        };
-        // Every block is opened once, so that all that follows is accepted.
+            answers: Vec::new(),
+        });
+        let mut bench = Bench { rounds, sides };
+        // Every block is unprotected once, so that all that follows is accepted.
         let mut steps = vec![Step::Supply(true)];
-        for block in 0..BLOCKS as u32 {
-            let start = start(block);
+        for start in (0..BLOCKS as u32).map(start) {
             steps.extend([Step::Write(start, 0x60), Step::Write(start, 0xD0)]);
         }
-        for bank in 0..BANKS as u32 {
-            let start = PART.bank_start(bank).expect("a bank of the part");
-            steps.push(Step::Write(start, 0xFF));
-        }
-        bench.play(&steps);
+        bench.play(&List::new(&steps, ALL, 0..0));
         bench
     }
 
-    fn reads(&mut self) {
-        let mut next = numbers();
-        let base = start(100);
-        let near: Vec<Step> = (0..200_000)
-            .map(|_| Step::Read(base + next(65_536)))
+    /// Plays a workload on all sides and prints the row of its ratios. The sides
+    /// take turns at going first.
+    fn measure(&mut self, workload: &Workload, a_call: usize) {
+        let array_mode: Vec<Step> = (0..BANKS as u32)
+            .map(|bank| Step::Write(bank_start(bank), 0xFF))
             .collect();
-        let length = PART.array_length() as u32;
-        let far: Vec<Step> = (0..200_000).map(|_| Step::Read(next(length))).collect();
-        self.measure("reads in one block, one call", &near, near.len());
-        self.measure("reads all over the part, one call", &far, far.len());
-        self.measure("reads in one block, ten a call", &near, 10);
-        self.measure("reads in one block, one a call", &near, 1);
-    }
-
-    fn writes(&mut self) {
-        let mut next = numbers();
-        let mut modes = Vec::new();
-        for _ in 0..200_000 {
-            let start = PART.bank_start(next(BANKS as u32));
-            let command = [0xFF, 0x70, 0x90, 0x98][next(4) as usize];
-            modes.push(Step::Write(start.expect("a bank of the part"), command));
-        }
-        self.measure("writes of mode commands, one call", &modes, modes.len());
-        self.measure("writes of mode commands, one a call", &modes, 1);
-    }
-
-    fn programs(&mut self) {
-        let mut words = Vec::new();
-        let base = start(100);
-        for offset in 0..50_000 {
-            words.extend(program(base + offset, 0x5A5A));
-        }
-        self.measure(
-            "word programs, three steps each, one call",
-            &words,
-            words.len(),
-        );
-        self.measure(
-            "word programs, three steps each, one call a word",
-            &words,
-            3,
-        );
-        let mut burn = Vec::new();
-        for block in BURNED {
-            for offset in 0..PART.unit() {
-                burn.extend(program(start(block) + offset, offset as u16));
-            }
-        }
-        let name = format!("burn of {} main blocks, one call", BURNED.len());
-        self.measure(&name, &burn, burn.len());
-    }
-
-    fn erases(&mut self) {
-        let one = erase(100);
-        self.measure("erase of a main block, again and again", &one, one.len());
-        let all: Vec<Step> = (0..BLOCKS as u32).flat_map(erase).collect();
-        self.measure("erase of the whole part", &all, all.len());
-        let slow: Vec<Step> = [Step::Write(start(100), 0x20), Step::Write(start(100), 0xD0)]
-            .into_iter()
-            .chain((0..PART.unit()).map(|_| Step::Work(1)))
-            .collect();
-        self.measure("erase of a main block, one unit a step", &slow, slow.len());
-    }
-
-    /// Erase against filling the same memory, by the library and by the second
-    /// model.
-    fn against_fill(&mut self) {
-        println!();
-        let first = start(100) as usize;
-        let block = first..first + PART.unit() as usize;
-        let whole = 0..self.array.len();
-        let all: Vec<Step> = (0..BLOCKS as u32).flat_map(erase).collect();
-        for (name, steps, range) in [
-            ("erase of a main block against fill", erase(100), block),
-            ("erase of the whole part against fill", all, whole),
-        ] {
-            let numbers: Vec<u64> = steps.iter().copied().map(library::number).collect();
-            let mut answers = vec![0; steps.len()];
-            let once = time(1, || self.array[range.clone()].fill(0xFFFF));
-            let times = repeats(once);
-            let mut by_library = Vec::new();
-            let mut by_model = Vec::new();
-            for _ in 0..=self.rounds {
-                let (state, array) = (&mut self.state, &mut self.array);
-                let fill = time(times, || {
-                    array[range.clone()].fill(0xFFFF);
-                    black_box(&mut *array);
-                });
-                let library = time(times, || {
-                    library::run(state, &numbers, &mut answers, array);
-                });
-                let (device, array) = (&mut self.device, &mut self.model_array);
-                let model = time(times, || model_run(device, &steps, &mut answers, array));
-                by_library.push((library, fill));
-                by_model.push((model, fill));
-            }
-            row(name, &by_library);
-            row("  the same of the second model", &by_model);
-        }
-    }
-
-    /// Plays a list on both, so many steps a call, and prints the row of its
-    /// ratios. The two take turns at going first.
-    fn measure(&mut self, name: &str, steps: &[Step], a_call: usize) {
-        let numbers: Vec<u64> = steps.iter().copied().map(library::number).collect();
-        let mut answers = vec![0; steps.len()];
-        let mut model_answers = vec![0; steps.len()];
-        let once = time(1, || self.play(steps)) / 2.0;
-        let times = repeats(once);
-        let mut times_taken = Vec::new();
+        self.play(&List::new(&array_mode, ALL, 0..0));
+        let fill = workload.fill.clone();
+        let sides = Player::NAMES.len() - usize::from(fill.is_none());
+        let list = List::new(&workload.steps, a_call, fill.unwrap_or(0..0));
+        self.play(&list);
+        let once = |side: &mut Side| time(1, || side.play(&list));
+        let quickest = self.sides[..sides].iter_mut().map(once).reduce(f64::min);
+        let times = repeats(quickest.expect("there are sides"));
+        let mut rounds = Vec::new();
         for round in 0..=self.rounds {
-            let (state, array) = (&mut self.state, &mut self.array);
-            let mut by_library = || {
-                time(times, || {
-                    for (numbers, answers) in numbers.chunks(a_call).zip(answers.chunks_mut(a_call))
-                    {
-                        library::run(state, numbers, answers, array);
-                    }
-                })
-            };
-            let (device, array) = (&mut self.device, &mut self.model_array);
-            let mut by_model = || {
-                time(times, || {
-                    model_run(device, steps, &mut model_answers, array)
-                })
-            };
-            times_taken.push(if round % 2 == 0 {
-                let library = by_library();
-                (library, by_model())
-            } else {
-                let model = by_model();
-                (by_library(), model)
-            });
+            let mut taken = vec![0.0; sides];
+            for turn in 0..sides {
+                let side = (round + turn) % sides;
+                taken[side] = time(times, || self.sides[side].play(&list));
+            }
+            rounds.push(taken);
         }
-        assert!(answers == model_answers, "{name}: the answers differ");
-        row(name, &times_taken);
+        self.same_answers(workload.name);
+        let calls = match a_call {
+            ALL => "one call".to_string(),
+            1 => "one step a call".to_string(),
+            _ => format!("{a_call} steps a call"),
+        };
+        row(&format!("{}, {calls}", workload.name), &rounds);
     }
 
-    /// Plays a list on both without measuring.
-    fn play(&mut self, steps: &[Step]) {
-        let numbers: Vec<u64> = steps.iter().copied().map(library::number).collect();
-        let mut answers = vec![0; steps.len()];
-        let mut model_answers = vec![0; steps.len()];
-        library::run(&mut self.state, &numbers, &mut answers, &mut self.array);
-        model_run(
-            &mut self.device,
-            steps,
-            &mut model_answers,
-            &mut self.model_array,
-        );
-        assert!(answers == model_answers, "the answers differ");
+    /// Plays a list on all sides without measuring.
+    fn play(&mut self, list: &List) {
+        for side in &mut self.sides {
+            side.answers.clear();
+            side.answers.resize(list.steps.len(), 0);
+            side.play(list);
+        }
+        self.same_answers("a list that is not measured");
     }
 
     /// Speed is worth nothing if the work was not the same.
-    fn same_array(&self) {
-        assert!(self.array == self.model_array, "the arrays differ");
+    fn same_answers(&self, name: &str) {
+        for (side, player) in self.models() {
+            let same = side.answers == self.sides[0].answers;
+            assert!(same, "{name}: the library's answers are not the {player}'s");
+        }
     }
-}
 
-fn model_run(device: &mut Device, steps: &[Step], answers: &mut [u64], array: &mut [u16]) {
-    for (&step, answer) in steps.iter().zip(answers) {
-        *answer = library::answer(device.step(array, step));
+    fn same_arrays(&self) {
+        for (side, player) in self.models() {
+            let same = side.array == self.sides[0].array;
+            assert!(same, "the library's array is not the {player}'s");
+        }
+    }
+
+    /// The sides that have answers, with their names.
+    fn models(&self) -> impl Iterator<Item = (&Side, &str)> {
+        let sides = self.sides.iter().zip(Player::NAMES);
+        sides.filter(|(side, _)| !matches!(side.player, Player::Fill))
     }
 }
 
 fn start(block: u32) -> u32 {
     PART.block(block).expect("a block of the part").start
+}
+
+fn bank_start(bank: u32) -> u32 {
+    PART.bank_start(bank).expect("a bank of the part")
 }
 
 fn program(location: u32, data: u16) -> [Step; 3] {
@@ -303,12 +440,16 @@ fn repeats(once: f64) -> usize {
     (MEASURED / once).ceil().clamp(1.0, 10_000.0) as usize
 }
 
-/// One row, of the two times that each round took: the median of the ratios,
-/// and between what the middle half of them lies. The first round only warms
-/// up.
-fn row(name: &str, times: &[(f64, f64)]) {
-    let mut ratios: Vec<f64> = times[1..].iter().map(|(a, b)| a / b).collect();
-    ratios.sort_by(f64::total_cmp);
-    let [low, median, high] = [1, 2, 3].map(|quarter| ratios[(ratios.len() - 1) * quarter / 4]);
-    println!("{name:52} {median:8.2} {low:7.2} to {high:.2}");
+/// One row, of the times that the sides took in each round, the library's
+/// first: the median of the ratios to each other side, and between what the
+/// middle half of them lies. The first round only warms up.
+fn row(name: &str, rounds: &[Vec<f64>]) {
+    let mut columns = String::new();
+    for side in 1..rounds[0].len() {
+        let mut ratios: Vec<f64> = rounds[1..].iter().map(|t| t[0] / t[side]).collect();
+        ratios.sort_by(f64::total_cmp);
+        let [low, median, high] = [1, 2, 3].map(|quarter| ratios[(ratios.len() - 1) * quarter / 4]);
+        columns.push_str(&format!(" {median:6.2} {low:6.2} to {high:5.2}"));
+    }
+    println!("{name:42}{columns}");
 }

@@ -26,10 +26,14 @@ build_rust() {
         fail "$name.rs does not build"
 }
 
+need_library() {
+    [ -f "$library" ] || fail "static library not found: $library"
+}
+
 # build_with_library NAME [ARGUMENT..]: the same with the static library. It is
 # named to rustc by folder and file, so that it need not be called libm58.a.
 build_with_library() {
-    [ -f "$library" ] || fail "static library not found: $library"
+    need_library
     build_rust "$@" -L "native=$(dirname -- "$library")" \
         -l "static:+verbatim=$(basename -- "$library")"
 }
