@@ -62,7 +62,6 @@ fn main() -> ExitCode {
             bench.measure(&workload, a_call);
         }
     }
-    bench.same_arrays();
     println!(
         "\nstate handed over: {} words, {} bytes",
         library::STATE_WORDS,
@@ -242,6 +241,7 @@ impl Player {
 /// A list as the players take it: the second model the steps, the others their
 /// numbers, so many a call.
 struct List<'a> {
+    name: &'static str,
     steps: &'a [Step],
     numbers: Vec<u64>,
     a_call: usize,
@@ -249,12 +249,14 @@ struct List<'a> {
 }
 
 impl<'a> List<'a> {
-    fn new(steps: &'a [Step], a_call: usize, fill: Range<usize>) -> List<'a> {
+    fn new(workload: &'a Workload, a_call: usize) -> List<'a> {
+        let steps = &workload.steps;
         List {
+            name: workload.name,
             steps,
             numbers: steps.iter().copied().map(library::number).collect(),
             a_call: a_call.min(steps.len()),
-            fill,
+            fill: workload.fill.clone().unwrap_or(0..0),
         }
     }
 
@@ -311,7 +313,7 @@ impl Bench {
     fn new(rounds: usize) -> Bench {
         let sides = Player::all().map(|player| Side {
             player,
-            array: vec![0; PART.array_length()],
+            array: vec![0xFFFF; PART.array_length()],
             answers: Vec::new(),
         });
         let mut bench = Bench { rounds, sides };
@@ -320,21 +322,19 @@ impl Bench {
         for start in (0..BLOCKS as u32).map(start) {
             steps.extend([Step::Write(start, 0x60), Step::Write(start, 0xD0)]);
         }
-        bench.play(&List::new(&steps, ALL, 0..0));
+        bench.play(&List::new(&list("unprotect", steps, &[]), ALL));
         bench
     }
 
     /// Plays a workload on all sides and prints the row of its ratios. The sides
     /// take turns at going first.
     fn measure(&mut self, workload: &Workload, a_call: usize) {
-        let array_mode: Vec<Step> = (0..BANKS as u32)
-            .map(|bank| Step::Write(bank_start(bank), 0xFF))
-            .collect();
-        self.play(&List::new(&array_mode, ALL, 0..0));
-        let fill = workload.fill.clone();
-        let sides = Player::NAMES.len() - usize::from(fill.is_none());
-        let list = List::new(&workload.steps, a_call, fill.unwrap_or(0..0));
+        let starts = (0..BANKS as u32).map(bank_start);
+        let array_mode = starts.map(|start| Step::Write(start, 0xFF)).collect();
+        self.play(&List::new(&list("array mode", array_mode, &[]), ALL));
+        let list = List::new(workload, a_call);
         self.play(&list);
+        let sides = self.sides.len() - usize::from(workload.fill.is_none());
         let once = |side: &mut Side| time(1, || side.play(&list));
         let quickest = self.sides[..sides].iter_mut().map(once).reduce(f64::min);
         let times = repeats(quickest.expect("there are sides"));
@@ -347,7 +347,7 @@ impl Bench {
             }
             rounds.push(taken);
         }
-        self.same_answers(workload.name);
+        self.same(workload.name);
         let calls = match a_call {
             ALL => "one call".to_string(),
             1 => "one step a call".to_string(),
@@ -363,28 +363,20 @@ impl Bench {
             side.answers.resize(list.steps.len(), 0);
             side.play(list);
         }
-        self.same_answers("a list that is not measured");
+        self.same(list.name);
     }
 
     /// Speed is worth nothing if the work was not the same.
-    fn same_answers(&self, name: &str) {
-        for (side, player) in self.models() {
-            let same = side.answers == self.sides[0].answers;
-            assert!(same, "{name}: the library's answers are not the {player}'s");
+    fn same(&self, name: &str) {
+        let library = &self.sides[0];
+        for (side, player) in self.sides.iter().zip(Player::NAMES) {
+            if !matches!(side.player, Player::Fill) {
+                let same = side.answers == library.answers;
+                assert!(same, "{name}: the answers are not the {player}'s");
+                let same = side.array == library.array;
+                assert!(same, "{name}: the array is not the {player}'s");
+            }
         }
-    }
-
-    fn same_arrays(&self) {
-        for (side, player) in self.models() {
-            let same = side.array == self.sides[0].array;
-            assert!(same, "the library's array is not the {player}'s");
-        }
-    }
-
-    /// The sides that have answers, with their names.
-    fn models(&self) -> impl Iterator<Item = (&Side, &str)> {
-        let sides = self.sides.iter().zip(Player::NAMES);
-        sides.filter(|(side, _)| !matches!(side.player, Player::Fill))
     }
 }
 
