@@ -174,7 +174,8 @@ fn mixed() -> Vec<Step> {
     let mut next = numbers();
     let mut steps = Vec::new();
     while steps.len() < LONG {
-        let at = start(4 + next(BLOCKS as u32 - 4)) + next(PART.unit());
+        let base = start(4 + next(BLOCKS as u32 - 4));
+        let at = base + next(PART.unit());
         let write = |command| Step::Write(at, command);
         match next(1000) {
             0..=499 => steps.extend([write(0xFF), Step::Read(at), Step::Read(at ^ 1)]),
@@ -189,7 +190,7 @@ fn mixed() -> Vec<Step> {
             }
             900..=949 => steps.extend([write(0x60), write(0x01), write(0x60), write(0xD0)]),
             950..=997 => {
-                let [signature, query] = [start(3) + 2, start(3) + 0x10].map(Step::Read);
+                let [signature, query] = [base + 2, base + 0x10].map(Step::Read);
                 steps.extend([write(0x90), signature, write(0x98), query, write(0x50)]);
             }
             _ => {
