@@ -1,19 +1,100 @@
 // The script program: reads a script on standard input, plays it on a bench bottom part and prints the transcript. All that matters is proved in the crate
-// script; what is read and written is tested.
+// script; what is read and written is tested (host/test-play).
+//
+// What goes wrong is told on standard error: after a read that failed nothing is printed on standard output, and a transcript that could not be written whole
+// is said to be cut. A line that begins `play: warning: ` says what the transcript does not; any other line is trouble. A Rattle program has no exit status of
+// its own, so by itself this one ends with status 0 even then: the shell program ./play reads what is said here and makes the status.
+use libc::STDERR_FILENO;
 use libc::STDIN_FILENO;
 use libc::STDOUT_FILENO;
+ghost use Rattle.io.specs.Counts.{Counts};
+
+// How many bytes of the input there are, and whether a read failed.
+struct Input {
+    count: usize,
+    failed: bool,
+}
+
+// Reads until the text is full, the input ends or a read fails. io::read_full does not tell the last two apart.
+fn read_text(text: &mut [u8]) -> Input
+    ensures { λ r. ⌜ Counts (r .count) (now (text .exit)) ⌝ }
+{
+    let mut count = 0;
+    while count < text.len() {
+        let got = libc::read(STDIN_FILENO, &mut text[count..]);
+        if got < 0 {
+            return Input {
+                count,
+                failed: true,
+            };
+        }
+        let more = io::count(got, &text[count..]);
+        if more == 0 {
+            return Input {
+                count,
+                failed: false,
+            };
+        }
+        count += more;
+    }
+    Input {
+        count,
+        failed: false,
+    }
+}
+
+// Whether some line ends in CR LF.
+fn has_cr_lf(text: &[u8]) -> bool {
+    let mut i = 1;
+    while i < text.len() {
+        if text[i] == b'\n' && text[i - 1] == b'\r' {
+            return true;
+        }
+        i += 1;
+    }
+    false
+}
+
+// Warns of a script that is played otherwise than its author may think.
+fn warn(text: &[u8]) {
+    if text.len() > 16384 {
+        io::write_all(
+            STDERR_FILENO,
+            b"play: warning: the script is longer than 16,384 bytes; only the first 16,384 are played\n",
+        );
+    }
+    if has_cr_lf(script::script_of(text)) {
+        io::write_all(
+            STDERR_FILENO,
+            b"play: warning: lines end in CR LF, not LF; each of them is refused 6\n",
+        );
+    }
+}
 
 // Writes the first bytes of the room.
 fn print(room: &[u8], end: usize) {
     if end <= room.len() {
-        io::write_all(STDOUT_FILENO, &room[..end]);
+        if !io::write_all(STDOUT_FILENO, &room[..end]) {
+            os::fail(b"play: the transcript is not whole: standard output");
+        }
+    } else {
+        io::write_all(
+            STDERR_FILENO,
+            b"play: the transcript is not printed: it does not fit its room\n",
+        );
     }
 }
 
 fn main() {
-    // Only the first 16,384 bytes are the script: however they arrive, this reads until they are there or the input ends.
-    let mut text = [0u8; 16384];
-    let n = io::read_full(STDIN_FILENO, &mut text);
+    // Only the first 16,384 bytes are the script, however they arrive. One more is read, to tell an input that is longer.
+    let mut text = [0u8; 16385];
+    let input = read_text(&mut text);
+    if input.failed {
+        os::fail(b"play: the script cannot be read: standard input");
+        return;
+    }
+    let n = input.count;
+    warn(&text[..n]);
     // The bench part's words, all FFFFh at the start.
     let mut array = [0xffffu16; 16384];
     // Room for the longest transcript: 16,384 empty lines take 251,048 bytes.
