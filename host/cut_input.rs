@@ -11,7 +11,10 @@ use std::process::{exit, Command, Stdio};
 fn run() -> Result<i32, Error> {
     let words: Vec<_> = std::env::args_os().skip(1).collect();
     let [file, program, arguments @ ..] = words.as_slice() else {
-        return Err(Error::new(ErrorKind::InvalidInput, "usage: cut_input FILE PROGRAM [ARGUMENT..]"));
+        return Err(Error::new(
+            ErrorKind::InvalidInput,
+            "usage: cut_input FILE PROGRAM [ARGUMENT..]",
+        ));
     };
     let (mut ours, mut theirs) = UnixStream::pair()?;
     ours.write_all(&std::fs::read(file)?)?;
@@ -20,8 +23,13 @@ fn run() -> Result<i32, Error> {
     theirs.write_all(b"x")?;
     drop(ours);
     let stdin = Stdio::from(OwnedFd::from(theirs));
-    let status = Command::new(program).args(arguments).stdin(stdin).status()?;
-    status.code().ok_or_else(|| Error::other(format!("the program was ended: {status}")))
+    let status = Command::new(program)
+        .args(arguments)
+        .stdin(stdin)
+        .status()?;
+    status
+        .code()
+        .ok_or_else(|| Error::other(format!("the program was ended: {status}")))
 }
 
 fn main() {

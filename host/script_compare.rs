@@ -43,11 +43,12 @@ enum Pace {
     SlowOut,
 }
 
-/// What the program prints for a script.
-fn played(program: &str, input: &[u8], pace: Pace) -> Vec<u8> {
+/// What the program prints for a script, and what it says beside it on standard error: no more than a pipe holds.
+fn played(program: &str, input: &[u8], pace: Pace) -> (Vec<u8>, String) {
     let mut child = Command::new(program)
         .stdin(Stdio::piped())
         .stdout(Stdio::piped())
+        .stderr(Stdio::piped())
         .spawn()
         .unwrap_or_else(|e| fail(&format!("cannot start {program}: {e}")));
     let mut stdin = child.stdin.take().expect("a pipe was asked for");
@@ -79,11 +80,29 @@ fn played(program: &str, input: &[u8], pace: Pace) -> Vec<u8> {
         }
     }
     let _ = writer.join();
+    let mut said = String::new();
+    let mut stderr = child.stderr.take().expect("a pipe was asked for");
+    if let Err(e) = stderr.read_to_string(&mut said) {
+        fail(&format!("cannot read what {program} says: {e}"));
+    }
     let status = child.wait().unwrap_or_else(|e| fail(&e.to_string()));
     if !status.success() {
-        fail(&format!("{program} ended with {status}"));
+        fail(&format!("{program} ended with {status}: {said}"));
     }
-    out
+    (out, said)
+}
+
+/// The warnings that are due for a script: bytes past the first 16,384, and lines of the script that end in CR LF.
+fn warnings(input: &[u8]) -> String {
+    let mut due = String::new();
+    if input.len() > 16384 {
+        due += "play: warning: the script is longer than 16,384 bytes; only the first 16,384 are played\n";
+    }
+    let script = &input[..input.len().min(16384)];
+    if script.windows(2).any(|pair| pair == b"\r\n") {
+        due += "play: warning: lines end in CR LF, not LF; each of them is refused 6\n";
+    }
+    due
 }
 
 fn fail(message: &str) -> ! {
@@ -96,12 +115,20 @@ struct Compare<'a> {
     scripts: u64,
     lines: u64,
     refused: u64,
+    warned: u64,
 }
 
 impl Compare<'_> {
     fn one(&mut self, what: &str, input: &[u8], pace: Pace) {
         let expected = script::transcript(input);
-        let got = played(self.program, input, pace);
+        let (got, said) = played(self.program, input, pace);
+        if said != warnings(input) {
+            fail(&format!(
+                "{what}: {:?} is due, {said:?} was said",
+                warnings(input)
+            ));
+        }
+        self.warned += u64::from(!said.is_empty());
         if got != expected {
             eprintln!("script: {:?}", String::from_utf8_lossy(input));
             let (g, e) = (
@@ -373,6 +400,7 @@ fn main() {
         scripts: 0,
         lines: 0,
         refused: 0,
+        warned: 0,
     };
     let stored = examples(&mut compare, &args[2]);
     for near in NEAR {
@@ -406,7 +434,7 @@ fn main() {
     }
     compare.one("a slow reader", &[b'\n'; 16384], Pace::SlowOut);
     println!(
-        "scripts: {} compared, {stored} of them stored examples and {count} random of seed {seed}; {} lines printed, {} of them refused",
-        compare.scripts, compare.lines, compare.refused
+        "scripts: {} compared, {stored} of them stored examples and {count} random of seed {seed}; {} lines printed, {} of them refused; {} scripts warned of",
+        compare.scripts, compare.lines, compare.refused, compare.warned
     );
 }
