@@ -1,6 +1,6 @@
 //! Writes the steps of random lists, and random states to begin from. All is
 //! drawn from a seed, with an eye on the second model's device, so that blocks
-//! are opened and programs and erases are accepted, suspended, nested and cut
+//! are unprotected and programs and erases are accepted, suspended, nested and cut
 //! far more often than by chance.
 
 use crate::library;
@@ -56,7 +56,7 @@ pub struct Author {
     dice: Dice,
     part: Part,
     /// The blocks the list keeps coming back to.
-    haunts: Vec<u32>,
+    favoured: Vec<u32>,
     /// Of a hundred steps, those drawn without a look at the device.
     wild: u64,
     /// Of a thousand numbers, resets and numbers that are no step.
@@ -67,17 +67,17 @@ pub struct Author {
 impl Author {
     pub fn new(part: Part, seed: u64) -> Author {
         let mut dice = Dice::new(seed);
-        let mut haunts = Vec::new();
+        let mut favoured = Vec::new();
         for _ in 0..1 + dice.below(5) {
-            haunts.push(some_block(&mut dice));
+            favoured.push(some_block(&mut dice));
         }
         // Neighbours share an edge, and most often a bank.
         if dice.percent(50) {
-            haunts.push((haunts[0] + 1) % BLOCKS as u32);
+            favoured.push((favoured[0] + 1) % BLOCKS as u32);
         }
         Author {
             part,
-            haunts,
+            favoured,
             wild: dice.pick(&[0, 0, 2, 5, 20, 100]),
             resets: dice.pick(&[0, 1, 5, 30]),
             no_steps: dice.pick(&[0, 0, 5, 30]),
@@ -150,7 +150,12 @@ impl Author {
             if !device.supply && self.dice.percent(50) {
                 return Step::Supply(true);
             }
-            if !self.haunts.iter().any(|&b| device.open[b as usize]) && self.dice.percent(50) {
+            if !self
+                .favoured
+                .iter()
+                .any(|&b| device.unprotected[b as usize])
+                && self.dice.percent(50)
+            {
                 &[0x60]
             } else {
                 &[0x40, 0x10, 0x40, 0x40, 0x20, 0x20, 0x20, 0x60, 0x50, 0xD0]
@@ -165,10 +170,12 @@ impl Author {
 
     fn second_cycle(&mut self, device: &Device, setup: Setup) -> Step {
         let mut address = self.address();
-        let haunts = self.haunts.iter().copied();
-        let open: Vec<u32> = haunts.filter(|&b| device.open[b as usize]).collect();
-        if !open.is_empty() && setup != Setup::Lock && self.dice.percent(70) {
-            let block = self.dice.pick(&open);
+        let favoured = self.favoured.iter().copied();
+        let unprotected: Vec<u32> = favoured
+            .filter(|&b| device.unprotected[b as usize])
+            .collect();
+        if !unprotected.is_empty() && setup != Setup::Lock && self.dice.percent(70) {
+            let block = self.dice.pick(&unprotected);
             address = self.address_in(block);
         }
         if let Some(erase) = device.suspended_erase {
@@ -213,12 +220,12 @@ impl Author {
         self.dressed(command)
     }
 
-    /// An address: most often in a haunt, now and then anywhere, at an edge,
+    /// An address: most often in a favoured block, now and then anywhere, at an edge,
     /// or at and past the bound.
     fn address(&mut self) -> u32 {
         match self.dice.below(100) {
             0..=74 => {
-                let block = self.dice.pick(&self.haunts);
+                let block = self.dice.pick(&self.favoured);
                 self.address_in(block)
             }
             75..=84 => {
@@ -283,7 +290,7 @@ impl Author {
         }
     }
 
-    /// A well-made device, mostly one that no short list reaches.
+    /// A well-formed device, mostly one that no short list reaches.
     pub fn device(&mut self) -> Device {
         let mut device = Device::power_up(self.part.number());
         let dice = &mut self.dice;
@@ -298,8 +305,8 @@ impl Author {
             sr1: dice.percent(50),
         };
         let density = dice.pick(&[0, 3, 50, 100]);
-        for open in &mut device.open {
-            *open = dice.percent(density);
+        for unprotected in &mut device.unprotected {
+            *unprotected = dice.percent(density);
         }
         device.configuration = dice.next() as u16;
         device.supply = dice.percent(70);
@@ -351,7 +358,7 @@ impl Author {
 
     fn usual_block(&mut self) -> u32 {
         if self.dice.percent(70) {
-            self.dice.pick(&self.haunts)
+            self.dice.pick(&self.favoured)
         } else {
             some_block(&mut self.dice)
         }

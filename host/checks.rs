@@ -1,4 +1,4 @@
-//! Checks that need no chance: power-up, states that are not well made, each
+//! Checks that need no chance: power-up, states that are not well formed, each
 //! state word changed to many values, and memory of other counts.
 
 use crate::library::{self, STATE_WORDS};
@@ -107,14 +107,14 @@ pub fn check_null(pair: &mut Pair) -> Checked {
         let check = format!("null pointers of part {part}, choice {missing:04b}");
         let mut state = state::encode(&device);
         let mut answers = [UNTOUCHED; 2];
-        let lent = |bit: u32| missing >> bit & 1 == 0;
-        let played = library::run_lent(
-            lent(0).then_some(&mut state),
-            lent(1).then_some(&steps),
-            lent(2).then_some(&mut answers),
-            lent(3).then_some(&mut array),
+        let borrowed = |bit: u32| missing >> bit & 1 == 0;
+        let played = library::run_borrowed(
+            borrowed(0).then_some(&mut state),
+            borrowed(1).then_some(&steps),
+            borrowed(2).then_some(&mut answers),
+            borrowed(3).then_some(&mut array),
         );
-        let plays = lent(1) && lent(2);
+        let plays = borrowed(1) && borrowed(2);
         same(
             &check,
             "steps played",
@@ -123,7 +123,7 @@ pub fn check_null(pair: &mut Pair) -> Checked {
         )?;
         // With no state and no array, document 01 does not say which of the
         // two refusals is due.
-        let due: &[u64] = match (plays, lent(0), lent(3)) {
+        let due: &[u64] = match (plays, borrowed(0), borrowed(3)) {
             (false, ..) => &[UNTOUCHED],
             (true, true, true) => &[0],
             (true, true, false) => &[1 << 32],
@@ -135,7 +135,7 @@ pub fn check_null(pair: &mut Pair) -> Checked {
             }
         }
         let mut expected = device.clone();
-        expected.supply = plays && lent(0) && lent(3);
+        expected.supply = plays && borrowed(0) && borrowed(3);
         for (place, (expected, got)) in state::encode(&expected).into_iter().zip(state).enumerate()
         {
             let what = format!("state word {place} ({})", state::name(place));
@@ -183,13 +183,13 @@ fn probe(pair: &mut Pair, words: &[u64], array: usize, whole: bool) -> Result<()
     pair.check(call, whole)
 }
 
-/// States that are not well made, by document 01's sentence, and state words
+/// States that are not well formed, by document 01's sentence, and state words
 /// that are of no device. Here the refusal is not taken from the second model:
 /// every step must be refused 2 by both, and nothing may change.
-pub fn check_ill_made(pair: &mut Pair) -> Result<usize, Failure> {
+pub fn check_malformed(pair: &mut Pair) -> Result<usize, Failure> {
     let part = pair.part();
     let good = part.array_length();
-    let states = ill_made(part);
+    let states = malformed(part);
     for (name, words) in &states {
         let check = format!("{name}, on part {}", part.number());
         let fail = |difference| Failure {
@@ -217,13 +217,13 @@ pub fn check_ill_made(pair: &mut Pair) -> Result<usize, Failure> {
         }
     }
     pair.finish().map_err(|difference| Failure {
-        check: "array after the states that are not well made".to_string(),
+        check: "array after the states that are not well formed".to_string(),
         difference,
     })?;
     Ok(states.len())
 }
 
-fn ill_made(part: Part) -> Vec<(String, Words)> {
+fn malformed(part: Part) -> Vec<(String, Words)> {
     let size = |block: u32| part.block(block).expect("a block of the part").size;
     let start = |block: u32| part.block(block).expect("a block of the part").start;
     let words = part.array_length() as u32;
@@ -236,7 +236,7 @@ fn ill_made(part: Part) -> Vec<(String, Words)> {
         done: 5,
     };
     let base = Device {
-        open: [true; BLOCKS],
+        unprotected: [true; BLOCKS],
         supply: true,
         ..Device::power_up(part.number())
     };
@@ -428,12 +428,12 @@ fn shapes(part: Part) -> Vec<Device> {
     });
     let running_program = program.map(Operation::Program);
     let running_erase = erase.map(Operation::Erase);
-    let mut open = [false; BLOCKS];
+    let mut unprotected = [false; BLOCKS];
     for block in [0, 63, 64, 99, 100, 258] {
-        open[block] = true;
+        unprotected[block] = true;
     }
     let mut busy = Device {
-        open,
+        unprotected,
         supply: true,
         configuration: 0x1234,
         flags: Flags {

@@ -110,11 +110,11 @@ fn fixed_checks() -> Result<Counts, String> {
         checks::check_null(&mut pair).map_err(|f| check_message(&f, None))?;
         checks::check_state_counts(&mut pair).map_err(|f| check_message(&f, Some(&pair)))?;
         let named =
-            checks::check_ill_made(&mut pair).map_err(|f| check_message(&f, Some(&pair)))?;
+            checks::check_malformed(&mut pair).map_err(|f| check_message(&f, Some(&pair)))?;
         let changed =
             checks::check_each_word(&mut pair).map_err(|f| check_message(&f, Some(&pair)))?;
         println!(
-            "{}: {named} states that are not well made and {changed} with one word changed",
+            "{}: {named} states that are not well formed and {changed} with one word changed",
             name(part)
         );
         counts = counts.plus(pair.counts);

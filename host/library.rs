@@ -3,7 +3,7 @@
 
 #![allow(dead_code)] // a program that takes this module in need not use all of it
 
-use crate::second::model::{Answer, OpenReport};
+use crate::second::model::{Answer, UnprotectedReport};
 use crate::second::steps::Step;
 use std::ptr;
 
@@ -44,28 +44,28 @@ pub fn lookup(part: u32, address: u32) -> (u32, u32, u32) {
 
 /// m58_power_up on state words of any count.
 pub fn power_up(part: u32, state: &mut [u64]) -> u32 {
-    // SAFETY: the pointer and the count are those of one slice, lent to be
+    // SAFETY: the pointer and the count are those of one slice, borrowed to be
     // changed for the length of the call.
     unsafe { c::m58_power_up(part, state.as_mut_ptr(), state.len()) }
 }
 
 /// m58_run on memory of any counts.
 pub fn run(state: &mut [u64], steps: &[u64], answers: &mut [u64], array: &mut [u16]) -> usize {
-    run_lent(Some(state), Some(steps), Some(answers), Some(array))
+    run_borrowed(Some(state), Some(steps), Some(answers), Some(array))
 }
 
-/// m58_run with a null pointer and the count 0 where nothing is lent.
-pub fn run_lent(
+/// m58_run with a null pointer and the count 0 where nothing is borrowed.
+pub fn run_borrowed(
     state: Option<&mut [u64]>,
     steps: Option<&[u64]>,
     answers: Option<&mut [u64]>,
     array: Option<&mut [u16]>,
 ) -> usize {
-    let (state, state_count) = lent(state);
-    let (answers, answer_count) = lent(answers);
-    let (array, array_count) = lent(array);
+    let (state, state_count) = borrowed(state);
+    let (answers, answer_count) = borrowed(answers);
+    let (array, array_count) = borrowed(array);
     let (steps, step_count) = steps.map_or((ptr::null(), 0), |s| (s.as_ptr(), s.len()));
-    // SAFETY: each pointer and its count are those of one slice, lent for the
+    // SAFETY: each pointer and its count are those of one slice, borrowed for the
     // length of the call, to be changed where the prototype is not const; so
     // no two overlap. A null pointer has the count 0, which m58.h allows.
     unsafe {
@@ -100,7 +100,7 @@ pub fn power_up_of_nothing(part: u32) -> u32 {
     unsafe { c::m58_power_up(part, ptr::null_mut(), 0) }
 }
 
-fn lent<T>(memory: Option<&mut [T]>) -> (*mut T, usize) {
+fn borrowed<T>(memory: Option<&mut [T]>) -> (*mut T, usize) {
     memory.map_or((ptr::null_mut(), 0), |m| (m.as_mut_ptr(), m.len()))
 }
 
@@ -140,7 +140,7 @@ pub fn refused(refusal: u8) -> u64 {
     u64::from(refusal) << 32
 }
 
-/// The number of a report of open blocks.
-pub fn open_report(report: OpenReport) -> u64 {
+/// The number of a report of unprotected blocks.
+pub fn unprotected_report(report: UnprotectedReport) -> u64 {
     refused(report.refusal) | u64::from(report.count) << 16 | u64::from(report.lowest)
 }

@@ -21,8 +21,8 @@ pub fn play(pair: &mut Pair, seed: u64) -> Result<(), Difference> {
     };
     let mut left = length(&mut dice, pair.is_full());
     pair.begin(start, dice.next())?;
-    // A state that is not well made refuses all, however long the list is.
-    if !pair.device().is_some_and(Device::well_made) {
+    // A state that is not well formed refuses all, however long the list is.
+    if !pair.device().is_some_and(Device::well_formed) {
         left = left.min(40);
     }
 

@@ -4,23 +4,23 @@
 
 use crate::author::Dice;
 use crate::library;
-use crate::second::journal::Clerk;
+use crate::second::journal::Recorder;
 use crate::second::model::{Device, Operation, Part};
 use crate::second::steps::Step;
 use crate::state;
 
-/// Cells kept on both sides of lent memory, so that a write outside is seen.
+/// Cells kept on both sides of borrowed memory, so that a write outside is seen.
 const MARGIN: usize = 16;
 
 /// What lies in answers and margins before a call.
 const UNTOUCHED: u64 = 0xA5A5_5A5A_C3C3_3C3C;
 
-/// Lent memory with its margins.
-struct Lent<T>(Vec<T>);
+/// Borrowed memory with its margins.
+struct Borrowed<T>(Vec<T>);
 
-impl<T: Copy> Lent<T> {
-    fn new(count: usize, value: T) -> Lent<T> {
-        Lent(vec![value; count + 2 * MARGIN])
+impl<T: Copy> Borrowed<T> {
+    fn new(count: usize, value: T) -> Borrowed<T> {
+        Borrowed(vec![value; count + 2 * MARGIN])
     }
 
     /// The first `count` cells; more than were asked for reach into the margin.
@@ -149,13 +149,13 @@ pub struct Pair {
     /// The start array, until a journal is applied to it.
     start_array: Vec<u16>,
     /// The library's side.
-    state: Lent<u64>,
+    state: Borrowed<u64>,
     state_count: usize,
-    array: Lent<u16>,
+    array: Borrowed<u16>,
     /// The second model's side; no device where the state words are of none.
     device: Option<Device>,
-    model_array: Lent<u16>,
-    clerk: Option<Clerk>,
+    model_array: Borrowed<u16>,
+    recorder: Option<Recorder>,
     /// Each number so far that was played or stopped a call, and the words of
     /// the array that the library was told of.
     history: Vec<(u64, usize)>,
@@ -171,12 +171,12 @@ impl Pair {
             start: Start::PowerUp,
             array_seed: 0,
             start_array: vec![0; words],
-            state: Lent::new(0, UNTOUCHED),
+            state: Borrowed::new(0, UNTOUCHED),
             state_count: 0,
-            array: Lent::new(words, margin),
+            array: Borrowed::new(words, margin),
             device: None,
-            model_array: Lent::new(words, margin),
-            clerk: None,
+            model_array: Borrowed::new(words, margin),
+            recorder: None,
             history: Vec::new(),
             counts: Counts::default(),
         }
@@ -216,12 +216,12 @@ impl Pair {
         self.begin_again(start)
     }
 
-    /// Begins to try a state on the array that the last list left. No journal: the clerk
+    /// Begins to try a state on the array that the last list left. No journal: the recorder
     /// would need a copy of that array.
     pub fn begin_on_same_array(&mut self, start: Start) -> Result<(), Difference> {
         self.counts.states += 1;
         let begun = self.begin_again(start);
-        self.clerk = None;
+        self.recorder = None;
         begun
     }
 
@@ -232,17 +232,17 @@ impl Pair {
             Start::PowerUp => {
                 let part = self.part.number();
                 self.device = Some(Device::power_up(part));
-                self.clerk = Some(Clerk::new(part));
+                self.recorder = Some(Recorder::new(part));
                 self.state_count = library::STATE_WORDS;
-                self.state = Lent::new(self.state_count, UNTOUCHED);
+                self.state = Borrowed::new(self.state_count, UNTOUCHED);
                 let given = library::power_up(part, self.state.first(self.state_count));
                 same("what m58_power_up returns", 0, 1, u64::from(given))?;
             }
             Start::Words(words) => {
                 self.device = state::decode(words);
-                self.clerk = None;
+                self.recorder = None;
                 self.state_count = words.len();
-                self.state = Lent::new(words.len(), UNTOUCHED);
+                self.state = Borrowed::new(words.len(), UNTOUCHED);
                 self.state.first(words.len()).copy_from_slice(words);
             }
         }
@@ -285,9 +285,9 @@ impl Pair {
                 library::answer(answer)
             }
         };
-        if let Some(clerk) = &mut self.clerk {
+        if let Some(recorder) = &mut self.recorder {
             if call.length == self.part.array_length() {
-                clerk.note(step);
+                recorder.note(step);
             }
         }
         self.counts.steps += 1;
@@ -301,7 +301,7 @@ impl Pair {
     pub fn check(&mut self, call: Call, whole: bool) -> Result<(), Difference> {
         self.counts.calls += 1;
         let last = self.history.len().max(call.from + 1) - 1;
-        let mut answers = Lent::new(call.room, UNTOUCHED);
+        let mut answers = Borrowed::new(call.room, UNTOUCHED);
         let numbers = call.numbers.clone();
         let played = library::run(
             self.state.first(self.state_count),
@@ -310,7 +310,7 @@ impl Pair {
             self.array.first(call.length),
         );
         // Answers first: the first wrong one tells most.
-        let mut expected = Lent::new(call.room, UNTOUCHED);
+        let mut expected = Borrowed::new(call.room, UNTOUCHED);
         expected
             .first(call.expected.len())
             .copy_from_slice(&call.expected);
@@ -360,11 +360,11 @@ impl Pair {
     pub fn finish(&mut self) -> Result<(), Difference> {
         let last = self.history.len().max(1) - 1;
         self.check_array(last)?;
-        let Some(clerk) = self.clerk.take() else {
+        let Some(recorder) = self.recorder.take() else {
             return Ok(());
         };
         self.counts.journals += 1;
-        clerk.apply_to(&mut self.start_array);
+        recorder.apply_to(&mut self.start_array);
         let words = self.start_array.len();
         let got = self.array.first(words);
         if got != self.start_array {
@@ -378,21 +378,27 @@ impl Pair {
             });
         }
         self.counts.words += words as u64;
-        // The clerk also holds the open blocks and the supply.
+        // The recorder also holds the unprotected blocks and the supply.
         if let Some(device) = &self.device {
             let pairs = [
-                ("open blocks", clerk.open_blocks() == &device.open),
-                ("supply", clerk.supply() == device.supply),
-                ("set-up", clerk.set_up_pending() == device.setup.is_some()),
+                (
+                    "unprotected blocks",
+                    recorder.unprotected_blocks() == &device.unprotected,
+                ),
+                ("supply", recorder.supply() == device.supply),
+                (
+                    "set-up",
+                    recorder.set_up_pending() == device.setup.is_some(),
+                ),
                 (
                     "running",
-                    clerk.running().is_some() == device.running.is_some(),
+                    recorder.running().is_some() == device.running.is_some(),
                 ),
             ];
             if let Some((name, _)) = pairs.iter().find(|(_, equal)| !equal) {
                 return Err(Difference {
                     step: last,
-                    what: format!("the clerk's {name}, against the second model's device"),
+                    what: format!("the recorder's {name}, against the second model's device"),
                     expected: "equal".to_string(),
                     got: "different".to_string(),
                 });
@@ -429,7 +435,7 @@ impl Pair {
         self.finish()
     }
 
-    /// The state words, their margins and the report of open blocks.
+    /// The state words, their margins and the report of unprotected blocks.
     fn check_state(&mut self, step: usize) -> Result<(), Difference> {
         let expected = match (&self.device, &self.start) {
             (Some(device), _) => state::encode(device).to_vec(),
@@ -451,14 +457,14 @@ impl Pair {
             }
         }
         let expected = match &self.device {
-            Some(device) => library::open_report(device.open_report()),
+            Some(device) => library::unprotected_report(device.unprotected_report()),
             None => library::refused(2),
         };
         let got = library::report(self.state.first(self.state_count));
         if expected != got {
             let text = |report: u64| {
                 format!(
-                    "refusal {}, {} open, lowest {}",
+                    "refusal {}, {} unprotected, lowest {}",
                     report >> 32,
                     report >> 16 & 0xFFFF,
                     report & 0xFFFF
@@ -466,7 +472,7 @@ impl Pair {
             };
             return Err(Difference {
                 step,
-                what: "report of open blocks after the step".to_string(),
+                what: "report of unprotected blocks after the step".to_string(),
                 expected: text(expected),
                 got: text(got),
             });

@@ -11,7 +11,7 @@
 
 static const uint64_t steps[] = {
     M58_SUPPLY(1),
-    M58_WRITE(0x000040, 0x0060), M58_WRITE(0x000040, 0x00D0), /* open block 4 */
+    M58_WRITE(0x000040, 0x0060), M58_WRITE(0x000040, 0x00D0), /* unprotect block 4 */
     M58_WRITE(0x000041, 0x0040), M58_WRITE(0x000041, 0x1234), /* program a word */
     M58_READ(0x000041), M58_WORK(5), M58_READ(0x000041),
     M58_WRITE(0x000000, 0x00FF), /* bank 0 to array mode */

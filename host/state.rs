@@ -11,7 +11,7 @@
 //! | 21 to 23 | suspended program: 0; 1, location, data                     |
 //! | 24 to 26 | suspended erase: 0; 1, block, words done                    |
 //! | 27 to 30 | SR5, SR4, SR3, SR1                                          |
-//! | 31 to 35 | bit b % 64 of word b / 64 is 1 where block b is open        |
+//! | 31 to 35 | bit b % 64 of word b / 64 is 1 where block b is unprotected |
 //! | 36, 37   | configuration register, supply                              |
 //!
 //! Unused places are 0.
@@ -71,8 +71,8 @@ pub fn encode(device: &Device) -> Words {
     {
         *word = u64::from(flag);
     }
-    for (block, &open) in device.open.iter().enumerate() {
-        words[PROTECTION + block / 64] |= u64::from(open) << (block % 64);
+    for (block, &unprotected) in device.unprotected.iter().enumerate() {
+        words[PROTECTION + block / 64] |= u64::from(unprotected) << (block % 64);
     }
     words[CONFIGURATION] = u64::from(device.configuration);
     words[SUPPLY] = u64::from(device.supply);
@@ -87,7 +87,7 @@ fn put_erase(words: &mut Words, at: usize, kind: u64, erase: Erase) {
     words[at..at + 3].copy_from_slice(&[kind, u64::from(erase.block), u64::from(erase.done)]);
 }
 
-/// The device of some state words, well made or not; none where the words are
+/// The device of some state words, well formed or not; none where the words are
 /// those of no device at all: another count than 38, a number that stands for
 /// nothing, or an unused place that is not 0.
 pub fn decode(words: &[u64]) -> Option<Device> {
@@ -102,9 +102,9 @@ pub fn decode(words: &[u64]) -> Option<Device> {
             _ => return None,
         };
     }
-    let mut open = [false; BLOCKS];
-    for (block, open) in open.iter_mut().enumerate() {
-        *open = words[PROTECTION + block / 64] >> (block % 64) & 1 == 1;
+    let mut unprotected = [false; BLOCKS];
+    for (block, unprotected) in unprotected.iter_mut().enumerate() {
+        *unprotected = words[PROTECTION + block / 64] >> (block % 64) & 1 == 1;
     }
     if words[CONFIGURATION - 1] >> (BLOCKS % 64) != 0 {
         return None;
@@ -141,7 +141,7 @@ pub fn decode(words: &[u64]) -> Option<Device> {
             sr3: flag(words[FLAGS + 2])?,
             sr1: flag(words[FLAGS + 3])?,
         },
-        open,
+        unprotected,
         configuration: u16::try_from(words[CONFIGURATION]).ok()?,
         supply: flag(words[SUPPLY])?,
     })
@@ -194,7 +194,7 @@ pub fn name(word: usize) -> String {
             ],
         ),
         27..=30 => at(FLAGS, &["SR5", "SR4", "SR3", "SR1"]),
-        31..=35 => format!("open blocks from {}", 64 * (word - PROTECTION)),
+        31..=35 => format!("unprotected blocks from {}", 64 * (word - PROTECTION)),
         CONFIGURATION => "configuration register".to_string(),
         SUPPLY => "supply".to_string(),
         _ => "past the state".to_string(),

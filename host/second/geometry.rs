@@ -139,7 +139,7 @@ impl Part {
         &MAPS[self as usize]
     }
 
-    /// The words of the lent array, as the blocks add up.
+    /// The words of the borrowed array, as the blocks add up.
     pub fn array_length(self) -> usize {
         self.map().length as usize
     }

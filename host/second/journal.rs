@@ -1,4 +1,4 @@
-//! The clerk of document 01, "The journal". He is told the part and the steps
+//! The recorder of document 01, "The journal" (there: the clerk). It is told the part and the steps
 //! "but no device, array or answer"; nothing here comes from the model.
 
 #![allow(dead_code)] // a program that takes this module in need not use all of it
@@ -49,10 +49,10 @@ enum Setup {
 
 /// "He holds supply, the open blocks, the set-up and the journal".
 #[derive(Clone, Debug)]
-pub struct Clerk {
+pub struct Recorder {
     part: Part,
     supply: bool,
-    open: [bool; BLOCKS],
+    unprotected: [bool; BLOCKS],
     setup: Option<Setup>,
     entries: Vec<Entry>,
     /// The places in `entries` of what runs or is suspended, at most two; kept
@@ -60,14 +60,14 @@ pub struct Clerk {
     live: Vec<usize>,
 }
 
-impl Clerk {
+impl Recorder {
     /// "He begins with supply off, no block open, no set-up and no entry." The
     /// part is 0 to 3; another number panics.
-    pub fn new(part: u32) -> Clerk {
-        Clerk {
+    pub fn new(part: u32) -> Recorder {
+        Recorder {
             part: Part::from_number(part).expect("a part is 0 to 3"),
             supply: false,
-            open: [false; BLOCKS],
+            unprotected: [false; BLOCKS],
             setup: None,
             entries: Vec::new(),
             live: Vec::new(),
@@ -83,8 +83,8 @@ impl Clerk {
         self.supply
     }
 
-    pub fn open_blocks(&self) -> &[bool; BLOCKS] {
-        &self.open
+    pub fn unprotected_blocks(&self) -> &[bool; BLOCKS] {
+        &self.unprotected
     }
 
     pub fn set_up_pending(&self) -> bool {
@@ -115,7 +115,7 @@ impl Clerk {
             // "Reset: every block is shut, the set-up ends, what runs or is
             // suspended is broken off."
             Step::Reset => {
-                self.open = [false; BLOCKS];
+                self.unprotected = [false; BLOCKS];
                 self.setup = None;
                 for index in self.live.drain(..) {
                     self.entries[index].state = State::BrokenOff;
@@ -217,8 +217,8 @@ impl Clerk {
         match (setup, data % 256) {
             // "Lock: the protection commands D0h and 01h open and shut the
             // block."
-            (Setup::Lock, 0xD0) => self.open[block as usize] = true,
-            (Setup::Lock, 0x01) => self.open[block as usize] = false,
+            (Setup::Lock, 0xD0) => self.unprotected[block as usize] = true,
+            (Setup::Lock, 0x01) => self.unprotected[block as usize] = false,
             // "Program with any data, erase with D0h"
             (Setup::Program, _) => self.accept(block, Kind::Program { location, data }),
             (Setup::Erase, 0xD0) => self.accept(block, Kind::Erase { block }),
@@ -234,7 +234,7 @@ impl Clerk {
         let erase_suspended = self
             .find(|entry| entry.kind == own_erase && entry.state == State::Suspended)
             .is_some();
-        if self.supply && self.open[block as usize] && !erase_suspended {
+        if self.supply && self.unprotected[block as usize] && !erase_suspended {
             self.live.push(self.entries.len());
             self.entries.push(Entry {
                 kind,

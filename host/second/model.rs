@@ -62,7 +62,7 @@ pub struct Answer {
 /// "how many blocks are open and the lowest open one, 259 if none". Both
 /// numbers are 0 when refused ("its number beside the answer 0").
 #[derive(Clone, Copy, Debug, PartialEq, Eq)]
-pub struct OpenReport {
+pub struct UnprotectedReport {
     pub count: u32,
     pub lowest: u32,
     pub refusal: u8,
@@ -78,7 +78,7 @@ pub struct Device {
     pub suspended_program: Option<Program>,
     pub suspended_erase: Option<Erase>,
     pub flags: Flags,
-    pub open: [bool; BLOCKS],
+    pub unprotected: [bool; BLOCKS],
     pub configuration: u16,
     pub supply: bool,
 }
@@ -117,14 +117,14 @@ impl Device {
             suspended_program: None,
             suspended_erase: None,
             flags: Flags::default(),
-            open: [false; BLOCKS],
+            unprotected: [false; BLOCKS],
             configuration: 0xFFFF,
             supply: false,
         }
     }
 
     /// "A state is well made when", sentence by sentence.
-    pub fn well_made(&self) -> bool {
+    pub fn well_formed(&self) -> bool {
         // "a running operation means no set-up pending and no suspended program"
         if self.running.is_some() && (self.setup.is_some() || self.suspended_program.is_some()) {
             return false;
@@ -169,7 +169,7 @@ impl Device {
         true
     }
 
-    /// One step on the lent array. "A refusal gives its number beside the
+    /// One step on the borrowed array. "A refusal gives its number beside the
     /// answer 0, gives back the state it got and leaves all lent memory."
     pub fn step(&mut self, array: &mut [u16], step: Step) -> Answer {
         let refusal = self.refusal(array.len(), step);
@@ -197,17 +197,21 @@ impl Device {
 
     /// "The open report gives how many blocks are open and the lowest open
     /// one, 259 if none."
-    pub fn open_report(&self) -> OpenReport {
-        if !self.well_made() {
-            return OpenReport {
+    pub fn unprotected_report(&self) -> UnprotectedReport {
+        if !self.well_formed() {
+            return UnprotectedReport {
                 count: 0,
                 lowest: 0,
                 refusal: 2,
             };
         }
-        let count = self.open.iter().filter(|&&open| open).count();
-        let lowest = self.open.iter().position(|&open| open);
-        OpenReport {
+        let count = self
+            .unprotected
+            .iter()
+            .filter(|&&unprotected| unprotected)
+            .count();
+        let lowest = self.unprotected.iter().position(|&unprotected| unprotected);
+        UnprotectedReport {
             count: count as u32,
             lowest: lowest.unwrap_or(BLOCKS) as u32,
             refusal: 0,
@@ -219,7 +223,7 @@ impl Device {
         if length != self.part.array_length() {
             return 1;
         }
-        if !self.well_made() {
+        if !self.well_formed() {
             return 2;
         }
         match step {
@@ -285,7 +289,7 @@ impl Device {
             1 if self.part.is_top() => 0x885E,
             1 => 0x885F,
             5 => self.configuration,
-            _ if block_offset == 2 && !self.open[place.block as usize] => 0x0001,
+            _ if block_offset == 2 && !self.unprotected[place.block as usize] => 0x0001,
             _ => 0x0000,
         }
     }
@@ -353,7 +357,7 @@ impl Device {
         let location = self.part.location(address);
         let Place { block, bank } = self.place(location);
         let command = data % 256;
-        let open = self.open[block as usize];
+        let unprotected = self.unprotected[block as usize];
         self.set_mode(bank, Mode::Status);
         match setup {
             // "program, the whole word is data"
@@ -361,7 +365,7 @@ impl Device {
                 if !self.supply {
                     self.flags.sr4 = true;
                     self.flags.sr3 = true;
-                } else if !open {
+                } else if !unprotected {
                     self.flags.sr4 = true;
                     self.flags.sr1 = true;
                 } else if self.erase_suspended_in(block) {
@@ -377,7 +381,7 @@ impl Device {
                 } else if !self.supply {
                     self.flags.sr5 = true;
                     self.flags.sr3 = true;
-                } else if !open {
+                } else if !unprotected {
                     self.flags.sr5 = true;
                     self.flags.sr1 = true;
                 } else {
@@ -387,8 +391,8 @@ impl Device {
             }
             // "Supply is not looked at."
             Setup::Lock => match command {
-                0x01 => self.open[block as usize] = false,
-                0xD0 => self.open[block as usize] = true,
+                0x01 => self.unprotected[block as usize] = false,
+                0xD0 => self.unprotected[block as usize] = true,
                 // "the address modulo 65,536": the address, not the location
                 0x03 => self.configuration = (address % 65_536) as u16,
                 _ => {

@@ -1,6 +1,6 @@
 //! Self-test of the second model: document 01's twelve proved cases, its
 //! worked script, the refusal card, and random lists of steps whose array is
-//! compared with the clerk's reading. Prints one line; panics on a difference.
+//! compared with the recorder's reading. Prints one line; panics on a difference.
 //!
 //!     rustc -O --edition 2021 selftest.rs -o selftest
 //!     ./selftest [seed]
@@ -12,8 +12,8 @@ mod script;
 mod steps;
 
 use geometry::{Part, ADDRESSES, BANKS, BLOCKS};
-use journal::{Clerk, State};
-use model::{lookup, Answer, Device, Erase, Mode, OpenReport, Operation, Program, Setup};
+use journal::{Recorder, State};
+use model::{lookup, Answer, Device, Erase, Mode, Operation, Program, Setup, UnprotectedReport};
 use script::transcript;
 use steps::Step;
 
@@ -30,7 +30,7 @@ fn main() {
     let locations = check_geometry();
     let cases = check_proved_cases();
     let errors = check_errors_that_look_right();
-    let states = check_ill_made_states();
+    let states = check_malformed_states();
     check_reads();
     check_modes_and_flags();
     check_refusals();
@@ -49,7 +49,7 @@ fn main() {
     }
     println!(
         "selftest ok: seed {seed}, {cases} proved cases, {errors} errors that look right, \
-         {states} ill-made states, {scripts} scripts, {locations} locations, {}",
+         {states} malformed states, {scripts} scripts, {locations} locations, {}",
         tally.text()
     );
 }
@@ -99,12 +99,12 @@ impl Bench {
         Bench { device, array }
     }
 
-    /// A bench bottom part of FFFFh words with supply on and some open blocks.
+    /// A bench bottom part of FFFFh words with supply on and some unprotected blocks.
     fn ready(blocks: &[u32]) -> Bench {
         let mut bench = Bench::new(2, 0xFFFF);
         bench.step(Step::Supply(true));
         for &block in blocks {
-            bench.open(block);
+            bench.unprotect(block);
         }
         bench
     }
@@ -112,7 +112,7 @@ impl Bench {
     fn step(&mut self, step: Step) -> u16 {
         let answer = self.device.step(&mut self.array, step);
         assert_eq!(answer.refusal, 0, "{step:?}");
-        assert!(self.device.well_made(), "{step:?}");
+        assert!(self.device.well_formed(), "{step:?}");
         answer.value
     }
 
@@ -134,7 +134,7 @@ impl Bench {
         self.device.part.block(block).unwrap().start
     }
 
-    fn open(&mut self, block: u32) {
+    fn unprotect(&mut self, block: u32) {
         self.write(self.start(block), &[0x60, 0xD0]);
     }
 
@@ -249,7 +249,7 @@ fn check_proved_cases() -> u32 {
     assert!(bench.array[0x40..0x4A].iter().all(|&word| word == 0xFFFF));
     assert!(bench.array[0x4A..0x80].iter().all(|&word| word == 0x0000));
 
-    // (12) set-up 40h, then FFh to an open block: 00FF is programmed, no mode
+    // (12) set-up 40h, then FFh to an unprotected block: 00FF is programmed, no mode
     // goes to array
     let mut bench = Bench::ready(&[4]);
     for bank in 0..BANKS as u32 {
@@ -280,7 +280,7 @@ fn check_errors_that_look_right() -> u32 {
         assert_eq!(lookup(3, 0x3FFF - address), (0, block, 0));
     }
 
-    // A block shut during its suspended erase is still erased.
+    // A block protected during its suspended erase is still erased.
     let mut bench = Bench::ready(&[4]);
     bench.array[0x40..0x80].fill(0x0000);
     bench.write(0x40, &[0x20, 0xD0]);
@@ -301,16 +301,16 @@ fn check_errors_that_look_right() -> u32 {
     }
     assert_eq!(bench.array[0x7F], 0x00F0);
 
-    // Reset shuts opened blocks and keeps the supply.
+    // Reset protects unprotected blocks and keeps the supply.
     let mut bench = Bench::ready(&[4, 258]);
-    let report = |count, lowest, refusal| OpenReport {
+    let report = |count, lowest, refusal| UnprotectedReport {
         count,
         lowest,
         refusal,
     };
-    assert_eq!(bench.device.open_report(), report(2, 4, 0));
+    assert_eq!(bench.device.unprotected_report(), report(2, 4, 0));
     bench.step(Step::Reset);
-    assert_eq!(bench.device.open_report(), report(0, 259, 0));
+    assert_eq!(bench.device.unprotected_report(), report(0, 259, 0));
     let mut fresh = Device::power_up(2);
     assert_ne!(bench.device, fresh);
     fresh.supply = true;
@@ -318,9 +318,9 @@ fn check_errors_that_look_right() -> u32 {
     5
 }
 
-/// States that break one clause of "well made" each: all five steps and the
-/// open report refuse 2. Gives their number.
-fn check_ill_made_states() -> u32 {
+/// States that break one clause of "well made" (document 01) each: all five steps and the
+/// report of unprotected blocks refuse 2. Gives their number.
+fn check_malformed_states() -> u32 {
     let program = |location| Program { location, data: 7 };
     let erase = |block, done| Erase { block, done };
     let run_program = |location| Some(Operation::Program(program(location)));
@@ -364,8 +364,8 @@ fn check_ill_made_states() -> u32 {
     for change in ill {
         let mut device = Device::power_up(2);
         change(&mut device);
-        assert!(!device.well_made(), "{device:?}");
-        let report = device.open_report();
+        assert!(!device.well_formed(), "{device:?}");
+        let report = device.unprotected_report();
         assert_eq!((report.count, report.lowest, report.refusal), (0, 0, 2));
         for step in steps {
             refused(&device, 16_384, step, 2);
@@ -388,8 +388,8 @@ fn check_ill_made_states() -> u32 {
     for change in well {
         let mut device = Device::power_up(2);
         change(&mut device);
-        assert!(device.well_made(), "{device:?}");
-        assert_eq!(device.open_report().refusal, 0);
+        assert!(device.well_formed(), "{device:?}");
+        assert_eq!(device.unprotected_report().refusal, 0);
     }
     ill.len() as u32
 }
@@ -408,8 +408,8 @@ fn refused(device: &Device, length: usize, step: Step, refusal: u8) {
 fn check_reads() {
     for (part, device_code) in [(2, 0x885F), (3, 0x885E)] {
         let mut bench = Bench::new(part, 0x1234);
-        let open = bench.device.part.place(0x410).unwrap().block;
-        bench.open(open);
+        let unprotected = bench.device.part.place(0x410).unwrap().block;
+        bench.unprotect(unprotected);
         bench.write(0xABC405, &[0x60, 0x03]);
         bench.write(0x400, &[0x90]);
         for offset in 0..1024 {
@@ -419,7 +419,7 @@ fn check_reads() {
                 0 => 0x0020,
                 1 => device_code,
                 5 => 0xC405,
-                _ if 0x400 + offset == block.start + 2 => u16::from(place.block != open),
+                _ if 0x400 + offset == block.start + 2 => u16::from(place.block != unprotected),
                 _ => 0,
             };
             assert_eq!(bench.read(0x400 + offset), expected);
@@ -461,7 +461,7 @@ fn check_modes_and_flags() {
     assert_eq!((bench.mode(1), bench.mode(2)), (Mode::Status, Mode::Status));
     // Flags stay until 50h or reset and block no later command.
     assert_eq!(bench.read(0x800), 0x92);
-    bench.open(4);
+    bench.unprotect(4);
     bench.write(0x40, &[0x20, 0xD0]);
     assert_eq!((bench.read(0x40), bench.read(0x800)), (0x12, 0x13));
     // While it runs: no set-up, no clearing, no mode but by the four commands.
@@ -626,26 +626,26 @@ impl Tally {
 }
 
 /// Plays one random list on a random array; the array after it must be the
-/// clerk's reading of the journal.
+/// recorder's reading of the journal.
 fn check_list(random: &mut Random, part: u32, longest: u32, tally: &mut Tally) {
     let mut device = Device::power_up(part);
     let start: Vec<u16> = (0..device.part.array_length())
         .map(|_| random.word())
         .collect();
     let mut array = start.clone();
-    let mut clerk = Clerk::new(part);
+    let mut recorder = Recorder::new(part);
     let mut units = 0;
     for step in random_list(random, device.part, longest) {
         let before = device.clone();
         let answer = device.step(&mut array, step);
-        clerk.note(step);
+        recorder.note(step);
 
-        assert!(device.well_made(), "{step:?} on {before:?}");
-        assert_eq!(device.open, *clerk.open_blocks());
-        assert_eq!(device.supply, clerk.supply());
-        assert_eq!(device.setup.is_some(), clerk.set_up_pending());
-        assert_eq!(device.running.is_some(), clerk.running().is_some());
-        if let (Some(Operation::Erase(erase)), Some(entry)) = (device.running, clerk.running()) {
+        assert!(device.well_formed(), "{step:?} on {before:?}");
+        assert_eq!(device.unprotected, *recorder.unprotected_blocks());
+        assert_eq!(device.supply, recorder.supply());
+        assert_eq!(device.setup.is_some(), recorder.set_up_pending());
+        assert_eq!(device.running.is_some(), recorder.running().is_some());
+        if let (Some(Operation::Erase(erase)), Some(entry)) = (device.running, recorder.running()) {
             assert_eq!(erase.done, entry.units);
         }
         if answer.refusal != 0 {
@@ -660,15 +660,18 @@ fn check_list(random: &mut Random, part: u32, longest: u32, tally: &mut Tally) {
         }
         tally.steps += 1;
     }
-    assert!(array == clerk.apply(&start), "the array is not the journal");
+    assert!(
+        array == recorder.apply(&start),
+        "the array is not the journal"
+    );
 
     // The answers of the work steps are the journal's units.
-    let noted: u64 = clerk.entries().iter().map(|e| u64::from(e.units)).sum();
+    let noted: u64 = recorder.entries().iter().map(|e| u64::from(e.units)).sum();
     assert_eq!(units, noted);
 
     tally.lists += 1;
     tally.units += units;
-    for entry in clerk.entries() {
+    for entry in recorder.entries() {
         let counter = match (entry.is_program(), entry.state) {
             (true, State::Finished) => &mut tally.finished_programs,
             (true, _) => &mut tally.unfinished_programs,

@@ -1,4 +1,4 @@
-//! The five steps of document 01, shared by the device and the clerk.
+//! The five steps of document 01, shared by the device and the recorder.
 
 #![allow(dead_code)] // a program that takes this module in need not use all of it
 
