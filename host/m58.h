@@ -17,7 +17,8 @@
  * 0 to 258 and the bank 0 to 15. Beside any refusal both are 0, which by
  * itself cannot be told from block 0 or bank 0.
  *
- * To link:  cc prog.c libm58.a
+ * To link:  cc prog.c libm58.a      (x86-64 Linux only: rt staticlib writes
+ * the library for no other machine)
  */
 #ifndef M58_H
 #define M58_H
@@ -64,20 +65,43 @@ uint32_t m58_lookup_bank(uint32_t part, uint32_t address);
  * writes one answer for each. A long list may be played in pieces: the next
  * call goes on with the same state words and the same array.
  *
- * A step is one uint64_t, made by the macros below, which keep the lower 32
- * bits of an address or count and the lower 16 of the data. An answer is one
+ * A step is one uint64_t, made by the macros below. An answer is one
  * uint64_t: the refusal's number in the upper half, the value in the lower
  * (the word that was read, the units of work that were done, else 0). A
  * refused step changes neither the state nor the array.
  *
- * Pointers may not overlap. A null pointer is good where its count is 0.
+ * What the state words mean is the library's own matter, and may change from
+ * version to version: keep them only between calls of one library, and copy
+ * them as a whole.
+ *
+ * MEMORY. Each pointer is aligned as its type is (8 bytes for uint64_t, 2 for
+ * uint16_t). Each count is a number of elements, not of bytes. State, steps,
+ * answers and array may not overlap. A null pointer is good where its count is
+ * 0. What a call only writes need not hold anything before it: the answers,
+ * and the state words of m58_power_up. The state words of m58_run and
+ * m58_report, the steps and the array are read.
+ *
+ * THREADS. The functions keep no state of their own: calls on different
+ * memory may run at once. A call has its state, answers and array to itself,
+ * except that any number of calls of m58_report may read the same state words
+ * at once, and any number of calls of m58_run the same steps.
  */
 #define M58_STATE_WORDS 38
 
-#define M58_READ(address)        ((uint64_t)(uint32_t)(address))
+/*
+ * The steps, as constant expressions where the arguments are. An address or a
+ * count that 32 bits do not hold, also a negative one, is encoded as
+ * 0xFFFFFFFF, which is refused as it would be (3 for an address, 4 for a
+ * count): it never becomes a small one that is good. So these arguments are
+ * evaluated twice. Data are the lower 16 bits of their argument, as a part has
+ * 16 data lines. Supply is on where its argument is not 0.
+ */
+#define M58_CLAMPED(number) \
+    ((uint64_t)(number) >> 32 ? UINT64_C(0xFFFFFFFF) : (uint64_t)(number))
+#define M58_READ(address)        M58_CLAMPED(address)
 #define M58_WRITE(address, data) \
-    ((UINT64_C(1) << 48) | ((uint64_t)(uint16_t)(data) << 32) | (uint32_t)(address))
-#define M58_WORK(count)          ((UINT64_C(2) << 48) | (uint32_t)(count))
+    ((UINT64_C(1) << 48) | ((uint64_t)(uint16_t)(data) << 32) | M58_CLAMPED(address))
+#define M58_WORK(count)          ((UINT64_C(2) << 48) | M58_CLAMPED(count))
 #define M58_SUPPLY(on)           ((UINT64_C(3) << 48) | ((on) ? 1u : 0u))
 #define M58_RESET                (UINT64_C(4) << 48)
 
@@ -101,9 +125,14 @@ uint32_t m58_power_up(uint32_t part, uint64_t *state, size_t state_count);
  * Returns how many steps were played: all of them, or fewer where
  * answer_count is less than step_count, or up to the first number that is no
  * step (made by none of the macros). Answers past that number stay as they
- * were. Where the state words are not those of a device, every step is refused
- * (2, or 1 where the array's length is not the part's either) and the state
- * stays as it was.
+ * were.
+ *
+ * Where the state words are not those of a device (also where state_count is
+ * not M58_STATE_WORDS), every step is refused and the state stays as it was.
+ * The refusal is 1 where array_count is not the length of the part that
+ * state[0] names, else 2. A state[0] that names no part, above M58_BENCH_TOP,
+ * counts as M58_BENCH_TOP here; where state_count is 0, the part is
+ * M58_FULL_BOTTOM.
  */
 size_t m58_run(uint64_t *state, size_t state_count, const uint64_t *steps,
                size_t step_count, uint64_t *answers, size_t answer_count,

@@ -1,0 +1,131 @@
+/*
+ * Checks what m58.h says of its macros, and of state words that are those of
+ * no device. Prints one line; ends with 1 where something is otherwise.
+ *
+ * To build:  cc header_checks.c libm58.a
+ */
+#include <inttypes.h>
+#include <stdio.h>
+#include <stdlib.h>
+
+#include "m58.h"
+
+static unsigned checks, wrong;
+
+static void same(const char *what, uint64_t due, uint64_t got)
+{
+    checks++;
+    if (got == due)
+        return;
+    wrong++;
+    printf("header_checks: %s: %#" PRIx64 " is due, not %#" PRIx64 "\n", what, due, got);
+}
+#define SAME(due, got) same(#got, due, got)
+
+/* The macros make constant expressions: these are initialisers of static memory. */
+static const uint64_t constant[] = {
+    M58_READ(0x123456), M58_WRITE(0x123456, 0xABCD), M58_WORK(7), M58_SUPPLY(2), M58_SUPPLY(0),
+    M58_RESET, M58_READ(UINT64_C(0x100000041)), M58_WORK(UINT64_C(0x100000005))
+};
+
+static void check_encoding(void)
+{
+    SAME(UINT64_C(0x0000000000123456), constant[0]);
+    SAME(UINT64_C(0x0001ABCD00123456), constant[1]);
+    SAME(UINT64_C(0x0002000000000007), constant[2]);
+    SAME(UINT64_C(0x0003000000000001), constant[3]);
+    SAME(UINT64_C(0x0003000000000000), constant[4]);
+    SAME(UINT64_C(0x0004000000000000), constant[5]);
+    SAME(UINT64_C(0x00000000FFFFFFFF), constant[6]);
+    SAME(UINT64_C(0x00020000FFFFFFFF), constant[7]);
+}
+
+/* What 32 bits hold stays; what they do not is all ones, whatever its type. */
+static void check_clamping(void)
+{
+    const uint64_t most = UINT64_C(0xFFFFFFFF);
+    const uint64_t wide[] = { 0, 1, 0xFFFFFF, 0x1000000, most - 1, most };
+    const uint64_t too_wide[] = { most + 1, most + 2, most + 0x42, UINT64_C(1) << 40,
+                                  UINT64_C(1) << 48, UINT64_C(1) << 63, UINT64_MAX };
+    for (size_t i = 0; i < sizeof wide / sizeof wide[0]; i++) {
+        SAME(wide[i], M58_READ(wide[i]));
+        SAME(UINT64_C(0x0001123400000000) | wide[i], M58_WRITE(wide[i], 0x1234));
+        SAME(UINT64_C(0x0002000000000000) | wide[i], M58_WORK(wide[i]));
+    }
+    for (size_t i = 0; i < sizeof too_wide / sizeof too_wide[0]; i++) {
+        SAME(most, M58_READ(too_wide[i]));
+        SAME(UINT64_C(0x00011234FFFFFFFF), M58_WRITE(too_wide[i], 0x1234));
+        SAME(UINT64_C(0x00020000FFFFFFFF), M58_WORK(too_wide[i]));
+    }
+    const uint8_t byte = 0x41;
+    const uint32_t word = 0xFFFFFFFF;
+    const int negative = -1;
+    const int64_t far_negative = INT64_MIN;
+    const size_t size = 0x41;
+    SAME(0x41, M58_READ(byte));
+    SAME(most, M58_READ(word));
+    SAME(most, M58_READ(negative));
+    SAME(most, M58_READ(far_negative));
+    SAME(0x41, M58_READ(size));
+    /* an argument that is no single word, and data beyond 16 bits */
+    SAME(0x43, M58_READ(size | 2));
+    SAME(0x41, M58_READ(size ? size : 0));
+    SAME(UINT64_C(0x0001234500000041), M58_WRITE(size, 0x12345));
+    SAME(UINT64_C(0x0003000000000001), M58_SUPPLY(far_negative));
+}
+
+static uint16_t *array;
+
+/* The refusal of the one step, on so many words of the array. */
+static uint64_t refusal(uint64_t *state, size_t state_count, uint64_t step, size_t words)
+{
+    uint64_t answer = UINT64_MAX;
+    size_t played = m58_run(state, state_count, &step, 1, &answer, 1, array, words);
+    same("steps played", 1, played);
+    return M58_ANSWER_REFUSAL(answer);
+}
+
+static void check_refusals(void)
+{
+    uint64_t state[M58_STATE_WORDS];
+    same("power-up", 1, m58_power_up(M58_BENCH_TOP, state, M58_STATE_WORDS));
+    SAME(M58_REFUSED_ADDRESS, refusal(state, M58_STATE_WORDS, constant[6], M58_BENCH_WORDS));
+    SAME(M58_REFUSED_ADDRESS, refusal(state, M58_STATE_WORDS, M58_WRITE(-1, 0x40), M58_BENCH_WORDS));
+    SAME(M58_REFUSED_COUNT, refusal(state, M58_STATE_WORDS, constant[7], M58_BENCH_WORDS));
+    SAME(M58_REFUSED_NOTHING, refusal(state, M58_STATE_WORDS, M58_WORK(65535), M58_BENCH_WORDS));
+    /* a first word that names no part counts as a bench top */
+    for (uint64_t part = 4; part != 0; part <<= 1) {
+        state[0] = part;
+        SAME(M58_REFUSED_STATE, refusal(state, M58_STATE_WORDS, M58_RESET, M58_BENCH_WORDS));
+        SAME(M58_REFUSED_ARRAY, refusal(state, M58_STATE_WORDS, M58_RESET, M58_FULL_WORDS));
+        same("the first word", part, state[0]);
+    }
+    /* a count that is not M58_STATE_WORDS: the first word still names the part */
+    for (uint64_t part = 0; part < M58_PARTS; part++) {
+        size_t own = part < M58_BENCH_BOTTOM ? M58_FULL_WORDS : M58_BENCH_WORDS;
+        size_t other = part < M58_BENCH_BOTTOM ? M58_BENCH_WORDS : M58_FULL_WORDS;
+        same("power-up", 1, m58_power_up((uint32_t)part, state, M58_STATE_WORDS));
+        SAME(M58_REFUSED_STATE, refusal(state, M58_STATE_WORDS - 1, M58_RESET, own));
+        SAME(M58_REFUSED_ARRAY, refusal(state, M58_STATE_WORDS - 1, M58_RESET, other));
+        SAME(M58_REFUSED_STATE, refusal(state, 1, M58_RESET, own));
+        SAME((uint64_t)M58_REFUSED_STATE << 32, m58_report(state, M58_STATE_WORDS - 1));
+    }
+    /* no state words at all: a full bottom part */
+    SAME(M58_REFUSED_STATE, refusal(NULL, 0, M58_RESET, M58_FULL_WORDS));
+    SAME(M58_REFUSED_ARRAY, refusal(NULL, 0, M58_RESET, M58_BENCH_WORDS));
+}
+
+int main(void)
+{
+    array = calloc(M58_FULL_WORDS, sizeof *array);
+    if (array == NULL) {
+        fputs("header_checks: no memory for the array\n", stderr);
+        return 1;
+    }
+    check_encoding();
+    check_clamping();
+    check_refusals();
+    free(array);
+    printf("header_checks: %u checks, %u wrong\n", checks, wrong);
+    return wrong != 0;
+}
