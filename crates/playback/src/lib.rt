@@ -6,7 +6,6 @@ use semantics::Decoded;
 use semantics::State;
 use semantics::Step;
 ghost use mathlib.Core.Path.{_≡_};
-ghost use Prim.Native.Nat.{min};
 ghost use Rattle.semantics.specs.Encoding.{decode};
 ghost use Rattle.playback.specs.Playback.{answerCode, Played};
 
@@ -72,13 +71,6 @@ fn ended(played: usize, state: State) -> RunEnd
     }
 }
 
-// The lesser of two.
-fn least(a: usize, b: usize) -> usize
-    ensures { λ r. ⌜ r ≡ min a b ⌝ }
-{
-    if a < b { a } else { b }
-}
-
 // Plays the steps that the numbers encode, one after the other, and writes the answer of each into its place of the room; stops at the first number that
 // encodes no step, and where the room ends. A list goes on with the device that is given back. What is refused whatever the step is, is tested once; the state stands once, and is changed where it stands: what a write makes
 // of its view is put back field by field.
@@ -87,7 +79,7 @@ pub fn run(device: Device, steps: &[u64], answers: &mut [u64], array: &mut [u16]
 {
     let mut s = device.state;
     let refused = state::state_refusal(s, array.len());
-    let n = least(steps.len(), answers.len());
+    let n = working::least(steps.len(), answers.len());
     let mut i: usize = 0;
     while i < n {
         let Decoded::Valid(x) = decoded(steps[i]) else {

@@ -12,7 +12,8 @@ use lib.ListN.{length, getD, length-set, List·getD-eq-default}
 use lib.Pow.{pow-pos, pow-mono}
 use lib.Seq.{getD-set-same, getD-set-other}
 use Rattle.protection.specs.Words.{bit, bitAt, count, least, Least, withoutSpare}
-use Rattle.protection.specs.Digits.{order, same, bit-none, bit-low, count-same, count-add, count-none, ones-count, least-is, least-one, least-goes, zeros-least}
+use Rattle.geometry.specs.Laws.{order}
+use Rattle.protection.specs.Digits.{same, bit-none, bit-low, count-same, count-add, count-none, ones-count, least-is, least-one, least-goes, zeros-least}
 
 -- digit i of word j
 bit-at : (ws : List ℕ) (j i : ℕ) → i < 64 → bitAt ws (64 * j + i) ≡ bit (getD ws j 0) i

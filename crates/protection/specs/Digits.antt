@@ -6,7 +6,7 @@ use mathlib.Core.Logic.{_⊎_, inl, inr, _≢_}
 use mathlib.Core.Path.{_≡_, refl, sym, ap, ap₂, _∙_, subst, fun-ext}
 use native.Mathlib.Nat.{div-one, div-self, div-eq-of-lt, mod-lt, suc-add, zero-add, add-assoc, one-mul, pow-suc, mul-div-cancel, mul-mod-left, max-zero, max-eq-right}
 use native.Mathlib.Numerals.{add-one, one-add}
-use native.Mathlib.Decide.{decLt, ℕ-discrete}
+use native.Mathlib.Decide.{ℕ-discrete}
 use native.Mathlib.Omega.{arith}
 use lib.Arith.{lt-one}
 use lib.Bits.{bitOr, bitXor, differ, or-step, or-shr, or-lt, xor-step, xor-shr, xor-lt}
@@ -14,15 +14,8 @@ use lib.Count.{ones, ones-step, trailingZeros, under}
 use lib.Dec.{eqb, eqb·suc-zero, lit<}
 use lib.Pow.{pow-pos, pow-lt, shr-shr, shr-lt, shl-exact, field, mod-mod-pow}
 use borrow.Author.Tests.{eq-eqb, ne-eqb}
+use Rattle.geometry.specs.Laws.{order}
 use Rattle.protection.specs.Words.{bit, withBit, count, least, Least}
-
--- one of two numbers is the smaller, or they are equal
-pub order : (a b : ℕ) → (a < b) ⊎ (b ≤ a)
-order a b = go (decLt a b)
-  where
-    go : Dec (a < b) → (a < b) ⊎ (b ≤ a)
-    go (yes h) = inl h
-    go (no h) = inr (omega arith)
 
 -- two numbers are the same, or not
 pub same : (a b : ℕ) → (a ≡ b) ⊎ (a ≢ b)

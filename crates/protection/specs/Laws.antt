@@ -12,7 +12,8 @@ use lib.Pow.{pow-pos}
 use lib.Seq.{getD-set-same, getD-set-other, set-out}
 use borrow.Author.Tests.{eq-eqb, ne-eqb, lt-ltb, le-ltb, ltb-true}
 use Rattle.protection.specs.Words.{bit, bitAt, withBit, isUnprotected, withUnprotected, count, Least, unprotectedCount, lowestUnprotected, reportOf, spareZero, allProtected}
-use Rattle.protection.specs.Digits.{order, same, bit-lt, bit-none, with-same, with-other, with-lt, with-own, count-same, least-is, least-one, least-same}
+use Rattle.geometry.specs.Laws.{order}
+use Rattle.protection.specs.Digits.{same, bit-lt, bit-none, with-same, with-other, with-lt, with-own, count-same, least-is, least-one, least-same}
 
 -- ---- one block set or cleared
 

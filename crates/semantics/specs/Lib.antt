@@ -21,4 +21,8 @@ pub mod Theorem
 pub mod Standing
 pub mod Kept
 pub mod Held
-pub mod Consequences
+pub mod Refusals
+pub mod Leaves
+pub mod Modes
+pub mod Flags
+pub mod Progress

@@ -10,7 +10,7 @@ ghost use Rattle.semantics.specs.Working.{unitsDone, arrayAfter, workedOn};
 ghost use Rattle.working.specs.Array.{anded, filled};
 
 // The lesser of two.
-fn least(a: usize, b: usize) -> usize
+pub fn least(a: usize, b: usize) -> usize
     ensures { λ r. ⌜ r ≡ min a b ⌝ }
 {
     if a < b { a } else { b }

@@ -1,6 +1,6 @@
 -- `Device::step` meets its contract: each arm by its method; all but work leave the array. Assumes nothing.
 use mathlib.Core.Path.{sym}
-use Rattle.semantics.specs.Consequences.{read-changes-nothing, write-changes-no-word, supply-changes-no-word, reset-changes-no-word}
+use Rattle.semantics.specs.Leaves.{read-changes-nothing, write-changes-no-word, supply-changes-no-word, reset-changes-no-word}
 use borrow.Author.Needs.{needs}
 use Rattle.device.proofs.Device.step.Statement.{statement}
 use Rattle.device.proofs.Device.step.Tie as tie

@@ -1,0 +1,52 @@
+-- Which refusal comes, and that it changes nothing: document 01, "Refusal card".
+-- Assumes nothing.
+use mathlib.Core.Path.{_≡_, refl, sym, _∙_}
+use mathlib.Core.List.{List}
+use mathlib.Core.Bool.{Bool, true, false, cond, not}
+use Prim.Native.Nat.{ℕ, suc, _-_}
+use lib.Dec.{eqb, eqb·suc-zero}
+use lib.ListN.{length}
+use borrow.Author.Tests.{eqb-true, eq-eqb, ne-eqb}
+use Rattle.geometry.specs.Blocks.{words, blocks}
+use Rattle.semantics.specs.declared.State.{State}
+use Rattle.semantics.specs.declared.Step.{Step}
+use Rattle.semantics.specs.declared.Step.the-variants.{Read, Write, Work, Supply, Reset}
+use Rattle.semantics.specs.declared.Answer.the-variants.{Refused}
+use Rattle.semantics.specs.State.{geometry}
+use Rattle.semantics.specs.WellFormed.{wellFormed}
+use Rattle.semantics.specs.Steps.{stateRefusal, firstRefusal, refusalOf, next, accepted, stepOf, arrayOf, numberOf, reportedOf}
+
+-- "A refusal gives its number beside the answer 0, gives back the state it got and leaves all lent memory."
+pub refusal-changes-nothing : (s : State) (xs : List ℕ) (x : Step) (n : ℕ) → refusalOf s (length xs) x ≡ suc n → (stepOf s xs x ≡ next s (Refused (suc n))) × (arrayOf s xs x ≡ xs)
+unfolding stepOf arrayOf
+refusal-changes-nothing s xs x n h = (rw (h, eqb·suc-zero n), rw (h, eqb·suc-zero n))
+
+-- the number of the answer is the refusal, 0 where there is none
+pub answer-number : (s : State) (xs : List ℕ) (x : Step) → numberOf (stepOf s xs x .answer) ≡ refusalOf s (length xs) x
+unfolding stepOf accepted
+answer-number s xs x = go (eqb (refusalOf s (length xs) x) 0) refl
+  where
+    none : (x : Step) → numberOf (accepted s xs x .answer) ≡ 0
+    none (Read a) = refl
+    none (Write a w) = refl
+    none (Work n) = refl
+    none (Supply on) = refl
+    none Reset = refl
+
+    go : (b : Bool) → eqb (refusalOf s (length xs) x) 0 ≡ b → numberOf ((cond b (accepted s xs x) (next s (Refused (refusalOf s (length xs) x)))) .answer) ≡ refusalOf s (length xs) x
+    go true e = none x ∙ sym (eqb-true (refusalOf s (length xs) x) 0 e)
+    go false e = refl
+
+-- "array length is not 256u": every step is refused 1, whatever the state
+pub refusal-1 : (s : State) (n : ℕ) (x : Step) → (n ≡ words (geometry s) → ⊥) → refusalOf s n x ≡ 1
+unfolding refusalOf firstRefusal stateRefusal
+refusal-1 s n x h = rw (ne-eqb n (words (geometry s)) h)
+
+-- "state not well made", on an array of the part's length: every step is refused 2, and so is the report of unprotected blocks
+pub refusal-2 : (s : State) (n : ℕ) (x : Step) → n ≡ words (geometry s) → wellFormed s ≡ false → refusalOf s n x ≡ 2
+unfolding refusalOf firstRefusal stateRefusal
+refusal-2 s n x h f = rw (eq-eqb n (words (geometry s)) h, f)
+
+pub report-refused : (s : State) → wellFormed s ≡ false → reportedOf s ≡ record { refusal = 2; count = 0; lowest = 0 }
+unfolding reportedOf
+report-refused s f = rw f
