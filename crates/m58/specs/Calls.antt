@@ -15,10 +15,6 @@ use Rattle.device.specs.Outcomes.{holding}
 use Rattle.playback.specs.Playback.{playable, machineOf, Played}
 use Rattle.saved.specs.Saved.{savedOf, isSaved, stateOf}
 
--- room for a saved state stays as it is where it has not 38 words
-unfoldable pub putInto : List ℕ → List ℕ → List ℕ
-putInto room ws = cond (eqb (length room) 38) ws room
-
 -- power-up wants the number of a part, and room for 38 words
 unfoldable pub powersUp : ℕ → List ℕ → Bool
 powersUp part room = leb part 3 && eqb (length room) 38

@@ -17,25 +17,9 @@ use Rattle.semantics.specs.Steps.{reportedOf}
 use Rattle.device.specs.Outcomes.{holding}
 use Rattle.playback.specs.declared.RunEnd.{RunEnd}
 use Rattle.playback.specs.Playback.{Played}
-use Rattle.saved.specs.Saved.{savedOf, isSaved, noState, stateOf}
+use Rattle.saved.specs.Saved.{savedOf, isSaved, stateOf, putInto}
 use Rattle.saved.specs.Laws.{Fitting, saved-length, saved-is, state-back, power-up-fitting}
-use Rattle.m58.specs.Calls.{putInto, powersUp, poweredUp, stateAfter, Ran}
-
--- ---- words that are not 38 are no saved state
-
-unsaved : (ws : List ℕ) → (length ws ≡ 38 → ⊥) → isSaved ws ≡ false
-unsaved ws h = go (isSaved ws) refl
-  where
-    go : (t : Bool) → isSaved ws ≡ t → t ≡ false
-    go true e = absurd (h (saved-length ws e))
-    go false e = refl
-
-pub unsaved-state : (ws : List ℕ) → (length ws ≡ 38 → ⊥) → stateOf ws ≡ noState ws
-unfolding stateOf
-unsaved-state ws h = rw (unsaved ws h)
-
-pub unsaved-is : (ws : List ℕ) → (length ws ≡ 38 → ⊥) → false ≡ isSaved ws
-unsaved-is ws h = sym (unsaved ws h)
+use Rattle.m58.specs.Calls.{powersUp, poweredUp, stateAfter, Ran}
 
 -- ---- power-up
 

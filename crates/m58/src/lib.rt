@@ -1,14 +1,12 @@
 // What C programs call. Each function takes every number and every slice, which C hands over as a pointer and a length.
 // A device is kept as the 38 words of the crate saved; a step, and an answer, is a number of 64 bits (crate playback).
 use device::Device;
-use semantics::State;
 ghost use mathlib.Core.Path.{_≡_};
-ghost use lib.ListN.{getD};
 ghost use Rattle.geometry.specs.Blocks.{lookupOf};
 ghost use Rattle.semantics.specs.Reading.{bitIf};
 ghost use Rattle.semantics.specs.Steps.{reportedOf};
-ghost use Rattle.saved.specs.Saved.{first, isSaved, stateOf};
-ghost use Rattle.m58.specs.Calls.{putInto, powersUp, poweredUp, reportCode, Ran};
+ghost use Rattle.saved.specs.Saved.{stateOf};
+ghost use Rattle.m58.specs.Calls.{powersUp, poweredUp, reportCode, Ran};
 
 // ---- the lookup of an address of a part, by the part's number
 
@@ -39,63 +37,6 @@ pub extern "C" fn m58_lookup_bank(part: u32, address: u32) -> u32
     found.bank
 }
 
-// ---- words in a slice
-
-// The word at a place, 0 past the end.
-fn word_at(words: &[u64], i: usize) -> u64
-    ensures { λ r. ⌜ r ≡ getD (now (words .entry)) i 0 ⌝ }
-{
-    if i < words.len() { words[i] } else { 0 }
-}
-
-// The first 38 words.
-fn words_in(state: &[u64]) -> [u64; 38]
-    ensures { λ r. ⌜ r ≡ first 38 (now (state .entry)) ⌝ }
-{
-    let mut words: [u64; 38] = [0; 38];
-    let mut i: usize = 0;
-    while i < 38 {
-        words[i] = word_at(state, i);
-        i += 1;
-    }
-    words
-}
-
-// Writes the words, where there is room for just them.
-fn put_words(state: &mut [u64], words: [u64; 38])
-    ensures { λ _. ⌜ now (state .exit) ≡ putInto (now (state .entry)) words ⌝ }
-{
-    if state.len() != 38 {
-        return;
-    }
-    let mut k: usize = 0;
-    while k < 38 {
-        state[k] = words[k];
-        k += 1;
-    }
-}
-
-// Whether the slice holds a saved state.
-fn is_saved_in(state: &[u64]) -> bool
-    ensures { λ r. ⌜ r ≡ isSaved (now (state .entry)) ⌝ }
-{
-    if state.len() != 38 {
-        return false;
-    }
-    saved::is_saved(words_in(state))
-}
-
-// The state that the slice holds, or one that the device refuses.
-fn state_in(state: &[u64]) -> State
-    ensures { λ r. ⌜ r ≡ stateOf (now (state .entry)) ⌝ }
-{
-    let words = words_in(state);
-    if state.len() != 38 {
-        return saved::no_state(words);
-    }
-    saved::state_of(words)
-}
-
 // ---- the device
 
 // Saves power-up of a part, by its number, and answers 1; writes nothing and answers 0 where there is no such part, or not room for just 38 words.
@@ -112,7 +53,7 @@ pub extern "C" fn m58_power_up(part: u32, state: &mut [u64]) -> u32
     }
     let d = Device::power_up(geometry::part_numbered(part));
     let s = d.state;
-    put_words(state, saved::save(s));
+    saved::save(s, state);
     1
 }
 
@@ -127,16 +68,15 @@ pub extern "C" fn m58_run(
 ) -> usize
     ensures { λ r. ⌜ Ran (now (state .entry)) (now (steps .entry)) (now (answers .entry)) (now (array .entry)) r (now (state .exit)) (now (answers .exit)) (now (array .exit)) ⌝ }
 {
-    let good = is_saved_in(state);
-    let d = Device {
-        state: state_in(state),
-    };
+    let found = saved::found_in(state);
+    let before = found.state;
+    let d = Device { state: before };
     let end = playback::run(d, steps, answers, array);
     let n = end.played;
-    if good {
+    if found.saved {
         let after = end.device;
         let s = after.state;
-        put_words(state, saved::save(s));
+        saved::save(s, state);
     }
     n
 }
@@ -146,9 +86,9 @@ pub extern "C" fn m58_run(
 pub extern "C" fn m58_report(state: &[u64]) -> u64
     ensures { λ r. ⌜ r ≡ reportCode (reportedOf (stateOf (now (state .entry)))) ⌝ }
 {
-    let d = Device {
-        state: state_in(state),
-    };
-    let found = d.report();
-    (found.refusal as u64) * 4294967296 + (found.count as u64) * 65536 + found.lowest as u64
+    let found = saved::found_in(state);
+    let s = found.state;
+    let d = Device { state: s };
+    let told = d.report();
+    (told.refusal as u64) * 4294967296 + (told.count as u64) * 65536 + told.lowest as u64
 }

@@ -3,12 +3,12 @@
 use Prim.Native.Nat.{ℕ, zero, suc, _+_, _<_, _≤_}
 use mathlib.Core.Bool.{Bool, true, false, _&&_}
 use mathlib.Core.List.{List, [], _∷_}
-use mathlib.Core.Path.{_≡_, refl, sym, ap, _∙_}
+use mathlib.Core.Path.{_≡_, refl, sym, ap, _∙_, subst}
 use native.Mathlib.Nat.{mod-eq-of-lt}
 use native.Mathlib.Omega.{arith}
 use lib.Dec.{eqb}
-use lib.ListN.{length, getD, set, length-set}
-use lib.Seq.{getD-set-same, getD-set-other}
+use lib.ListN.{length, getD, take, set, length-set}
+use lib.Seq.{getD-set-same, getD-set-other, sets}
 use borrow.Author.Count.{below-none, below-more}
 use borrow.Author.Tests.{eq-eqb, eqb-true}
 use Rattle.geometry.specs.declared.Part.{Part}
@@ -30,7 +30,7 @@ use Rattle.semantics.specs.declared.State.{State}
 use Rattle.semantics.specs.State.{activity, flagsOf, powerUp}
 use Rattle.semantics.specs.Reading.{bitIf}
 use Rattle.semantics.specs.WellFormed.{runningAlone, programAlone, eraseAlone, runningFits, programFits, suspendedEraseFits, allFit, runningApart, programApart, apart, activityFormed, wellFormed}
-use Rattle.saved.specs.Saved.{partNumber, modeNumber, modeNumbered, bankNumber, bankNumbered, setupNumber, setupNumbered, flagNumbered, runningWords, runningOf, programWords, programOf, eraseWords, eraseOf, listed, first, savedOf, loadedOf, same, isSaved, noState, stateOf}
+use Rattle.saved.specs.Saved.{partNumber, modeNumber, modeNumbered, bankNumber, bankNumbered, setupNumber, setupNumbered, flagNumbered, runningWords, runningOf, programWords, programOf, eraseWords, eraseOf, listed, first, bankWords, activityWords, restWords, savedOf, loadedOf, same, isSaved, noState, stateOf, putInto}
 
 -- ---- lists
 
@@ -40,6 +40,11 @@ listed-is d zero f [] h e = refl
 listed-is d zero f (x ∷ l) h e = absurd (omega arith)
 listed-is d (suc n) f [] h e = absurd (omega arith)
 listed-is d (suc n) f (x ∷ l) h e = λ j. e 0 (omega arith) j ∷ listed-is d n (λ k. f (suc k)) l (omega arith) (λ k q. e (suc k) (omega arith)) j
+
+listed-at : {A : Type 0} (d : A) (n : ℕ) (f : ℕ → A) (i : ℕ) → i < n → getD (listed n f) i d ≡ f i
+listed-at d zero f i h = absurd (omega arith)
+listed-at d (suc n) f zero h = refl
+listed-at d (suc n) f (suc i) h = listed-at d n (λ k. f (suc k)) i (omega arith)
 
 -- a list of n elements of which those below i are filled in, for the loops
 pub record Filled {A : Type 0} (d : A) (f : ℕ → A) (n i : ℕ) (l : List A) : Type 0 where
@@ -82,15 +87,38 @@ same-true (x ∷ k) (y ∷ l) h = go (eqb x y) refl h (same-true k l)
     go true e h f = let p = eqb-true x y e in let q = f h in cc
     go false e h f = cc
 
-pub same-equal : (k l : List ℕ) → k ≡ l → same k l ≡ true
-same-equal k l h = rw h (same-refl l)
+-- ---- stores
 
-pub same-apart : (k l : List ℕ) (i : ℕ) → (getD k i 0 ≡ getD l i 0 → ⊥) → same k l ≡ false
-same-apart k l i h = go (same k l) refl
+-- one store more of a run of them
+pub sets-next : (vs l : List ℕ) (i k : ℕ) → k < length vs → set (sets l i (take k vs)) (i + k) (getD vs k 0) ≡ sets l i (take (suc k) vs)
+sets-next [] l i k h = absurd (omega arith)
+sets-next (v ∷ vs) l i zero h = let e : i + 0 ≡ i = omega arith in rw e
+sets-next (v ∷ vs) l i (suc k) h = let e : i + suc k ≡ suc i + k = omega arith in rw e (sets-next vs (set l i v) (suc i) k (omega arith))
+
+-- the words of banks, one more
+pub banks-next : (banks : List Bank) (l ws : List ℕ) (i x : ℕ) → i < 16 → ws ≡ sets l 1 (take i (bankWords banks)) → x ≡ bankNumber (getD banks i (record { mode = Array }))
+    → set ws (1 + i) x ≡ sets l 1 (take (i + 1) (bankWords banks))
+banks-next banks l ws i x h p q =
+    let e : getD (bankWords banks) i 0 ≡ x = listed-at 0 16 (λ k. bankNumber (getD banks k (record { mode = Array }))) i h ∙ sym q in
+    let n : i + 1 ≡ suc i = omega arith in
+    rw (p, ← e, n) (sets-next (bankWords banks) l 1 i h)
+
+-- room for 38 words after the stores of a state's words, group by group
+pub stored : (s : State) (l₀ l₁ l₂ l₃ : List ℕ) (n : ℕ) → length l₀ ≡ 38 → n ≡ partNumber (s .part) → l₁ ≡ sets (set l₀ 0 n) 1 (bankWords (s .banks)) → l₂ ≡ sets l₁ 17 (activityWords (s .activity))
+    → l₃ ≡ sets l₂ 27 (restWords (s .flags) (s .unprotected) (s .configuration) (s .supply)) → l₃ ≡ putInto l₀ (savedOf s)
+unfolding savedOf putInto
+stored s l₀ l₁ l₂ l₃ n h p q r t =
+    t ∙ ap after₂ (r ∙ ap after₁ (q ∙ ap after₀ p)) ∙ subst (λ (m : List ℕ). after₂ (after₁ (sets (set m 0 (partNumber (s .part))) 1 (bankWords (s .banks)))) ≡ savedOf s) (first-all 38 l₀ h) refl
+    ∙ rw (eq-eqb (length l₀) 38 h)
   where
-    go : (t : Bool) → same k l ≡ t → t ≡ false
-    go true e = absurd (h (ap (λ (m : List ℕ). getD m i 0) (same-true k l e)))
-    go false e = refl
+    after₀ : ℕ → List ℕ
+    after₀ x = sets (set l₀ 0 x) 1 (bankWords (s .banks))
+
+    after₁ : List ℕ → List ℕ
+    after₁ l = sets l 17 (activityWords (s .activity))
+
+    after₂ : List ℕ → List ℕ
+    after₂ l = sets l 27 (restWords (s .flags) (s .unprotected) (s .configuration) (s .supply))
 
 -- ---- a field and back
 

@@ -4,8 +4,8 @@
 use Prim.Native.Nat.{ℕ, zero, suc, _%_}
 use mathlib.Core.Bool.{Bool, true, false, not, cond, _&&_}
 use mathlib.Core.List.{List, [], _∷_, _++_}
-use lib.Dec.{eqb}
-use lib.ListN.{getD, drop}
+use lib.Dec.{eqb, ltb}
+use lib.ListN.{length, getD, take, drop}
 use Rattle.geometry.specs.declared.Part.{Part}
 use Rattle.geometry.specs.declared.Part.the-variants.{FullBottom, FullTop, BenchBottom, BenchTop}
 use Rattle.geometry.specs.Blocks.{partNumbered}
@@ -20,10 +20,12 @@ use Rattle.semantics.specs.declared.SuspendedProgram.{SuspendedProgram}
 use Rattle.semantics.specs.declared.SuspendedProgram.the-variants as program
 use Rattle.semantics.specs.declared.SuspendedErase.{SuspendedErase}
 use Rattle.semantics.specs.declared.SuspendedErase.the-variants as erase
+use Rattle.semantics.specs.declared.Activity.{Activity}
 use Rattle.semantics.specs.declared.Flags.{Flags}
 use Rattle.semantics.specs.declared.State.{State}
 use Rattle.semantics.specs.State.{withProtection, activity, flagsOf, powerUp}
 use Rattle.semantics.specs.Reading.{bitIf}
+use Rattle.saved.specs.declared.Found.{Found}
 
 -- ---- a field as words, and back. Of the numbers of an enum the last stands for every other number too
 
@@ -110,26 +112,40 @@ bankWords l = listed 16 (λ k. bankNumber (getD l k (record { mode = Array })))
 abbrev pub banksOf : List ℕ → List Bank
 banksOf ws = listed 16 (λ k. bankNumbered (getD (drop 1 ws) k 0))
 
+-- the words of what is under way, and of what stands behind it
+abbrev pub activityWords : Activity → List ℕ
+activityWords a = setupNumber (a .setup) ∷ (first 3 (runningWords (a .running)) ++ (first 3 (programWords (a .program)) ++ first 3 (eraseWords (a .erase))))
+
+abbrev pub restWords : Flags → List ℕ → ℕ → Bool → List ℕ
+restWords f u configuration supply = flagWords f ++ (first 5 u ++ (configuration ∷ bitIf supply 1 ∷ []))
+
 -- word 0 the part; 1 to 16 the modes of the banks; 17 the set-up; 18 to 20 what runs; 21 to 23 the suspended program; 24 to 26 the suspended erase;
 -- 27 to 30 the flags SR5, SR4, SR3, SR1; 31 to 35 the protection words; 36 the configuration register; 37 the supply
 unfoldable pub savedOf : State → List ℕ
 savedOf s =
     partNumber (s .part) ∷ (bankWords (s .banks)
-    ++ (setupNumber (s .activity .setup) ∷ (first 3 (runningWords (s .activity .running)) ++ (first 3 (programWords (s .activity .program)) ++ (first 3 (eraseWords (s .activity .erase))
-    ++ (flagWords (s .flags) ++ (first 5 (s .unprotected)
-    ++ (s .configuration ∷ bitIf (s .supply) 1 ∷ []))))))))
+    ++ (activityWords (s .activity) ++ restWords (s .flags) (s .unprotected) (s .configuration) (s .supply)))
 
--- the state that words say, whatever they are: a word that is missing is 0, and a number is reduced to the bits that its field has, which for a
--- protection word are all
+-- the state that words say, whatever they are, field by field: a word that is missing is 0, and a number is reduced to the bits that its field has, which
+-- for a protection word are all
+abbrev pub activityOf : List ℕ → Activity
+activityOf ws =
+    activity (setupNumbered (getD ws 17 0)) (runningOf (getD ws 18 0) (getD ws 19 0) (getD ws 20 0)) (programOf (getD ws 21 0) (getD ws 22 0) (getD ws 23 0))
+    (eraseOf (getD ws 24 0) (getD ws 25 0) (getD ws 26 0))
+
+abbrev pub flagsIn : List ℕ → Flags
+flagsIn ws = flagsOf (flagNumbered (getD ws 27 0)) (flagNumbered (getD ws 28 0)) (flagNumbered (getD ws 29 0)) (flagNumbered (getD ws 30 0))
+
+abbrev pub protectionIn : List ℕ → List ℕ
+protectionIn ws = getD ws 31 0 ∷ getD ws 32 0 ∷ getD ws 33 0 ∷ getD ws 34 0 ∷ getD ws 35 0 ∷ []
+
 unfoldable pub loadedOf : List ℕ → State
 loadedOf ws = record {
   part = partNumbered (getD ws 0 0);
   banks = banksOf ws;
-  activity =
-      activity (setupNumbered (getD ws 17 0)) (runningOf (getD ws 18 0) (getD ws 19 0) (getD ws 20 0)) (programOf (getD ws 21 0) (getD ws 22 0) (getD ws 23 0))
-      (eraseOf (getD ws 24 0) (getD ws 25 0) (getD ws 26 0));
-  flags = flagsOf (flagNumbered (getD ws 27 0)) (flagNumbered (getD ws 28 0)) (flagNumbered (getD ws 29 0)) (flagNumbered (getD ws 30 0));
-  unprotected = getD ws 31 0 ∷ getD ws 32 0 ∷ getD ws 33 0 ∷ getD ws 34 0 ∷ getD ws 35 0 ∷ [];
+  activity = activityOf ws;
+  flags = flagsIn ws;
+  unprotected = protectionIn ws;
   configuration = getD ws 36 0 % 65536;
   supply = flagNumbered (getD ws 37 0);
 }
@@ -152,3 +168,44 @@ noState ws = withProtection (powerUp (partNumbered (getD ws 0 0))) (0 ∷ 0 ∷ 
 
 unfoldable pub stateOf : List ℕ → State
 stateOf ws = cond (isSaved ws) (loadedOf ws) (noState ws)
+
+-- what the words are found to be
+abbrev pub foundOf : List ℕ → Found
+foundOf ws = record { saved = isSaved ws; state = stateOf ws }
+
+-- room for a saved state stays as it is where it has not 38 words
+unfoldable pub putInto : List ℕ → List ℕ → List ℕ
+putInto room ws = cond (eqb (length room) 38) ws room
+
+-- ---- a saved state by the range of each word: `is-saved-in-range` (Ranges) says that it is the same
+
+-- every word is below m
+unfoldable pub allBelow : ℕ → List ℕ → Bool
+allBelow m [] = true
+allBelow m (x ∷ l) = ltb x m && allBelow m l
+
+-- two numbers are both 0, or each below its bound
+abbrev pub noneTwo : ℕ → ℕ → Bool
+noneTwo a b = eqb a 0 && eqb b 0
+
+abbrev pub belowTwo : ℕ → ℕ → ℕ → ℕ → Bool
+belowTwo a b m n = ltb a m && ltb b n
+
+-- the kind and the two numbers of what runs, or is suspended
+abbrev pub runningInRange : ℕ → ℕ → ℕ → Bool
+runningInRange k a b = cond (eqb k 0) (noneTwo a b) (cond (eqb k 1) (belowTwo a b 4294967296 65536) (eqb k 2 && belowTwo a b 4294967296 4294967296))
+
+abbrev pub suspendedInRange : ℕ → ℕ → ℕ → ℕ → Bool
+suspendedInRange n k a b = cond (eqb k 0) (noneTwo a b) (eqb k 1 && belowTwo a b 4294967296 n)
+
+-- 38 words; the numbers of enums below 4; what runs, the suspended program and the suspended erase; the flags 0 or 1; a protection word is any number;
+-- the configuration register has 16 bits; the supply is 0 or 1
+unfoldable pub inRange : List ℕ → Bool
+inRange ws =
+    eqb (length ws) 38
+    && (allBelow 4 (take 18 ws)
+    && (runningInRange (getD ws 18 0) (getD ws 19 0) (getD ws 20 0)
+    && (suspendedInRange 65536 (getD ws 21 0) (getD ws 22 0) (getD ws 23 0)
+    && (suspendedInRange 4294967296 (getD ws 24 0) (getD ws 25 0) (getD ws 26 0)
+    && (allBelow 2 (take 4 (drop 27 ws))
+    && belowTwo (getD ws 36 0) (getD ws 37 0) 65536 2)))))

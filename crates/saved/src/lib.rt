@@ -9,11 +9,20 @@ use semantics::Setup;
 use semantics::State;
 use semantics::SuspendedErase;
 use semantics::SuspendedProgram;
+ghost use mathlib.Core.Bool.{_&&_};
 ghost use mathlib.Core.Path.{_≡_};
+ghost use lib.ListN.{length, getD};
+ghost use lib.Seq.{sets};
 ghost use Rattle.geometry.specs.Blocks.{partNumbered};
 ghost use Rattle.semantics.specs.Reading.{bitIf};
-ghost use Rattle.saved.specs.Saved.{partNumber, bankNumber, bankNumbered, setupNumber, setupNumbered, runningWords, runningOf, programWords, programOf, eraseWords, eraseOf, bankWords, banksOf, savedOf, loadedOf, same, isSaved, noState, stateOf};
+ghost use Rattle.saved.specs.Saved.{partNumber, bankNumber, bankNumbered, setupNumber, setupNumbered, runningWords, runningOf, programWords, programOf, eraseWords, eraseOf, bankWords, banksOf, activityWords, restWords, savedOf, loadedOf, isSaved, noState, foundOf, putInto, flagNumbered, activityOf, flagsIn, protectionIn, allBelow, runningInRange, suspendedInRange};
 ghost use Rattle.saved.specs.Laws.{Fitting};
+
+// Whether words are a saved state, and the state of the words.
+pub struct Found {
+    pub saved: bool,
+    pub state: State,
+}
 
 // ---- a field as words
 
@@ -176,123 +185,22 @@ fn erase_of(kind: u64, a: u64, b: u64) -> SuspendedErase
     }
 }
 
-// ---- the 38 words
+// ---- the words of a slice
 
-fn bank_words(banks: [Bank; 16]) -> [u64; 16]
-    ensures { λ r. ⌜ r ≡ bankWords banks ⌝ }
+// The word at a place, 0 past the end.
+fn word_at(words: &[u64], i: usize) -> u64
+    ensures { λ r. ⌜ r ≡ getD (now (words .entry)) i 0 ⌝ }
 {
-    let mut words: [u64; 16] = [0; 16];
-    let mut i: usize = 0;
-    while i < 16 {
-        words[i] = bank_number(banks[i]);
-        i += 1;
-    }
-    words
+    if i < words.len() { words[i] } else { 0 }
 }
 
-fn banks_of(words: [u64; 38]) -> [Bank; 16]
-    ensures { λ r. ⌜ r ≡ banksOf words ⌝ }
-{
-    let mut banks = [Bank { mode: Mode::Array }; 16];
-    let mut i: usize = 0;
-    while i < 16 {
-        banks[i] = bank_numbered(words[1 + i]);
-        i += 1;
-    }
-    banks
-}
-
-// The words of a state. Every state of the code fits its types, so that it is got back from them (`state-back` of specs/Laws).
-pub fn save(s: State) -> [u64; 38]
-    ensures { λ r. ⌜ r ≡ savedOf s ⌝ }
-    ensures fitting { λ r. ⌜ Fitting s ⌝ }
-{
-    let part = s.part;
-    let banks = s.banks;
-    let a = s.activity;
-    let setup = a.setup;
-    let running = a.running;
-    let program = a.program;
-    let erase = a.erase;
-    let f = s.flags;
-    let u = s.unprotected;
-    let b = bank_words(banks);
-    let r = running_words(running);
-    let p = program_words(program);
-    let e = erase_words(erase);
-    [
-        part_number(part),
-        b[0],
-        b[1],
-        b[2],
-        b[3],
-        b[4],
-        b[5],
-        b[6],
-        b[7],
-        b[8],
-        b[9],
-        b[10],
-        b[11],
-        b[12],
-        b[13],
-        b[14],
-        b[15],
-        setup_number(setup),
-        r[0],
-        r[1],
-        r[2],
-        p[0],
-        p[1],
-        p[2],
-        e[0],
-        e[1],
-        e[2],
-        flag_number(f.sr5),
-        flag_number(f.sr4),
-        flag_number(f.sr3),
-        flag_number(f.sr1),
-        u[0],
-        u[1],
-        u[2],
-        u[3],
-        u[4],
-        s.configuration as u64,
-        flag_number(s.supply),
-    ]
-}
-
-// The state that words say.
-pub fn load(words: [u64; 38]) -> State
-    ensures { λ r. ⌜ r ≡ loadedOf words ⌝ }
-{
-    State {
-        part: part_numbered(words[0]),
-        banks: banks_of(words),
-        activity: Activity {
-            setup: setup_numbered(words[17]),
-            running: running_of(words[18], words[19], words[20]),
-            program: program_of(words[21], words[22], words[23]),
-            erase: erase_of(words[24], words[25], words[26]),
-        },
-        flags: Flags {
-            sr5: words[27] != 0,
-            sr4: words[28] != 0,
-            sr3: words[29] != 0,
-            sr1: words[30] != 0,
-        },
-        unprotected: [words[31], words[32], words[33], words[34], words[35]],
-        configuration: (words[36] % 65536) as u16,
-        supply: words[37] != 0,
-    }
-}
-
-fn same_words(a: [u64; 38], b: [u64; 38]) -> bool
-    ensures { λ r. ⌜ r ≡ same a b ⌝ }
+// Every word is below m.
+fn all_below(m: u64, words: &[u64]) -> bool
+    ensures { λ r. ⌜ r ≡ allBelow m (now (words .entry)) ⌝ }
 {
     let mut i: usize = 0;
-    while i < 38 {
-        if a[i] != b[i] {
+    while i < words.len() {
+        if words[i] >= m {
             return false;
         }
         i += 1;
@@ -300,27 +208,214 @@ fn same_words(a: [u64; 38], b: [u64; 38]) -> bool
     true
 }
 
-// Whether the words are what the state that they say is saved as.
-pub fn is_saved(words: [u64; 38]) -> bool
-    ensures { λ r. ⌜ r ≡ isSaved words ⌝ }
+// The kind and the two numbers of what runs.
+fn running_in_range(kind: u64, a: u64, b: u64) -> bool
+    ensures { λ r. ⌜ r ≡ runningInRange kind a b ⌝ }
 {
-    let again = save(load(words));
-    same_words(words, again)
+    if kind == 0 {
+        return (a == 0) & (b == 0);
+    }
+    if kind == 1 {
+        return (a < 4294967296) & (b < 65536);
+    }
+    (kind == 2) & ((a < 4294967296) & (b < 4294967296))
+}
+
+// Those of a suspended program, and of a suspended erase: the second number is below n.
+fn suspended_in_range(n: u64, kind: u64, a: u64, b: u64) -> bool
+    ensures { λ r. ⌜ r ≡ suspendedInRange n kind a b ⌝ }
+{
+    if kind == 0 {
+        return (a == 0) & (b == 0);
+    }
+    (kind == 1) & ((a < 4294967296) & (b < n))
+}
+
+// Whether the words are what the state that they say is saved as: by the range of each.
+pub fn is_saved(words: &[u64]) -> bool
+    ensures { λ r. ⌜ r ≡ isSaved (now (words .entry)) ⌝ }
+{
+    if words.len() != 38 {
+        return false;
+    }
+    if !all_below(4, &words[0..18]) {
+        return false;
+    }
+    if !running_in_range(words[18], words[19], words[20]) {
+        return false;
+    }
+    if !suspended_in_range(65536, words[21], words[22], words[23]) {
+        return false;
+    }
+    if !suspended_in_range(4294967296, words[24], words[25], words[26]) {
+        return false;
+    }
+    if !all_below(2, &words[27..31]) {
+        return false;
+    }
+    (words[36] < 65536) & (words[37] < 2)
+}
+
+// ---- the state of words
+
+fn banks_of(words: &[u64]) -> [Bank; 16]
+    ensures { λ r. ⌜ r ≡ banksOf (now (words .entry)) ⌝ }
+{
+    let mut banks = [Bank { mode: Mode::Array }; 16];
+    let mut i: usize = 0;
+    while i < 16 {
+        banks[i] = bank_numbered(word_at(words, 1 + i));
+        i += 1;
+    }
+    banks
+}
+
+fn activity_of(words: &[u64]) -> Activity
+    ensures { λ r. ⌜ r ≡ activityOf (now (words .entry)) ⌝ }
+{
+    Activity {
+        setup: setup_numbered(word_at(words, 17)),
+        running: running_of(word_at(words, 18), word_at(words, 19), word_at(words, 20)),
+        program: program_of(word_at(words, 21), word_at(words, 22), word_at(words, 23)),
+        erase: erase_of(word_at(words, 24), word_at(words, 25), word_at(words, 26)),
+    }
+}
+
+fn flag_at(words: &[u64], i: usize) -> bool
+    ensures { λ r. ⌜ r ≡ flagNumbered (getD (now (words .entry)) i 0) ⌝ }
+{
+    word_at(words, i) != 0
+}
+
+fn flags_of(words: &[u64]) -> Flags
+    ensures { λ r. ⌜ r ≡ flagsIn (now (words .entry)) ⌝ }
+{
+    Flags {
+        sr5: flag_at(words, 27),
+        sr4: flag_at(words, 28),
+        sr3: flag_at(words, 29),
+        sr1: flag_at(words, 30),
+    }
+}
+
+fn protection_of(words: &[u64]) -> [u64; 5]
+    ensures { λ r. ⌜ r ≡ protectionIn (now (words .entry)) ⌝ }
+{
+    [
+        word_at(words, 31),
+        word_at(words, 32),
+        word_at(words, 33),
+        word_at(words, 34),
+        word_at(words, 35),
+    ]
+}
+
+// The state that words say.
+pub fn load(words: &[u64]) -> State
+    ensures { λ r. ⌜ r ≡ loadedOf (now (words .entry)) ⌝ }
+{
+    State {
+        part: part_numbered(word_at(words, 0)),
+        banks: banks_of(words),
+        activity: activity_of(words),
+        flags: flags_of(words),
+        unprotected: protection_of(words),
+        configuration: (word_at(words, 36) % 65536) as u16,
+        supply: flag_at(words, 37),
+    }
 }
 
 // The state for words that are no saved state: the device refuses every step on it.
-pub fn no_state(words: [u64; 38]) -> State
-    ensures { λ r. ⌜ r ≡ noState words ⌝ }
+pub fn no_state(words: &[u64]) -> State
+    ensures { λ r. ⌜ r ≡ noState (now (words .entry)) ⌝ }
 {
-    state::with_protection(state::power_up(part_numbered(words[0])), [0, 0, 0, 0, 8])
+    state::with_protection(state::power_up(part_numbered(word_at(words, 0))), [0, 0, 0, 0, 8])
 }
 
-// The state of words: of a saved state that which was saved.
-pub fn state_of(words: [u64; 38]) -> State
-    ensures { λ r. ⌜ r ≡ stateOf words ⌝ }
+// Tests the words, once, and gives their state: of a saved state that which was saved.
+pub fn found_in(words: &[u64]) -> Found
+    ensures { λ r. ⌜ r ≡ foundOf (now (words .entry)) ⌝ }
 {
     if is_saved(words) {
-        return load(words);
+        return Found {
+            saved: true,
+            state: load(words),
+        };
     }
-    no_state(words)
+    Found {
+        saved: false,
+        state: no_state(words),
+    }
+}
+
+// ---- the words of a state, put in place
+
+fn put_banks(words: &mut [u64], banks: [Bank; 16])
+    requires { ⌜ length (now words) ≡ 38 ⌝ }
+    ensures { λ _. ⌜ now (words .exit) ≡ sets (now (words .entry)) 1 (bankWords banks) ⌝ }
+{
+    let mut i: usize = 0;
+    while i < 16 {
+        words[1 + i] = bank_number(banks[i]);
+        i += 1;
+    }
+}
+
+fn put_activity(words: &mut [u64], a: Activity)
+    requires { ⌜ length (now words) ≡ 38 ⌝ }
+    ensures { λ _. ⌜ now (words .exit) ≡ sets (now (words .entry)) 17 (activityWords a) ⌝ }
+{
+    let setup = a.setup;
+    let running = a.running;
+    let program = a.program;
+    let erase = a.erase;
+    let r = running_words(running);
+    let p = program_words(program);
+    let e = erase_words(erase);
+    words[17] = setup_number(setup);
+    words[18] = r[0];
+    words[19] = r[1];
+    words[20] = r[2];
+    words[21] = p[0];
+    words[22] = p[1];
+    words[23] = p[2];
+    words[24] = e[0];
+    words[25] = e[1];
+    words[26] = e[2];
+}
+
+fn put_rest(words: &mut [u64], f: Flags, u: [u64; 5], configuration: u16, supply: bool)
+    requires { ⌜ length (now words) ≡ 38 ⌝ }
+    ensures { λ _. ⌜ now (words .exit) ≡ sets (now (words .entry)) 27 (restWords f u configuration supply) ⌝ }
+{
+    words[27] = flag_number(f.sr5);
+    words[28] = flag_number(f.sr4);
+    words[29] = flag_number(f.sr3);
+    words[30] = flag_number(f.sr1);
+    words[31] = u[0];
+    words[32] = u[1];
+    words[33] = u[2];
+    words[34] = u[3];
+    words[35] = u[4];
+    words[36] = configuration as u64;
+    words[37] = flag_number(supply);
+}
+
+// Puts the words of a state into room for just 38. Every state of the code fits its types, so that it is got back from them (`state-back` of specs/Laws).
+pub fn save(s: State, words: &mut [u64])
+    ensures { λ _. ⌜ now (words .exit) ≡ putInto (now (words .entry)) (savedOf s) ⌝ }
+    ensures fitting { λ _. ⌜ Fitting s ⌝ }
+{
+    if words.len() != 38 {
+        return;
+    }
+    let part = s.part;
+    let banks = s.banks;
+    let a = s.activity;
+    let f = s.flags;
+    let u = s.unprotected;
+    words[0] = part_number(part);
+    put_banks(words, banks);
+    put_activity(words, a);
+    put_rest(words, f, u, s.configuration, s.supply);
 }

@@ -3,8 +3,8 @@ use mathlib.Core.Path.{ap, _∙_}
 use borrow.Author.Tests.{le-leb, lt-leb, eq-eqb, ne-eqb}
 use borrow.Author.Needs.{needs}
 use Rattle.device.specs.declared.Device.{Device}
-use Rattle.saved.specs.Saved.{savedOf}
-use Rattle.m58.specs.Calls.{putInto, powersUp, poweredUp}
+use Rattle.saved.specs.Saved.{savedOf, putInto}
+use Rattle.m58.specs.Calls.{powersUp, poweredUp}
 use Rattle.m58.proofs.m58_power_up.Statement.{statement}
 use Rattle.m58.proofs.m58_power_up.Tie as tie
 
@@ -18,7 +18,13 @@ returns-2 c = let e = le-leb (c .before .before .before .args .part) 3 (c .befor
 
 returns-3 : tie.Need-returns-3
 unfolding powersUp poweredUp putInto
-returns-3 c = let e = le-leb (c .before .before .before .before .before .before .before .before .before .before .before .args .part) 3 (c .before .before .before .before .before .before .before .before .before .if1 .left) in let f = eq-eqb _ 38 (c .before .before .before .before .before .before .before .before .if2 .left) in (rw (e, f), rw (e, f) (c .before .before .put-words .ensures ∙ rw f (c .before .before .before .save .ensures .0 ∙ ap (λ (d : Device). savedOf (d .state)) (c .before .before .before .before .before .before .power-up .ensures) ∙ rw (c .before .before .before .before .before .before .before .part-numbered .ensures))))
+returns-3 c =
+    let e = le-leb (c .before .before .before .before .before .before .before .before .before .before .args .part) 3 (c .before .before .before .before .before .before .before .before .if1 .left) in
+    let f = eq-eqb _ 38 (c .before .before .before .before .before .before .before .if2 .left) in
+    (rw (e, f),
+    rw (e, f)
+    (c .before .before .save .ensures .0
+    ∙ rw f (ap (λ (d : Device). savedOf (d .state)) (c .before .before .before .before .before .power-up .ensures) ∙ rw (c .before .before .before .before .before .before .part-numbered .ensures))))
 
 pub m58-power-up-spec : {M : Type 1} → statement M
 m58-power-up-spec =
@@ -26,7 +32,6 @@ m58-power-up-spec =
     (tie.spec
     returns
     returns-2
-    (λ c κs. search needs)
     (λ c κs. search needs)
     (λ c κs. search needs)
     (λ c κs. search needs)

@@ -3,6 +3,7 @@ use mathlib.Core.Path.{sym, ap, _∙_, subst}
 use native.Mathlib.Omega.{arith}
 use borrow.Author.Needs.{needs}
 use Rattle.semantics.specs.Steps.{reportedOf}
+use Rattle.saved.specs.declared.Found.{Found}
 use Rattle.m58.specs.Calls.{reportCode}
 use Rattle.m58.specs.Laws.{Small, report-small}
 use Rattle.m58.proofs.m58_report.Statement.{statement}
@@ -15,7 +16,7 @@ add-result-2 : tie.Need-add-result-2
 add-result-2 c = let m : Small (c .before .before .before .report .result) = subst Small (sym (c .before .before .before .report .ensures)) (report-small _) in omega (arith, m .count, m .lowest)
 
 returns : tie.Need-returns
-returns c = ap reportCode (c .before .before .before .report .ensures ∙ ap reportedOf (c .before .before .before .before .state-in .ensures))
+returns c = ap reportCode (c .before .before .before .report .ensures ∙ ap (λ (f : Found). reportedOf (f .state)) (c .before .before .before .before .before .found-in .ensures))
 
 pub m58-report-spec : {M : Type 1} → statement M
 m58-report-spec =

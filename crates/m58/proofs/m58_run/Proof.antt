@@ -1,23 +1,26 @@
 -- `m58::m58_run` meets its contract, by those of the functions that it calls. Assumes nothing.
 use mathlib.Core.Path.{sym, ap, _∙_}
 use borrow.Author.Needs.{needs}
-use Rattle.m58.specs.Calls.{putInto}
+use Rattle.saved.specs.declared.Found.{Found}
 use Rattle.m58.specs.Laws.{ran-saved, ran-unsaved}
 use Rattle.m58.proofs.m58_run.Statement.{statement}
 use Rattle.m58.proofs.m58_run.Tie as tie
 
 returns : tie.Need-returns
-returns c = ran-saved _ (c .before .before .before .before .before .before .before .before .before .before .before .before .before .before .before .state-in .ensures) (c .before .before .before .before .before .before .before .before .before .before .before .before .run .ensures) (sym (c .before .before .before .before .before .before .before .before .before .before .before .before .before .before .before .before .before .is-saved-in .ensures) ∙ c .before .before .before .before .before .before .before .if1 .taken) (c .before .before .before .save .ensures .1) (c .before .before .put-words .ensures ∙ ap (putInto _) (c .before .before .before .save .ensures .0))
+returns c =
+    ran-saved _ (ap (λ (f : Found). f .state) (c .before .before .before .before .before .before .before .before .before .before .before .before .before .before .before .found-in .ensures)) (c .before .before .before .before .before .before .before .before .before .before .before .run .ensures)
+    (sym (ap (λ (f : Found). f .saved) (c .before .before .before .before .before .before .before .before .before .before .before .before .before .before .before .found-in .ensures)) ∙ c .before .before .before .before .before .before .if1 .taken)
+    (c .before .before .save .ensures .1) (c .before .before .save .ensures .0)
 
 returns-2 : tie.Need-returns-2
-returns-2 c = ran-unsaved _ (c .before .before .before .before .before .before .before .before .state-in .ensures) (c .before .before .before .before .before .run .ensures) (sym (c .before .before .before .before .before .before .before .before .before .before .is-saved-in .ensures) ∙ c .if1 .left)
+returns-2 c =
+    ran-unsaved _ (ap (λ (f : Found). f .state) (c .before .before .before .before .before .before .before .before .before .found-in .ensures)) (c .before .before .before .before .before .run .ensures)
+    (sym (ap (λ (f : Found). f .saved) (c .before .before .before .before .before .before .before .before .before .found-in .ensures)) ∙ c .if1 .left)
 
 pub m58-run-spec : {M : Type 1} → statement M
 m58-run-spec =
     tie.close
     (tie.spec
-    (λ c κs. search needs)
-    (λ c κs. search needs)
     (λ c κs. search needs)
     (λ c κs. search needs)
     (λ c κs. search needs)

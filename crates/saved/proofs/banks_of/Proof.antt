@@ -1,6 +1,6 @@
 -- `saved::banks_of` meets its contract. The invariant: the banks below `i` are those of their words. Assumes nothing.
 use Prim.Native.Nat.{_-_}
-use mathlib.Core.Path.{refl}
+use mathlib.Core.Path.{refl, ap, _∙_}
 use native.Mathlib.Omega.{arith}
 use lib.ListN.{getD, drop}
 use lib.Seq.{getD-drop}
@@ -17,32 +17,9 @@ Inv-loop words banks₀ i₀ banks i = Filled (record { mode = Array }) (λ k. b
 abbrev μ-loop : tie.MeasureT-loop
 μ-loop words banks₀ i₀ banks i = 16 - i
 
-loop-holds : tie.Need-loop-holds Inv-loop μ-loop
-loop-holds c = filled-none _ _ _ _ refl
-
-add-bank-numbered : tie.Need-add-bank-numbered Inv-loop μ-loop
-add-bank-numbered c = search needs
-
-mul-bank-numbered : tie.Need-mul-bank-numbered Inv-loop μ-loop
-mul-bank-numbered c = search needs
-
-array-read-bank-numbered : tie.Need-array-read-bank-numbered Inv-loop μ-loop
-array-read-bank-numbered c = search needs
-
-bank-numbered-requires : tie.Need-bank-numbered-requires Inv-loop μ-loop
-bank-numbered-requires c κs = search needs
-
-array-set-from-banks : tie.Need-array-set-from-banks Inv-loop μ-loop
-array-set-from-banks c = search needs
-
-add-i : tie.Need-add-i Inv-loop μ-loop
-add-i c = search needs
-
-loop-less : tie.Need-loop-less Inv-loop μ-loop
-loop-less c = search needs
-
 loop-again : tie.Need-loop-again Inv-loop μ-loop
-loop-again c = filled-more (c .before .before .loop .inv) (omega arith) (rw getD-drop (c .bank-numbered .ensures))
+loop-again c =
+    filled-more (c .before .before .before .loop .inv) (omega arith) (rw getD-drop (c .bank-numbered .ensures ∙ ap bankNumbered (c .before .word-at .ensures)))
 
 returns : tie.Need-returns Inv-loop μ-loop
 returns c = filled-all (c .before .loop .inv) (omega arith)
@@ -53,13 +30,12 @@ banks-of-spec =
     (tie.spec
     Inv-loop
     μ-loop
-    loop-holds
-    add-bank-numbered
-    mul-bank-numbered
-    array-read-bank-numbered
-    bank-numbered-requires
-    array-set-from-banks
-    add-i
-    loop-less
+    (λ c. filled-none _ _ _ _ refl)
+    (λ c. search needs)
+    (λ c κs. search needs)
+    (λ c κs. search needs)
+    (λ c. search needs)
+    (λ c. search needs)
+    (λ c. search needs)
     loop-again
     returns)

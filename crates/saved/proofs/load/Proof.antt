@@ -6,39 +6,19 @@ use Rattle.saved.proofs.load.Tie as tie
 
 returns : tie.Need-returns
 unfolding loadedOf
-returns c = simp (c .before .before .before .before .before .part-numbered .ensures, c .before .before .before .before .banks-of .ensures, c .before .before .before .setup-numbered .ensures, c .before .before .running-of .ensures, c .before .program-of .ensures, c .erase-of .ensures)
+returns c = simp (c .before .before .before .before .before .before .part-numbered .ensures, c .before .before .before .before .before .before .before .word-at .ensures, c .before .before .before .before .before .banks-of .ensures, c .before .before .before .before .activity-of .ensures, c .before .before .before .flags-of .ensures, c .before .before .protection-of .ensures, c .before .word-at2 .ensures, c .flag-at .ensures)
 
 pub load-spec : {M : Type 1} → statement M
 load-spec =
     tie.close
     (tie.spec
-    (λ c. search needs)
     (λ c κs. search needs)
     (λ c κs. search needs)
-    (λ c. search needs)
+    (λ c κs. search needs)
+    (λ c κs. search needs)
+    (λ c κs. search needs)
+    (λ c κs. search needs)
     (λ c κs. search needs)
     (λ c. search needs)
-    (λ c. search needs)
-    (λ c. search needs)
     (λ c κs. search needs)
-    (λ c. search needs)
-    (λ c. search needs)
-    (λ c. search needs)
-    (λ c κs. search needs)
-    (λ c. search needs)
-    (λ c. search needs)
-    (λ c. search needs)
-    (λ c κs. search needs)
-    (λ c. search needs)
-    (λ c. search needs)
-    (λ c. search needs)
-    (λ c. search needs)
-    (λ c. search needs)
-    (λ c. search needs)
-    (λ c. search needs)
-    (λ c. search needs)
-    (λ c. search needs)
-    (λ c. search needs)
-    (λ c. search needs)
-    (λ c. search needs)
     returns)

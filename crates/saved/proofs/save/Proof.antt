@@ -1,58 +1,41 @@
--- `saved::save` meets its contract, by those of the functions that give the words. Assumes nothing.
+-- `saved::save` meets its contract, by those of the functions that store the words. Assumes nothing.
+use mathlib.Core.Path.{ap, _∙_}
+use lib.ListN.{length, length-set}
 use borrow.Author.Needs.{needs}
-use Rattle.saved.specs.Saved.{savedOf}
+use borrow.Author.Tests.{ne-eqb}
+use Rattle.saved.specs.Saved.{putInto}
+use Rattle.saved.specs.Laws.{stored}
 use Rattle.saved.proofs.Fits.{fits}
 use Rattle.saved.proofs.save.Statement.{statement}
 use Rattle.saved.proofs.save.Tie as tie
 
 returns : tie.Need-returns
-unfolding savedOf
-returns c = (simp (c .before .before .before .before .before .before .before .part-number .ensures, c .before .before .before .before .before .before .before .before .before .before .before .bank-words .ensures, c .before .before .before .before .before .before .setup-number .ensures, c .before .before .before .before .before .before .before .before .before .before .running-words .ensures, c .before .before .before .before .before .before .before .before .before .program-words .ensures, c .before .before .before .before .before .before .before .before .erase-words .ensures, c .before .before .before .before .before .flag-number .ensures, c .before .before .before .before .flag-number2 .ensures, c .before .before .before .flag-number3 .ensures, c .before .before .flag-number4 .ensures, c .flag-number5 .ensures), fits _ _ (c .before .before .before .before .before .before .before .before .before .before .before .before .before .before .before .before .good .0))
+unfolding putInto
+returns c = (rw (ne-eqb _ 38 (c .if1 .taken)), fits _ _ (c .before .before .good .0))
+
+put-activity-requires : tie.Need-put-activity-requires
+put-activity-requires c κs = ap length (c .before .before .before .put-banks .ensures) ∙ simp length-set (c .before .before .before .before .before .before .before .before .before .before .if1 .left)
+
+put-rest-requires : tie.Need-put-rest-requires
+put-rest-requires c κs = ap length (c .before .before .before .put-activity .ensures) ∙ simp length-set (ap length (c .before .before .before .before .before .before .before .put-banks .ensures) ∙ simp length-set (c .before .before .before .before .before .before .before .before .before .before .before .before .before .before .if1 .left))
+
+same-length : tie.Need-same-length
+same-length c = ap length (c .before .before .put-rest .ensures) ∙ simp length-set (ap length (c .before .before .before .before .before .before .put-activity .ensures) ∙ simp length-set (ap length (c .before .before .before .before .before .before .before .before .before .before .put-banks .ensures) ∙ simp length-set))
+
+returns-2 : tie.Need-returns-2
+returns-2 c =
+    (stored _ _ _ _ _ _ (c .before .before .before .before .before .before .before .before .before .before .before .before .before .before .before .before .before .if1 .left) (c .before .before .before .before .before .before .before .before .before .before .before .before .part-number .ensures) (c .before .before .before .before .before .before .before .before .before .before .put-banks .ensures)
+    (c .before .before .before .before .before .before .put-activity .ensures) (c .before .before .put-rest .ensures), fits _ _ (c .before .before .before .before .before .before .before .before .before .before .before .before .before .before .before .before .before .before .before .good .0))
 
 pub save-spec : {M : Type 1} → statement M
 save-spec =
     tie.close
     (tie.spec
-    (λ c κs. search needs)
-    (λ c κs. search needs)
-    (λ c κs. search needs)
-    (λ c κs. search needs)
+    returns
     (λ c κs. search needs)
     (λ c. search needs)
-    (λ c. search needs)
-    (λ c. search needs)
-    (λ c. search needs)
-    (λ c. search needs)
-    (λ c. search needs)
-    (λ c. search needs)
-    (λ c. search needs)
-    (λ c. search needs)
-    (λ c. search needs)
-    (λ c. search needs)
-    (λ c. search needs)
-    (λ c. search needs)
-    (λ c. search needs)
-    (λ c. search needs)
-    (λ c. search needs)
     (λ c κs. search needs)
-    (λ c. search needs)
-    (λ c. search needs)
-    (λ c. search needs)
-    (λ c. search needs)
-    (λ c. search needs)
-    (λ c. search needs)
-    (λ c. search needs)
-    (λ c. search needs)
-    (λ c. search needs)
-    (λ c κs. search needs)
-    (λ c κs. search needs)
-    (λ c κs. search needs)
-    (λ c κs. search needs)
-    (λ c. search needs)
-    (λ c. search needs)
-    (λ c. search needs)
-    (λ c. search needs)
-    (λ c. search needs)
-    (λ c. search needs)
-    (λ c κs. search needs)
-    returns)
+    put-activity-requires
+    put-rest-requires
+    same-length
+    returns-2)

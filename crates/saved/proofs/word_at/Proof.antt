@@ -1,9 +1,9 @@
--- `m58::word_at` meets its contract: past the end there is 0. Assumes nothing.
+-- `saved::word_at` meets its contract: past the end there is 0. Assumes nothing.
 use mathlib.Core.Path.{sym}
 use lib.ListN.{List·getD-eq-default}
 use borrow.Author.Needs.{needs}
-use Rattle.m58.proofs.word_at.Statement.{statement}
-use Rattle.m58.proofs.word_at.Tie as tie
+use Rattle.saved.proofs.word_at.Statement.{statement}
+use Rattle.saved.proofs.word_at.Tie as tie
 
 mul-result : tie.Need-mul-result
 mul-result c = search needs

@@ -1,0 +1,16 @@
+-- `saved::running_in_range` meets its contract: by the tests that led to each return. Assumes nothing.
+use borrow.Author.Tests.{eq-eqb, ne-eqb}
+use Rattle.saved.proofs.running_in_range.Statement.{statement}
+use Rattle.saved.proofs.running_in_range.Tie as tie
+
+returns : tie.Need-returns
+returns c = rw (eq-eqb _ _ (c .if1 .taken))
+
+returns-2 : tie.Need-returns-2
+returns-2 c = rw (ne-eqb _ _ (c .before .if1 .left), eq-eqb _ _ (c .if2 .taken))
+
+returns-3 : tie.Need-returns-3
+returns-3 c = rw (ne-eqb _ _ (c .before .if1 .left), ne-eqb _ _ (c .if2 .left))
+
+pub running-in-range-spec : {M : Type 1} → statement M
+running-in-range-spec = tie.close (tie.spec returns returns-2 returns-3)
