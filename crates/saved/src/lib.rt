@@ -329,7 +329,10 @@ pub fn load(words: &[u64]) -> State
 pub fn no_state(words: &[u64]) -> State
     ensures { λ r. ⌜ r ≡ noState (now (words .entry)) ⌝ }
 {
-    state::with_protection(state::power_up(part_numbered(word_at(words, 0))), [0, 0, 0, 0, 8])
+    state::with_protection(
+        state::power_up(part_numbered(word_at(words, 0))),
+        [0, 0, 0, 0, 8],
+    )
 }
 
 // Tests the words, once, and gives their state: of a saved state that which was saved.

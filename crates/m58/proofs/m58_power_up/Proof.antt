@@ -20,11 +20,12 @@ returns-3 : tie.Need-returns-3
 unfolding powersUp poweredUp putInto
 returns-3 c =
     let e = le-leb (c .before .before .before .before .before .before .before .before .before .before .args .part) 3 (c .before .before .before .before .before .before .before .before .if1 .left) in
-    let f = eq-eqb _ 38 (c .before .before .before .before .before .before .before .if2 .left) in
-    (rw (e, f),
-    rw (e, f)
-    (c .before .before .save .ensures .0
-    ∙ rw f (ap (λ (d : Device). savedOf (d .state)) (c .before .before .before .before .before .power-up .ensures) ∙ rw (c .before .before .before .before .before .before .part-numbered .ensures))))
+    let f = eq-eqb _ 38 (c .before .before .before .before .before .before .before .if2 .left) in (
+      rw (e, f),
+      rw (e, f)
+          (c .before .before .save .ensures .0
+          ∙ rw f (ap (λ (d : Device). savedOf (d .state)) (c .before .before .before .before .before .power-up .ensures) ∙ rw (c .before .before .before .before .before .before .part-numbered .ensures))),
+    )
 
 pub m58-power-up-spec : {M : Type 1} → statement M
 m58-power-up-spec =

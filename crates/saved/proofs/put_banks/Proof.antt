@@ -20,9 +20,13 @@ loop-holds : tie.Need-loop-holds Inv-loop μ-loop
 loop-holds c = (search needs, (search needs, refl))
 
 loop-again : tie.Need-loop-again Inv-loop μ-loop
-loop-again c =
-    (search needs, (simp length-set (search needs),
-    banks-next (c .before .before .before .before .before .args .t2) (c .before .before .before .before .before .args .words .now) _ _ _ (search needs) (c .before .before .before .loop .inv .1 .1) (c .bank-number .ensures)))
+loop-again c = (
+  search needs,
+  (
+    simp length-set (search needs),
+    banks-next (c .before .before .before .before .before .args .t2) (c .before .before .before .before .before .args .words .now) _ _ _ (search needs) (c .before .before .before .loop .inv .1 .1) (c .bank-number .ensures),
+  ),
+)
 
 returns : tie.Need-returns Inv-loop μ-loop
 returns c = let e : c .before .loop .i ≡ 16 = omega arith in c .before .loop .inv .1 .1 ∙ rw e

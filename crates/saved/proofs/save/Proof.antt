@@ -23,9 +23,11 @@ same-length : tie.Need-same-length
 same-length c = ap length (c .before .before .put-rest .ensures) ∙ simp length-set (ap length (c .before .before .before .before .before .before .put-activity .ensures) ∙ simp length-set (ap length (c .before .before .before .before .before .before .before .before .before .before .put-banks .ensures) ∙ simp length-set))
 
 returns-2 : tie.Need-returns-2
-returns-2 c =
-    (stored _ _ _ _ _ _ (c .before .before .before .before .before .before .before .before .before .before .before .before .before .before .before .before .before .if1 .left) (c .before .before .before .before .before .before .before .before .before .before .before .before .part-number .ensures) (c .before .before .before .before .before .before .before .before .before .before .put-banks .ensures)
-    (c .before .before .before .before .before .before .put-activity .ensures) (c .before .before .put-rest .ensures), fits _ _ (c .before .before .before .before .before .before .before .before .before .before .before .before .before .before .before .before .before .before .before .good .0))
+returns-2 c = (
+  stored _ _ _ _ _ _ (c .before .before .before .before .before .before .before .before .before .before .before .before .before .before .before .before .before .if1 .left) (c .before .before .before .before .before .before .before .before .before .before .before .before .part-number .ensures) (c .before .before .before .before .before .before .before .before .before .before .put-banks .ensures)
+      (c .before .before .before .before .before .before .put-activity .ensures) (c .before .before .put-rest .ensures),
+  fits _ _ (c .before .before .before .before .before .before .before .before .before .before .before .before .before .before .before .before .before .before .before .good .0),
+)
 
 pub save-spec : {M : Type 1} → statement M
 save-spec =
