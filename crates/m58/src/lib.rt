@@ -69,14 +69,15 @@ pub extern "C" fn m58_run(
     ensures { λ r. ⌜ Ran (now (state .entry)) (now (steps .entry)) (now (answers .entry)) (now (array .entry)) r (now (state .exit)) (now (answers .exit)) (now (array .exit)) ⌝ }
 {
     let found = saved::found_in(state);
+    let good = found.saved;
     let before = found.state;
     let d = Device { state: before };
     let end = playback::run(d, steps, answers, array);
     let n = end.played;
-    if found.saved {
+    if good {
         let after = end.device;
-        let s = after.state;
-        saved::save(s, state);
+        let last = after.state;
+        saved::save(last, state);
     }
     n
 }

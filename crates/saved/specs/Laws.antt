@@ -30,7 +30,7 @@ use Rattle.semantics.specs.declared.State.{State}
 use Rattle.semantics.specs.State.{activity, flagsOf, powerUp}
 use Rattle.semantics.specs.Reading.{bitIf}
 use Rattle.semantics.specs.WellFormed.{runningAlone, programAlone, eraseAlone, runningFits, programFits, suspendedEraseFits, allFit, runningApart, programApart, apart, activityFormed, wellFormed}
-use Rattle.saved.specs.Saved.{partNumber, modeNumber, modeNumbered, bankNumber, bankNumbered, setupNumber, setupNumbered, flagNumbered, runningWords, runningOf, programWords, programOf, eraseWords, eraseOf, listed, first, bankWords, activityWords, restWords, savedOf, loadedOf, same, isSaved, noState, stateOf, putInto}
+use Rattle.saved.specs.Saved.{partNumber, modeNumber, modeNumbered, bankNumber, bankNumbered, setupNumber, setupNumbered, flagNumbered, runningWords, runningOf, programWords, programOf, eraseWords, eraseOf, listed, first, bankWords, activityWords, restOf, savedOf, loadedOf, same, isSaved, noState, stateOf, putInto}
 
 -- ---- lists
 
@@ -105,20 +105,14 @@ banks-next banks l ws i x h p q =
 
 -- room for 38 words after the stores of a state's words, group by group
 pub stored : (s : State) (l₀ l₁ l₂ l₃ : List ℕ) (n : ℕ) → length l₀ ≡ 38 → n ≡ partNumber (s .part) → l₁ ≡ sets (set l₀ 0 n) 1 (bankWords (s .banks)) → l₂ ≡ sets l₁ 17 (activityWords (s .activity))
-    → l₃ ≡ sets l₂ 27 (restWords (s .flags) (s .unprotected) (s .configuration) (s .supply)) → l₃ ≡ putInto l₀ (savedOf s)
+    → l₃ ≡ sets l₂ 27 (restOf s) → l₃ ≡ putInto l₀ (savedOf s)
 unfolding savedOf putInto
 stored s l₀ l₁ l₂ l₃ n h p q r t =
-    t ∙ ap after₂ (r ∙ ap after₁ (q ∙ ap after₀ p)) ∙ subst (λ (m : List ℕ). after₂ (after₁ (sets (set m 0 (partNumber (s .part))) 1 (bankWords (s .banks)))) ≡ savedOf s) (first-all 38 l₀ h) refl
-    ∙ rw (eq-eqb (length l₀) 38 h)
+    t ∙ ap (λ (l : List ℕ). sets l 27 (restOf s)) (r ∙ ap (λ (l : List ℕ). sets l 17 (activityWords (s .activity))) q) ∙ ap (all l₀) p
+    ∙ subst (λ (l : List ℕ). all l (partNumber (s .part)) ≡ savedOf s) (first-all 38 l₀ h) refl ∙ rw (eq-eqb (length l₀) 38 h)
   where
-    after₀ : ℕ → List ℕ
-    after₀ x = sets (set l₀ 0 x) 1 (bankWords (s .banks))
-
-    after₁ : List ℕ → List ℕ
-    after₁ l = sets l 17 (activityWords (s .activity))
-
-    after₂ : List ℕ → List ℕ
-    after₂ l = sets l 27 (restWords (s .flags) (s .unprotected) (s .configuration) (s .supply))
+    all : List ℕ → ℕ → List ℕ
+    all l x = sets (sets (sets (set l 0 x) 1 (bankWords (s .banks))) 17 (activityWords (s .activity))) 27 (restOf s)
 
 -- ---- a field and back
 

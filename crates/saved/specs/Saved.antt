@@ -112,19 +112,21 @@ bankWords l = listed 16 (λ k. bankNumber (getD l k (record { mode = Array })))
 abbrev pub banksOf : List ℕ → List Bank
 banksOf ws = listed 16 (λ k. bankNumbered (getD (drop 1 ws) k 0))
 
--- the words of what is under way, and of what stands behind it
+-- the words of what is under way, and of the rest of a state
 abbrev pub activityWords : Activity → List ℕ
 activityWords a = setupNumber (a .setup) ∷ (first 3 (runningWords (a .running)) ++ (first 3 (programWords (a .program)) ++ first 3 (eraseWords (a .erase))))
 
 abbrev pub restWords : Flags → List ℕ → ℕ → Bool → List ℕ
 restWords f u configuration supply = flagWords f ++ (first 5 u ++ (configuration ∷ bitIf supply 1 ∷ []))
 
+abbrev pub restOf : State → List ℕ
+restOf s = restWords (s .flags) (s .unprotected) (s .configuration) (s .supply)
+
 -- word 0 the part; 1 to 16 the modes of the banks; 17 the set-up; 18 to 20 what runs; 21 to 23 the suspended program; 24 to 26 the suspended erase;
 -- 27 to 30 the flags SR5, SR4, SR3, SR1; 31 to 35 the protection words; 36 the configuration register; 37 the supply
 unfoldable pub savedOf : State → List ℕ
 savedOf s =
-    partNumber (s .part) ∷ (bankWords (s .banks)
-    ++ (activityWords (s .activity) ++ restWords (s .flags) (s .unprotected) (s .configuration) (s .supply)))
+    partNumber (s .part) ∷ (bankWords (s .banks) ++ (activityWords (s .activity) ++ restOf s))
 
 -- the state that words say, whatever they are, field by field: a word that is missing is 0, and a number is reduced to the bits that its field has, which
 -- for a protection word are all

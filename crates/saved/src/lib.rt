@@ -1,4 +1,4 @@
-// A device's state as 38 words, so that programs in C can keep it, and back. Each function takes every state and all words.
+// A device's state as 38 words, so that programs in C can keep it, and back. Each public function takes every state and all words.
 use geometry::Part;
 use semantics::Activity;
 use semantics::Bank;
@@ -9,7 +9,6 @@ use semantics::Setup;
 use semantics::State;
 use semantics::SuspendedErase;
 use semantics::SuspendedProgram;
-ghost use mathlib.Core.Bool.{_&&_};
 ghost use mathlib.Core.Path.{_≡_};
 ghost use lib.ListN.{length, getD};
 ghost use lib.Seq.{sets};
