@@ -34,12 +34,13 @@ erase-fits (erase.Erase b n) vs p = let q = p .1 .1 .1 .1 in (q .0 .1, q .1 .0 .
 pub fits : (s : State) (vs : List Val) → Is (row state-type.the-type) s vs → Fitting s
 fits s vs p =
     let q = p .1 .1 in
-    let a = q .1 .1 .0 .1 .1 in
+    let k = q .1 .1 .1 .0 .1 .1 in
+    let a = k .0 .1 .1 in
     record {
       banks = simp length-map at (q .1 .0 .1 .0 .1);
-      running = running-fits (s .activity .running) _ (a .1 .0);
-      program = program-fits (s .activity .program) _ (a .1 .1 .0);
-      erase = erase-fits (s .activity .erase) _ (a .1 .1 .1 .0);
-      unprotected = simp length-map at (q .1 .1 .1 .1 .0 .1 .0 .1);
-      configuration = q .1 .1 .1 .1 .1 .0 .1;
+      running = running-fits (s .control .activity .running) _ (a .1 .0);
+      program = program-fits (s .control .activity .program) _ (a .1 .1 .0);
+      erase = erase-fits (s .control .activity .erase) _ (a .1 .1 .1 .0);
+      unprotected = simp length-map at (q .1 .1 .0 .1 .0 .1);
+      configuration = k .1 .1 .0 .1;
     }

@@ -104,15 +104,15 @@ banks-next banks l ws i x h p q =
     rw (p, ← e, n) (sets-next (bankWords banks) l 1 i h)
 
 -- room for 38 words after the stores of a state's words, group by group
-pub stored : (s : State) (l₀ l₁ l₂ l₃ : List ℕ) (n : ℕ) → length l₀ ≡ 38 → n ≡ partNumber (s .part) → l₁ ≡ sets (set l₀ 0 n) 1 (bankWords (s .banks)) → l₂ ≡ sets l₁ 17 (activityWords (s .activity))
+pub stored : (s : State) (l₀ l₁ l₂ l₃ : List ℕ) (n : ℕ) → length l₀ ≡ 38 → n ≡ partNumber (s .part) → l₁ ≡ sets (set l₀ 0 n) 1 (bankWords (s .banks)) → l₂ ≡ sets l₁ 17 (activityWords (s .control .activity))
     → l₃ ≡ sets l₂ 27 (restOf s) → l₃ ≡ putInto l₀ (savedOf s)
 unfolding savedOf putInto
 stored s l₀ l₁ l₂ l₃ n h p q r t =
-    t ∙ ap (λ (l : List ℕ). sets l 27 (restOf s)) (r ∙ ap (λ (l : List ℕ). sets l 17 (activityWords (s .activity))) q) ∙ ap (all l₀) p
+    t ∙ ap (λ (l : List ℕ). sets l 27 (restOf s)) (r ∙ ap (λ (l : List ℕ). sets l 17 (activityWords (s .control .activity))) q) ∙ ap (all l₀) p
     ∙ subst (λ (l : List ℕ). all l (partNumber (s .part)) ≡ savedOf s) (first-all 38 l₀ h) refl ∙ rw (eq-eqb (length l₀) 38 h)
   where
     all : List ℕ → ℕ → List ℕ
-    all l x = sets (sets (sets (set l 0 x) 1 (bankWords (s .banks))) 17 (activityWords (s .activity))) 27 (restOf s)
+    all l x = sets (sets (sets (set l 0 x) 1 (bankWords (s .banks))) 17 (activityWords (s .control .activity))) 27 (restOf s)
 
 -- ---- a field and back
 
@@ -166,11 +166,11 @@ EraseFitting (erase.Erase b n) = (b < 4294967296) × (n < 4294967296)
 -- what every state that the code holds has, by its types
 pub record Fitting (s : State) : Type 0 where
   pub banks : length (s .banks) ≡ 16
-  pub running : RunningFitting (s .activity .running)
-  pub program : ProgramFitting (s .activity .program)
-  pub erase : EraseFitting (s .activity .erase)
+  pub running : RunningFitting (s .control .activity .running)
+  pub program : ProgramFitting (s .control .activity .program)
+  pub erase : EraseFitting (s .control .activity .erase)
   pub unprotected : length (s .unprotected) ≡ 5
-  pub configuration : s .configuration < 65536
+  pub configuration : s .control .configuration < 65536
 
 running-back : (r : Running) → RunningFitting r → runningOf (getD (runningWords r) 0 0) (getD (runningWords r) 1 0) (getD (runningWords r) 2 0) ≡ r
 running-back running.Idle h = refl
@@ -191,13 +191,15 @@ unfolding savedOf loadedOf
 loaded-saved s h = λ j. record {
   part = part-back (s .part) j;
   banks = banks-back (s .banks) (h .banks) j;
-  activity =
-      activity (setup-back (s .activity .setup) j) (running-back (s .activity .running) (h .running) j) (program-back (s .activity .program) (h .program) j)
-      (erase-back (s .activity .erase) (h .erase) j);
-  flags = flagsOf (flag-back (s .flags .sr5) j) (flag-back (s .flags .sr4) j) (flag-back (s .flags .sr3) j) (flag-back (s .flags .sr1) j);
   unprotected = first-all 5 (s .unprotected) (h .unprotected) j;
-  configuration = mod-eq-of-lt (h .configuration) j;
-  supply = flag-back (s .supply) j;
+  control = record {
+    activity =
+        activity (setup-back (s .control .activity .setup) j) (running-back (s .control .activity .running) (h .running) j) (program-back (s .control .activity .program) (h .program) j)
+        (erase-back (s .control .activity .erase) (h .erase) j);
+    flags = flagsOf (flag-back (s .control .flags .sr5) j) (flag-back (s .control .flags .sr4) j) (flag-back (s .control .flags .sr3) j) (flag-back (s .control .flags .sr1) j);
+    configuration = mod-eq-of-lt (h .configuration) j;
+    supply = flag-back (s .control .supply) j;
+  };
 }
 
 -- so its words are a saved state, and say it

@@ -120,13 +120,13 @@ abbrev pub restWords : Flags → List ℕ → ℕ → Bool → List ℕ
 restWords f u configuration supply = flagWords f ++ (first 5 u ++ (configuration ∷ bitIf supply 1 ∷ []))
 
 abbrev pub restOf : State → List ℕ
-restOf s = restWords (s .flags) (s .unprotected) (s .configuration) (s .supply)
+restOf s = restWords (s .control .flags) (s .unprotected) (s .control .configuration) (s .control .supply)
 
 -- word 0 the part; 1 to 16 the modes of the banks; 17 the set-up; 18 to 20 what runs; 21 to 23 the suspended program; 24 to 26 the suspended erase;
 -- 27 to 30 the flags SR5, SR4, SR3, SR1; 31 to 35 the protection words; 36 the configuration register; 37 the supply
 unfoldable pub savedOf : State → List ℕ
 savedOf s =
-    partNumber (s .part) ∷ (bankWords (s .banks) ++ (activityWords (s .activity) ++ restOf s))
+    partNumber (s .part) ∷ (bankWords (s .banks) ++ (activityWords (s .control .activity) ++ restOf s))
 
 -- the state that words say, whatever they are, field by field: a word that is missing is 0, and a number is reduced to the bits that its field has, which
 -- for a protection word are all
@@ -145,11 +145,8 @@ unfoldable pub loadedOf : List ℕ → State
 loadedOf ws = record {
   part = partNumbered (getD ws 0 0);
   banks = banksOf ws;
-  activity = activityOf ws;
-  flags = flagsIn ws;
   unprotected = protectionIn ws;
-  configuration = getD ws 36 0 % 65536;
-  supply = flagNumbered (getD ws 37 0);
+  control = record { activity = activityOf ws; flags = flagsIn ws; configuration = getD ws 36 0 % 65536; supply = flagNumbered (getD ws 37 0) };
 }
 
 -- two lists are the same, word by word

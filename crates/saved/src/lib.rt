@@ -2,6 +2,7 @@
 use geometry::Part;
 use semantics::Activity;
 use semantics::Bank;
+use semantics::Control;
 use semantics::Flags;
 use semantics::Mode;
 use semantics::Running;
@@ -316,11 +317,13 @@ pub fn load(words: &[u64]) -> State
     State {
         part: part_numbered(word_at(words, 0)),
         banks: banks_of(words),
-        activity: activity_of(words),
-        flags: flags_of(words),
         unprotected: protection_of(words),
-        configuration: (word_at(words, 36) % 65536) as u16,
-        supply: flag_at(words, 37),
+        control: Control {
+            activity: activity_of(words),
+            flags: flags_of(words),
+            configuration: (word_at(words, 36) % 65536) as u16,
+            supply: flag_at(words, 37),
+        },
     }
 }
 
@@ -413,11 +416,11 @@ pub fn save(s: State, words: &mut [u64])
     }
     let part = s.part;
     let banks = s.banks;
-    let a = s.activity;
-    let f = s.flags;
+    let a = s.control.activity;
+    let f = s.control.flags;
     let u = s.unprotected;
     words[0] = part_number(part);
     put_banks(words, banks);
     put_activity(words, a);
-    put_rest(words, f, u, s.configuration, s.supply);
+    put_rest(words, f, u, s.control.configuration, s.control.supply);
 }
