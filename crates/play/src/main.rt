@@ -97,8 +97,8 @@ fn main() {
     warn(&text[..n]);
     // The bench part's words, all FFFFh at the start.
     let mut array = [0xffffu16; 16384];
-    // Room for the longest transcript: 16,384 empty lines take 251,048 bytes.
-    let mut room = [0u8; 262144];
+    // Room for every transcript, as its type asks.
+    let mut room = [0u8; 262154];
     let end = script::play_text(&text[..n], &mut array, &mut room);
     print(&room, end);
 }

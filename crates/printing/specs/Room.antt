@@ -6,8 +6,8 @@ use mathlib.Core.List.{List, [], _∷_, _++_}
 use mathlib.Core.Path.{_≡_, refl, sym, ap, _∙_}
 use native.Mathlib.Decide.{decLt}
 use native.Mathlib.Omega.{arith}
-use lib.ListN.{length, getD, set, length-set, length-append, List·getD-eq-default, List·getD-append}
-use lib.Seq.{getD-set-same, getD-set-other, getD-append-add}
+use lib.ListN.{length, getD, set, drop, length-set, length-append, length-drop, List·getD-eq-default, List·getD-append}
+use lib.Seq.{getD-set-same, getD-set-other, getD-append-add, getD-drop}
 use Rattle.semantics.specs.Numbers.{within, within-in, within-out, within-true, within-false}
 use Rattle.semantics.specs.Working.{tabulate}
 use Rattle.semantics.specs.Arrays.{length-tabulate, getD-tabulate, tabulate-is}
@@ -150,3 +150,32 @@ put-in room at b h = record { room = placed-is room at (b ∷ []) (set room at b
 pub put-out : (room : List ℕ) (at b : ℕ) → length room ≤ at → Put room at (b ∷ []) room at
 unfolding advanced
 put-out room at b h = record { room = placed-is room at (b ∷ []) room refl (λ i k a c. absurd (omega arith)) (λ i k out. refl); place = omega arith }
+
+-- ---- bytes that fit
+
+module _ {before bytes after : List ℕ} {next : ℕ} (p : Put before 0 bytes after next) (fits : length bytes ≤ length before) where
+  -- they stand whole from the room's start on, and the rest of the room stays
+  pub put-whole : after ≡ bytes ++ drop (length bytes) before
+  put-whole = p .room ∙ sym (placed-is before 0 bytes (bytes ++ drop (length bytes) before) long put kept)
+    where
+      long : length (bytes ++ drop (length bytes) before) ≡ length before
+      long = omega (arith, length-append bytes (drop (length bytes) before), length-drop (length bytes) before)
+
+      put : (i : ℕ) → i < length before → 0 ≤ i → i < 0 + length bytes → getD (bytes ++ drop (length bytes) before) i 0 ≡ getD bytes (i - 0) 0
+      put i h a b = List·getD-append bytes (drop (length bytes) before) 0 i (omega arith) ∙ ap (λ (j : ℕ). getD bytes j 0) (omega arith)
+
+      kept : (i : ℕ) → i < length before → (0 ≤ i → i < 0 + length bytes → ⊥) → getD (bytes ++ drop (length bytes) before) i 0 ≡ getD before i 0
+      kept i h out = go (decLt i (length bytes))
+        where
+          go : Dec (i < length bytes) → getD (bytes ++ drop (length bytes) before) i 0 ≡ getD before i 0
+          go (yes k) = absurd (out (omega arith) (omega arith))
+          go (no k) =
+              ap (λ (j : ℕ). getD (bytes ++ drop (length bytes) before) j 0) (omega arith)
+              ∙ getD-append-add bytes (drop (length bytes) before) (i - length bytes) 0
+              ∙ getD-drop (length bytes) before (i - length bytes) 0
+              ∙ ap (λ (j : ℕ). getD before j 0) (omega arith)
+
+  -- and the next place is their number
+  pub put-counted : next ≡ length bytes
+  unfolding advanced
+  put-counted = p .place ∙ omega arith

@@ -6,15 +6,19 @@ use mathlib.Core.Path.{_≡_, refl, sym, ap, subst, _∙_}
 use native.Mathlib.Omega.{arith}
 use native.Mathlib.Numerals.{add-one}
 use lib.ListN.{length, take, drop, length-take, drop-of-length-le}
+use borrow.Author.Tests.{ne-eqb}
 use Rattle.geometry.specs.declared.Part.the-variants.{BenchBottom}
 use Rattle.geometry.specs.Blocks.{geometryOf, words}
 use Rattle.semantics.specs.declared.Step.{Step}
 use Rattle.semantics.specs.declared.Answer.the-variants.{Refused}
+use Rattle.semantics.specs.declared.Next.{Next}
 use Rattle.semantics.specs.declared.Decoded.{Decoded}
 use Rattle.semantics.specs.declared.Decoded.the-variants.{Valid, Invalid}
-use Rattle.semantics.specs.State.{powerUp}
-use Rattle.semantics.specs.Steps.{Machine, after, afterAll, fresh}
+use Rattle.semantics.specs.State.{geometry, powerUp}
+use Rattle.semantics.specs.Steps.{stateRefusal, firstRefusal, refusalOf, next, stepOf, Machine, after, afterAll, fresh}
+use Rattle.semantics.specs.Invariant.{state-good}
 use Rattle.semantics.specs.Standing.{Demand3, demand-3-whole}
+use Rattle.semantics.specs.Consequences.{Good, reached-good}
 use Rattle.device.specs.declared.Device.{Device}
 use Rattle.device.specs.declared.Outcome.{Outcome}
 use Rattle.device.specs.Outcomes.{holding, outcome, arrayOut}
@@ -24,17 +28,21 @@ use Rattle.printing.specs.Text.{text, digitOf, digits, decimal, lineText, endTe
 use Rattle.printing.specs.Room.{Put, put-none, put-then}
 use Rattle.script.specs.declared.Taken.{Taken}
 use Rattle.script.specs.declared.Played.{Played}
-use Rattle.script.specs.Script.{scriptOf, lines, answerOf, machineAfter, machineOf, LinePlayed, stepsOf, afterLines, spoken, stepsOfLines, stepsOfScript, machineAtEnd, transcriptOf, Transcribed}
+use Rattle.script.specs.Script.{scriptOf, lines, lineRefusal, answerOf, machineAfter, machineOf, LinePlayed, stepsOf, afterLines, spoken, stepsOfLines, stepsOfScript, machineAtEnd, transcriptOf, PlayedInto}
 use Rattle.script.specs.Lines.{lineEnd, lineNext, takenAt, next-later, lines-next}
 
 -- ---- lines that are refused, and texts that are empty or too long
 
--- "A line over 16 bytes, or empty, is refused 6."
-pub long-refused : (m : Machine) (l : List ℕ) → 16 < length l → answerOf m (stepOfLine l) ≡ Refused 6
-long-refused m l h = rw (long-invalid l h)
-
-pub empty-refused : (m : Machine) → answerOf m (stepOfLine []) ≡ Refused 6
-empty-refused m = rw empty-invalid
+-- 1 "array length is not 256u": whatever the line, a form or none
+pub other-array : (m : Machine) (d : Decoded) → (length (m .array) ≡ words (geometry (m .state)) → ⊥) → answerOf m d ≡ Refused 1
+unfolding lineRefusal stepOf refusalOf firstRefusal stateRefusal
+other-array m d h = go d (stateRefusal (m .state) (length (m .array))) refl (rw (ne-eqb (length (m .array)) (words (geometry (m .state))) h))
+  where
+    go : (d : Decoded) (n : ℕ) → stateRefusal (m .state) (length (m .array)) ≡ n → n ≡ 1 → answerOf m d ≡ Refused 1
+    go (Valid x) n e f =
+        let q : stepOf (m .state) (m .array) x ≡ next (m .state) (Refused 1) = rw (e, f) in
+        ap (λ (y : Next). y .answer) q
+    go Invalid n e f = rw (e, f)
 
 -- "Empty input prints `end 0`."
 pub empty-text : (xs : List ℕ) → transcriptOf xs [] ≡ text "end 0\n"
@@ -61,8 +69,24 @@ pub machine-steps : (xs t : List ℕ) → machineAtEnd xs t ≡ afterAll (fresh 
 unfolding machineAtEnd stepsOfScript
 machine-steps xs t = lines-steps (fresh BenchBottom xs) (lines (scriptOf t))
 
+-- on an array of the part's length 1 and 2 do not come: a line without a form is refused 6, wherever it stands
+module _ (xs : List ℕ) (before : List (List ℕ)) (h : length xs ≡ words (geometryOf BenchBottom)) where
+  pub no-form : (l : List ℕ) → stepOfLine l ≡ Invalid → answerOf (afterLines (fresh BenchBottom xs) before) (stepOfLine l) ≡ Refused 6
+  unfolding lineRefusal firstRefusal
+  no-form l e =
+      let m : Machine = afterLines (fresh BenchBottom xs) before in
+      let good : Good m = subst (λ (k : Machine). Good k) (sym (lines-steps (fresh BenchBottom xs) before)) (reached-good BenchBottom (stepsOfLines before) xs h) in
+      rw (e, state-good (m .state) (length (m .array)) (good .size) (good .formed))
+
+  -- "A line over 16 bytes, or empty, is refused 6."
+  pub long-refused : (l : List ℕ) → 16 < length l → answerOf (afterLines (fresh BenchBottom xs) before) (stepOfLine l) ≡ Refused 6
+  long-refused l k = no-form l (long-invalid l k)
+
+  pub empty-refused : answerOf (afterLines (fresh BenchBottom xs) before) (stepOfLine []) ≡ Refused 6
+  empty-refused = no-form [] empty-invalid
+
 -- so demand 3 holds of its array
-journaled : (xs t : List ℕ) → length xs ≡ words (geometryOf BenchBottom) → Demand3 BenchBottom (stepsOfScript t) xs (machineAtEnd xs t .array)
+pub journaled : (xs t : List ℕ) → length xs ≡ words (geometryOf BenchBottom) → Demand3 BenchBottom (stepsOfScript t) xs (machineAtEnd xs t .array)
 journaled xs t h = rw machine-steps (demand-3-whole BenchBottom (stepsOfScript t) xs h)
 
 -- ---- one line
@@ -77,9 +101,10 @@ module _ (line : List ℕ) (d : Device) (number : ℕ) (xs room : List ℕ) (pla
   }
 
   -- a line with none: nothing changed, and the refusal was printed
-  pub line-refused : (after : List ℕ) (next : ℕ) → stepOfLine line ≡ Invalid → Put room place (lineText number (Refused 6)) after next
-      → LinePlayed line d number xs room place (record { device = d; place = next }) xs after
-  line-refused after next e p = record { machine = rw e; written = rw e p }
+  pub line-refused : (n : ℕ) (after : List ℕ) (next : ℕ) → stepOfLine line ≡ Invalid → n ≡ firstRefusal (stateRefusal (d .state) (length xs)) 6
+      → Put room place (lineText number (Refused n)) after next → LinePlayed line d number xs room place (record { device = d; place = next }) xs after
+  unfolding lineRefusal
+  line-refused n after next e f p = record { machine = rw e; written = rw (e, ← f) p }
 
 -- ---- the loop: the lines before place `at` have been played
 
@@ -143,7 +168,7 @@ module _ (script xs room : List ℕ) (d : Device) (count at place : ℕ) (array 
 
   -- no line is left: the end
   pub sofar-end : (t : List ℕ) (next : ℕ) (after′ : List ℕ) → script ≡ scriptOf t → length script ≤ at → Put after place (endText count) after′ next
-      → Transcribed t xs room next array after′
+      → PlayedInto t xs room next array after′
   unfolding lines machineAtEnd transcriptOf
   sofar-end t next after′ e h p =
       let none : drop at script ≡ [] = drop-of-length-le script h in
@@ -158,8 +183,4 @@ module _ (script xs room : List ℕ) (d : Device) (count at place : ℕ) (array 
       ap (λ (k : List ℕ). afterLines (machineOf d array) (lines k)) (sym none) ∙ s .machine
       in
       let same : array ≡ machineAtEnd xs t .array = ap (λ (m : Machine). m .array) ends ∙ ap (λ (k : List ℕ). afterLines (fresh BenchBottom xs) (lines k) .array) e in
-      record {
-        written = subst (λ (k : List ℕ). Put room 0 k after′ next) all (put-then (s .put) p);
-        array-is = same;
-        journal = λ n. subst (λ (ys : List ℕ). Demand3 BenchBottom (stepsOfScript t) xs ys) (sym same) (journaled xs t n);
-      }
+      record { written = subst (λ (k : List ℕ). Put room 0 k after′ next) all (put-then (s .put) p); array-is = same }

@@ -2,4 +2,5 @@
 pub mod Script
 pub mod Lines
 pub mod Laws
+pub mod Fits
 pub mod Cases

@@ -6,7 +6,7 @@ use mathlib.Core.Bool.{cond}
 use mathlib.Core.List.{List, [], _∷_, _++_}
 use mathlib.Core.Path.{_≡_}
 use lib.Dec.{eqb}
-use lib.ListN.{length, take}
+use lib.ListN.{length, take, drop}
 use Rattle.geometry.specs.declared.Part.the-variants.{BenchBottom}
 use Rattle.geometry.specs.Blocks.{geometryOf, words}
 use Rattle.semantics.specs.declared.Step.{Step}
@@ -14,7 +14,7 @@ use Rattle.semantics.specs.declared.Answer.{Answer}
 use Rattle.semantics.specs.declared.Answer.the-variants.{Refused}
 use Rattle.semantics.specs.declared.Decoded.{Decoded}
 use Rattle.semantics.specs.declared.Decoded.the-variants.{Valid, Invalid}
-use Rattle.semantics.specs.Steps.{stepOf, Machine, after, fresh}
+use Rattle.semantics.specs.Steps.{stateRefusal, firstRefusal, stepOf, Machine, after, fresh}
 use Rattle.semantics.specs.Standing.{Demand3}
 use Rattle.device.specs.declared.Device.{Device}
 use Rattle.line.specs.Forms.{stepOfLine}
@@ -40,10 +40,15 @@ lines (b ∷ t) = cond (eqb b 10) ([] ∷ lines t) (front b (lines t))
 
 -- ---- a line played
 
--- what a line answers: its step's answer; "script line not one of the forms" is refused 6, and so is "A line over 16 bytes, or empty", which has no form
+-- what a line without a form is refused for: 6 "script line not one of the forms below", but "The lowest number is given.", and 1 "array length is not 256u"
+-- is given by "every step, and all else that takes an array" (and 2 by "all that take a device", though no script comes to a state that is not well formed)
+unfoldable pub lineRefusal : Machine → ℕ
+lineRefusal m = firstRefusal (stateRefusal (m .state) (length (m .array))) 6
+
+-- what a line answers: its step's answer, or that it is refused. "A line over 16 bytes, or empty" has no form
 abbrev pub answerOf : Machine → Decoded → Answer
 answerOf m (Valid x) = stepOf (m .state) (m .array) x .answer
-answerOf m Invalid = Refused 6
+answerOf m Invalid = Refused (lineRefusal m)
 
 -- the machine after a line: a refusal "gives back the state it got and leaves all lent memory"
 abbrev pub machineAfter : Machine → Decoded → Machine
@@ -94,11 +99,18 @@ machineAtEnd xs text = afterLines (fresh BenchBottom xs) (lines (scriptOf text))
 unfoldable pub transcriptOf : List ℕ → List ℕ → List ℕ
 transcriptOf xs text = spoken (fresh BenchBottom xs) 1 (lines (scriptOf text)) ++ endText (length (lines (scriptOf text)))
 
--- what holds after a text was played on an array with room for the transcript: `next` is the place after the transcript, `after` and `array` are the room
--- and the array then
-pub record Transcribed (text xs room : List ℕ) (next : ℕ) (array after : List ℕ) : Type 0 where
-  -- "What is written into lent room comes with its length, and places past it stay.": a room that is too short holds the first part
+-- what holds after a text was played on an array, and its transcript put into a room as far as it goes: `next` is the place after it, `after` and `array` are
+-- the room and the array then
+pub record PlayedInto (text xs room : List ℕ) (next : ℕ) (array after : List ℕ) : Type 0 where
   pub written : Put room 0 (transcriptOf xs text) after next
+  pub array-is : array ≡ machineAtEnd xs text .array
+
+-- the same of a room that holds every transcript
+pub record Transcribed (text xs room : List ℕ) (next : ℕ) (array after : List ℕ) : Type 0 where
+  -- "What is written into lent room comes with its length, and places past it stay.": the whole transcript, from the room's start on
+  pub written : after ≡ transcriptOf xs text ++ drop (length (transcriptOf xs text)) room
+  pub length-is : next ≡ length (transcriptOf xs text)
+  pub size : length after ≡ length room
   pub array-is : array ≡ machineAtEnd xs text .array
   -- DEMAND 3, on an array of the part's length: its length, every word, and every entry of the journal of the script's steps
   pub journal : length xs ≡ words (geometryOf BenchBottom) → Demand3 BenchBottom (stepsOfScript text) xs array

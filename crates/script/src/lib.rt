@@ -5,7 +5,7 @@ use geometry::Part;
 use semantics::Answer;
 use semantics::Decoded;
 ghost use mathlib.Core.Path.{_≡_};
-ghost use Rattle.script.specs.Script.{scriptOf, LinePlayed, Transcribed};
+ghost use Rattle.script.specs.Script.{scriptOf, LinePlayed, PlayedInto, Transcribed};
 ghost use Rattle.script.specs.Lines.{lineEnd, takenAt};
 
 // ---- the lines of a text
@@ -96,7 +96,7 @@ struct Played {
     place: usize,
 }
 
-// Plays the step of a line, or refuses the line with 6 where it has none, and prints the answer.
+// Plays the step of a line, or refuses the line where it has none, and prints the answer.
 fn play_line(
     line: &[u8],
     device: Device,
@@ -120,7 +120,9 @@ fn play_line(
             }
         }
         Decoded::Invalid => {
-            let after = printing::put_line(room, place, number, Answer::Refused(6));
+            let s = device.state;
+            let e = state::first_refusal(state::state_refusal(s, array.len()), 6);
+            let after = printing::put_line(room, place, number, Answer::Refused(e));
             Played {
                 device,
                 place: after,
@@ -129,10 +131,10 @@ fn play_line(
     }
 }
 
-// Plays the script of a text on a bench bottom part from power-up, on a borrowed array, and writes the transcript from the room's start on.
-// Gives the place after the transcript.
-pub fn play_text(text: &[u8], array: &mut [u16], room: &mut [u8]) -> usize
-    ensures { λ r. ⌜ Transcribed (now (text .entry)) (now (array .entry)) (now (room .entry)) r (now (array .exit)) (now (room .exit)) ⌝ }
+// Plays the script of a text on a bench bottom part from power-up, on a borrowed array, and writes the transcript from the room's start on, as far as the room
+// goes. Gives the place after it.
+fn play_into(text: &[u8], array: &mut [u16], room: &mut [u8]) -> usize
+    ensures { λ r. ⌜ PlayedInto (now (text .entry)) (now (array .entry)) (now (room .entry)) r (now (array .exit)) (now (room .exit)) ⌝ }
 {
     let script = script_of(text);
     let mut device = Device::power_up(Part::BenchBottom);
@@ -151,4 +153,11 @@ pub fn play_text(text: &[u8], array: &mut [u16], room: &mut [u8]) -> usize
         at = taken.next;
     }
     printing::put_end(room, place, count)
+}
+
+// The same with room for every transcript: it is written whole, and its length is given.
+pub fn play_text(text: &[u8], array: &mut [u16], room: &mut [u8; 262154]) -> usize
+    ensures { λ r. ⌜ Transcribed (now (text .entry)) (now (array .entry)) (now (room .entry)) r (now (array .exit)) (now (room .exit)) ⌝ }
+{
+    play_into(text, array, room)
 }

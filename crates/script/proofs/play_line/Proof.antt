@@ -1,33 +1,11 @@
 -- `script::play_line` meets its contract: a line with a step, and a line with none. Assumes nothing.
-use mathlib.Core.Path.{sym, _∙_}
+use Prim.Native.Nat.{ℕ}
+use mathlib.Core.Path.{sym, ap, _∙_}
 use borrow.Author.Needs.{needs}
+use Rattle.semantics.specs.Steps.{firstRefusal}
 use Rattle.script.specs.Laws.{line-made, line-refused}
 use Rattle.script.proofs.play_line.Statement.{statement}
 use Rattle.script.proofs.play_line.Tie as tie
-
-step-of-line-requires : tie.Need-step-of-line-requires
-step-of-line-requires c κs = search needs
-
-enum-known-found : tie.Need-enum-known-found
-enum-known-found c = search needs
-
-step-requires : tie.Need-step-requires
-step-requires c κs = search needs
-
-put-line-requires : tie.Need-put-line-requires
-put-line-requires c κs = search needs
-
-enum-told : tie.Need-enum-told
-enum-told c = search needs
-
-put-line-requires-2 : tie.Need-put-line-requires-2
-put-line-requires-2 c κs = search needs
-
-same-length : tie.Need-same-length
-same-length c = search needs
-
-same-length-2 : tie.Need-same-length-2
-same-length-2 c = search needs
 
 returns : tie.Need-returns
 returns c =
@@ -35,26 +13,27 @@ returns c =
     let found = step .before .before .before in
     line-made _ _ _ _ _ _ _ _ _ _ _ (sym (found .before .before .step-of-line .ensures) ∙ found .found .given .1) (step .step .ensures .0) (step .step .ensures .1) (c .before .before .put-line .ensures)
 
-same-length-3 : tie.Need-same-length-3
-same-length-3 c = search needs
-
 returns-2 : tie.Need-returns-2
 returns-2 c =
-    let told = c .before .before .before .before in
-    line-refused _ _ _ _ _ _ _ _ (sym (told .before .before .step-of-line .ensures) ∙ told .enum-told .given .1) (c .before .before .put-line2 .ensures)
+    let first = c .before .before .before .before in
+    let told = first .before .before .before in
+    line-refused _ _ _ _ _ _ _ _ _ (sym (told .before .before .step-of-line .ensures) ∙ told .enum-told .given .1)
+    (first .first-refusal .ensures ∙ ap (λ (n : ℕ). firstRefusal n 6) (first .before .state-refusal .ensures)) (c .before .before .put-line2 .ensures)
 
 pub play-line-spec : {M : Type 1} → statement M
 play-line-spec =
     tie.close
     (tie.spec
-    step-of-line-requires
-    enum-known-found
-    step-requires
-    put-line-requires
-    enum-told
-    put-line-requires-2
-    same-length
-    same-length-2
+    (λ c κs. search needs)
+    (λ c. search needs)
+    (λ c κs. search needs)
+    (λ c κs. search needs)
+    (λ c. search needs)
+    (λ c κs. search needs)
+    (λ c κs. search needs)
+    (λ c κs. search needs)
+    (λ c. search needs)
+    (λ c. search needs)
     returns
-    same-length-3
+    (λ c. search needs)
     returns-2)
