@@ -28,7 +28,8 @@ use Rattle.printing.specs.Text.{text, digitOf, digits, decimal, lineText, endTe
 use Rattle.printing.specs.Room.{Put, put-none, put-then}
 use Rattle.script.specs.declared.Taken.{Taken}
 use Rattle.script.specs.declared.Played.{Played}
-use Rattle.script.specs.Script.{scriptOf, lines, lineRefusal, answerOf, machineAfter, machineOf, LinePlayed, stepsOf, afterLines, spoken, stepsOfLines, stepsOfScript, machineAtEnd, transcriptOf, PlayedInto}
+use Rattle.script.specs.declared.Progress.{Progress}
+use Rattle.script.specs.Script.{scriptOf, lines, lineRefusal, answerOf, machineAfter, machineOf, LinePlayed, stepsOf, afterLines, spoken, stepsOfLines, stepsOfScript, machineAtEnd, transcriptOf, LinesPlayed, PlayedInto}
 use Rattle.script.specs.Lines.{lineEnd, lineNext, takenAt, next-later, lines-next}
 
 -- ---- lines that are refused, and texts that are empty or too long
@@ -106,38 +107,66 @@ module _ (line : List ℕ) (d : Device) (number : ℕ) (xs room : List ℕ) (pla
   unfolding lineRefusal
   line-refused n after next e f p = record { machine = rw e; written = rw (e, ← f) p }
 
+-- what holds after the line that begins at a place was played on what is done
+pub record PlayedAt (script : List ℕ) (at : ℕ) (p : Progress) (xs room : List ℕ) (r : Progress) (array after : List ℕ) : Type 0 where
+  pub line : LinePlayed (take (lineEnd script at - at) (drop at script)) (p .device) (p .count + 1) xs room (p .place) (record { device = r .device; place = r .place }) array after
+  pub count : r .count ≡ p .count + 1
+  pub next : r .next ≡ lineNext script at
+
+-- the line that was taken at the place
+pub played-at : (script : List ℕ) (at : ℕ) (p : Progress) (xs room : List ℕ) (t : Taken) (r : Played) (array after : List ℕ) → t ≡ takenAt script at
+    → LinePlayed (take (t .to - t .from) (drop (t .from) script)) (p .device) (p .count + 1) xs room (p .place) r array after
+    → PlayedAt script at p xs room (record { device = r .device; count = p .count + 1; place = r .place; next = t .next }) array after
+played-at script at p xs room t r array after e = rw e (λ q. record { line = q; count = refl; next = refl })
+
 -- ---- the loop: the lines before place `at` have been played
 
--- `count` lines were played, and their text `printed` was put into the room. The lines from `at` on, played on the machine that stands, give what is left.
-pub record Sofar (script xs room : List ℕ) (d : Device) (count at place : ℕ) (array after : List ℕ) : Type 0 where
-  pub within : at ≤ length script
-  pub few : count ≤ at
-  pub printed : List ℕ
-  pub put : Put room 0 printed after place
-  pub whole : printed ++ spoken (machineOf d array) (suc count) (lines (drop at script)) ≡ spoken (fresh BenchBottom xs) 1 (lines script)
-  pub machine : afterLines (machineOf d array) (lines (drop at script)) ≡ afterLines (fresh BenchBottom xs) (lines script)
-  pub counted : count + length (lines (drop at script)) ≡ length (lines script)
+-- how the loop begins: on a device at power-up, with nothing played
+pub record Begun (script : List ℕ) (p : Progress) : Type 0 where
+  pub few : length script ≤ 16384
+  pub from : p ≡ record { device = holding (powerUp BenchBottom); count = 0; place = 0; next = 0 }
 
-pub sofar-none : (script xs room : List ℕ) (d : Device) → d ≡ holding (powerUp BenchBottom) → Sofar script xs room d 0 0 0 xs room
-sofar-none script xs room d e = record {
+-- the text `printed` of the lines played was put into the room. The lines from `at` on, played on the machine that stands, give what is left.
+pub record Sofar (script xs room : List ℕ) (p : Progress) (at : ℕ) (array after : List ℕ) : Type 0 where
+  pub within : at ≤ length script
+  pub few : p .count ≤ at
+  pub printed : List ℕ
+  pub put : Put room 0 printed after (p .place)
+  pub whole : printed ++ spoken (machineOf (p .device) array) (suc (p .count)) (lines (drop at script)) ≡ spoken (fresh BenchBottom xs) 1 (lines script)
+  pub machine : afterLines (machineOf (p .device) array) (lines (drop at script)) ≡ afterLines (fresh BenchBottom xs) (lines script)
+  pub counted : p .count + length (lines (drop at script)) ≡ length (lines script)
+
+pub sofar-none : (script xs room : List ℕ) (p : Progress) → Begun script p → Sofar script xs room p 0 xs room
+sofar-none script xs room p b = rw (b .from) (record {
   within = omega arith;
   few = omega arith;
   printed = [];
   put = put-none room 0;
-  whole = ap (λ (k : Device). spoken (machineOf k xs) 1 (lines script)) e;
-  machine = ap (λ (k : Device). afterLines (machineOf k xs) (lines script)) e;
+  whole = refl;
+  machine = refl;
   counted = omega arith;
-}
+})
 
-module _ (script xs room : List ℕ) (d : Device) (count at place : ℕ) (array after : List ℕ) (s : Sofar script xs room d count at place array after) where
+module _ (script xs room : List ℕ) (p : Progress) (at : ℕ) (array after : List ℕ) (s : Sofar script xs room p at array after) where
   -- one line more
-  pub sofar-next : (t : Taken) (r : Played) (array′ after′ : List ℕ) → at < length script → t ≡ takenAt script at
-      → LinePlayed (take (t .to - t .from) (drop (t .from) script)) d (count + 1) array after place r array′ after′
-      → Sofar script xs room (r .device) (count + 1) (t .next) (r .place) array′ after′
-  sofar-next t r array′ after′ h e = rw (add-one, e) next
+  pub sofar-next : (r : Progress) (array′ after′ : List ℕ) → at < length script → PlayedAt script at p array after r array′ after′ → Sofar script xs room r (r .next) array′ after′
+  sofar-next r array′ after′ h q = rw (q .next) (record {
+    within = next-later script at h .1;
+    few = omega (arith, next-later script at h .0, s .few, q .count);
+    printed = s .printed ++ line;
+    put = subst (λ (n : ℕ). Put room 0 (s .printed ++ lineText n (answerOf m (stepOfLine l))) after′ (r .place)) (add-one (p .count)) (put-then (s .put) (q .line .written));
+    whole =
+        ap (λ (n : ℕ). s .printed ++ line ++ spoken (machineOf (r .device) array′) (suc n) ls) (q .count ∙ add-one (p .count))
+        ∙ ap (λ (k : Machine). s .printed ++ line ++ spoken k (suc (suc (p .count))) ls) (q .line .machine)
+        ∙ append-assoc (s .printed) line (spoken (machineAfter m (stepOfLine l)) (suc (suc (p .count))) ls)
+        ∙ ap (λ (k : List (List ℕ)). s .printed ++ spoken m (suc (p .count)) k) (sym split)
+        ∙ s .whole;
+    machine = ap (λ (k : Machine). afterLines k ls) (q .line .machine) ∙ ap (afterLines m) (sym split) ∙ s .machine;
+    counted = omega (arith, ap (length {A = List ℕ}) split, s .counted, q .count);
+  })
     where
       m : Machine
-      m = machineOf d array
+      m = machineOf (p .device) array
 
       l : List ℕ
       l = take (lineEnd script at - at) (drop at script)
@@ -149,38 +178,29 @@ module _ (script xs room : List ℕ) (d : Device) (count at place : ℕ) (array 
       split = lines-next script at h
 
       line : List ℕ
-      line = lineText (suc count) (answerOf m (stepOfLine l))
+      line = lineText (suc (p .count)) (answerOf m (stepOfLine l))
 
-      next : LinePlayed l d (suc count) array after place r array′ after′ → Sofar script xs room (r .device) (suc count) (lineNext script at) (r .place) array′ after′
-      next p = record {
-        within = next-later script at h .1;
-        few = omega (arith, next-later script at h .0, s .few);
-        printed = s .printed ++ line;
-        put = put-then (s .put) (p .written);
-        whole =
-            ap (λ (k : Machine). s .printed ++ line ++ spoken k (suc (suc count)) ls) (p .machine)
-            ∙ append-assoc (s .printed) line (spoken (machineAfter m (stepOfLine l)) (suc (suc count)) ls)
-            ∙ ap (λ (k : List (List ℕ)). s .printed ++ spoken m (suc count) k) (sym split)
-            ∙ s .whole;
-        machine = ap (λ (k : Machine). afterLines k ls) (p .machine) ∙ ap (afterLines m) (sym split) ∙ s .machine;
-        counted = omega (arith, ap (length {A = List ℕ}) split, s .counted);
-      }
-
-  -- no line is left: the end
-  pub sofar-end : (t : List ℕ) (next : ℕ) (after′ : List ℕ) → script ≡ scriptOf t → length script ≤ at → Put after place (endText count) after′ next
-      → PlayedInto t xs room next array after′
-  unfolding lines machineAtEnd transcriptOf
-  sofar-end t next after′ e h p =
+  -- no line is left
+  pub sofar-end : length script ≤ at → LinesPlayed script xs room p array after
+  unfolding lines
+  sofar-end h =
       let none : drop at script ≡ [] = drop-of-length-le script h in
       let texts : s .printed ≡ spoken (fresh BenchBottom xs) 1 (lines script) =
-      sym (append-nil (s .printed)) ∙ ap (λ (k : List ℕ). s .printed ++ spoken (machineOf d array) (suc count) (lines k)) (sym none) ∙ s .whole
+      sym (append-nil (s .printed)) ∙ ap (λ (k : List ℕ). s .printed ++ spoken (machineOf (p .device) array) (suc (p .count)) (lines k)) (sym none) ∙ s .whole
       in
-      let many : count ≡ length (lines script) = omega (arith, ap (λ (k : List ℕ). length (lines k)) none, s .counted) in
-      let all : s .printed ++ endText count ≡ transcriptOf xs t =
-      ap (λ (k : List ℕ). k ++ endText count) texts ∙ ap (λ (k : ℕ). spoken (fresh BenchBottom xs) 1 (lines script) ++ endText k) many ∙ ap (λ (k : List ℕ). spoken (fresh BenchBottom xs) 1 (lines k) ++ endText (length (lines k))) e
-      in
-      let ends : machineOf d array ≡ afterLines (fresh BenchBottom xs) (lines script) =
-      ap (λ (k : List ℕ). afterLines (machineOf d array) (lines k)) (sym none) ∙ s .machine
-      in
-      let same : array ≡ machineAtEnd xs t .array = ap (λ (m : Machine). m .array) ends ∙ ap (λ (k : List ℕ). afterLines (fresh BenchBottom xs) (lines k) .array) e in
-      record { written = subst (λ (k : List ℕ). Put room 0 k after′ next) all (put-then (s .put) p); array-is = same }
+      record {
+        machine = ap (λ (k : List ℕ). afterLines (machineOf (p .device) array) (lines k)) (sym none) ∙ s .machine;
+        written = subst (λ (k : List ℕ). Put room 0 k after (p .place)) texts (s .put);
+        counted = omega (arith, ap (λ (k : List ℕ). length (lines k)) none, s .counted);
+      }
+
+-- the end line after all
+pub played-whole : (t xs room : List ℕ) (script : List ℕ) (p : Progress) (array after : List ℕ) (next : ℕ) (after′ : List ℕ) → script ≡ scriptOf t
+    → LinesPlayed script xs room p array after → Put after (p .place) (endText (p .count)) after′ next → PlayedInto t xs room next array after′
+unfolding machineAtEnd transcriptOf
+played-whole t xs room script p array after next after′ e q w = record {
+  written =
+      subst (λ (k : List ℕ). Put room 0 (spoken (fresh BenchBottom xs) 1 (lines k) ++ endText (length (lines k))) after′ next) e
+      (put-then (q .written) (subst (λ (n : ℕ). Put after (p .place) (endText n) after′ next) (q .counted) w));
+  array-is = ap (λ (m : Machine). m .array) (q .machine) ∙ ap (λ (k : List ℕ). afterLines (fresh BenchBottom xs) (lines k) .array) e;
+}

@@ -21,6 +21,7 @@ use Rattle.line.specs.Forms.{stepOfLine}
 use Rattle.printing.specs.Text.{lineText, endText}
 use Rattle.printing.specs.Room.{Put}
 use Rattle.script.specs.declared.Played.{Played}
+use Rattle.script.specs.declared.Progress.{Progress}
 
 -- ---- the lines of a script
 
@@ -98,6 +99,13 @@ machineAtEnd xs text = afterLines (fresh BenchBottom xs) (lines (scriptOf text))
 -- what is printed: each line's text, from 1 on, and "At the end: `end` and the count of lines."
 unfoldable pub transcriptOf : List ℕ → List ℕ → List ℕ
 transcriptOf xs text = spoken (fresh BenchBottom xs) 1 (lines (scriptOf text)) ++ endText (length (lines (scriptOf text)))
+
+-- what holds after the lines of a script were played from power-up on an array, and their text put into a room: `r` has the device, the number of lines and
+-- the place then
+pub record LinesPlayed (script xs room : List ℕ) (r : Progress) (array after : List ℕ) : Type 0 where
+  pub machine : machineOf (r .device) array ≡ afterLines (fresh BenchBottom xs) (lines script)
+  pub written : Put room 0 (spoken (fresh BenchBottom xs) 1 (lines script)) after (r .place)
+  pub counted : r .count ≡ length (lines script)
 
 -- what holds after a text was played on an array, and its transcript put into a room as far as it goes: `next` is the place after it, `after` and `array` are
 -- the room and the array then

@@ -5,7 +5,10 @@ use geometry::Part;
 use semantics::Answer;
 use semantics::Decoded;
 ghost use mathlib.Core.Path.{_≡_};
-ghost use Rattle.script.specs.Script.{scriptOf, LinePlayed, PlayedInto, Transcribed};
+ghost use Prim.Native.Nat.{_<_};
+ghost use lib.ListN.{length};
+ghost use Rattle.script.specs.Script.{scriptOf, LinePlayed, LinesPlayed, PlayedInto, Transcribed};
+ghost use Rattle.script.specs.Laws.{PlayedAt, Begun};
 ghost use Rattle.script.specs.Lines.{lineEnd, takenAt};
 
 // ---- the lines of a text
@@ -60,40 +63,20 @@ pub fn taken_at(text: &[u8], at: usize) -> Taken
     }
 }
 
-// ---- the reader
-
-// The borrowed text, and the place in it where the next line begins.
-pub struct Reader<'a> {
-    pub text: &'a [u8],
-    pub at: usize,
-}
-
-pub fn new<'a>(text: &'a [u8], at: usize) -> Reader<'a>
-    ensures { λ r. ⌜ (r .text ≡ text .entry) × (r .at ≡ at) ⌝ }
-{
-    Reader { text, at }
-}
-
-// The next line of a reader.
-pub fn next<'a>(r: Reader<'a>) -> Taken
-    ensures { λ t. ⌜ t ≡ takenAt (now (r .entry .text)) (r .entry .at) ⌝ }
-{
-    taken_at(r.text, r.at)
-}
-
-// The next line of a text, from a place on. Its parameters are plain, so that its callers need no proof by hand.
-pub fn take_line(text: &[u8], at: usize) -> Taken
-    ensures { λ r. ⌜ r ≡ takenAt (now (text .entry)) at ⌝ }
-{
-    next(new(text, at))
-}
-
-// ---- a line, and a text
+// ---- a line
 
 // The device after a line, and the place of the room after the line's text.
 struct Played {
     device: Device,
     place: usize,
+}
+
+// What is done: the device, the number of lines played, the place of the room after their text, and the place of the script where the next line begins.
+struct Progress {
+    device: Device,
+    count: u32,
+    place: usize,
+    next: usize,
 }
 
 // Plays the step of a line, or refuses the line where it has none, and prints the answer.
@@ -131,28 +114,65 @@ fn play_line(
     }
 }
 
+// Plays the line that begins at a place of the script.
+fn play_at(script: &[u8], at: usize, p: Progress, array: &mut [u16], room: &mut [u8]) -> Progress
+    requires { ⌜ (at < length (now script)) × (p .count < 16384) ⌝ }
+    ensures { λ r. ⌜ PlayedAt (now (script .entry)) at p (now (array .entry)) (now (room .entry)) r (now (array .exit)) (now (room .exit)) ⌝ }
+{
+    let taken = taken_at(script, at);
+    let from = taken.from;
+    let to = taken.to;
+    let device = p.device;
+    let count = p.count + 1;
+    let played = play_line(&script[from..to], device, count, array, room, p.place);
+    let after = played.device;
+    Progress {
+        device: after,
+        count,
+        place: played.place,
+        next: taken.next,
+    }
+}
+
+// ---- the script
+
+// The borrowed script, and the place in it where the next line begins.
+struct Reader<'a> {
+    text: &'a [u8],
+    at: usize,
+}
+
+// Plays the lines of a script one after the other. The reader keeps the script and the place in it.
+fn play_lines(script: &[u8], mut p: Progress, array: &mut [u16], room: &mut [u8]) -> Progress
+    requires { ⌜ Begun (now script) p ⌝ }
+    ensures { λ r. ⌜ LinesPlayed (now (script .entry)) (now (array .entry)) (now (room .entry)) r (now (array .exit)) (now (room .exit)) ⌝ }
+{
+    let mut reader = Reader {
+        text: script,
+        at: 0,
+    };
+    while reader.at < reader.text.len() {
+        p = play_at(reader.text, reader.at, p, array, room);
+        reader.at = p.next;
+    }
+    p
+}
+
 // Plays the script of a text on a bench bottom part from power-up, on a borrowed array, and writes the transcript from the room's start on, as far as the room
 // goes. Gives the place after it.
 fn play_into(text: &[u8], array: &mut [u16], room: &mut [u8]) -> usize
     ensures { λ r. ⌜ PlayedInto (now (text .entry)) (now (array .entry)) (now (room .entry)) r (now (array .exit)) (now (room .exit)) ⌝ }
 {
     let script = script_of(text);
-    let mut device = Device::power_up(Part::BenchBottom);
-    let mut count: u32 = 0;
-    let mut at: usize = 0;
-    let mut place: usize = 0;
-    while at < script.len() {
-        let taken = take_line(script, at);
-        let from = taken.from;
-        let to = taken.to;
-        count += 1;
-        let played = play_line(&script[from..to], device, count, array, room, place);
-        let next = played.device;
-        device = next;
-        place = played.place;
-        at = taken.next;
-    }
-    printing::put_end(room, place, count)
+    let device = Device::power_up(Part::BenchBottom);
+    let begun = Progress {
+        device,
+        count: 0,
+        place: 0,
+        next: 0,
+    };
+    let p = play_lines(script, begun, array, room);
+    printing::put_end(room, p.place, p.count)
 }
 
 // The same with room for every transcript: it is written whole, and its length is given.
