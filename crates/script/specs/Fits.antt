@@ -26,9 +26,10 @@ use Rattle.semantics.specs.Steps.{locationRefusal, addressRefusal, countRefusal
 use Rattle.semantics.specs.Standing.{Demand3}
 use Rattle.line.specs.Forms.{stepOfLine}
 use Rattle.printing.specs.Text.{answerText, lineText, endText, word-short, units-short, done-short, refused-short, line-short, end-short}
-use Rattle.printing.specs.Room.{placed-length, put-whole, put-counted}
-use Rattle.script.specs.Script.{scriptOf, front, lines, lineRefusal, answerOf, machineAfter, spoken, stepsOfScript, transcriptOf, PlayedInto, Transcribed}
-use Rattle.script.specs.Laws.{script-short, journaled}
+use Rattle.printing.specs.Room.{Put, placed-length, put-whole, put-counted}
+use Rattle.script.specs.declared.Progress.{Progress}
+use Rattle.script.specs.Script.{scriptOf, front, lines, lineRefusal, answerOf, machineAfter, spoken, stepsOfScript, machineAtEnd, transcriptOf, LinesPlayed, Transcribed}
+use Rattle.script.specs.Laws.{script-short, journaled, ended, array-at-end}
 
 -- ---- a refusal has one digit
 
@@ -131,13 +132,16 @@ transcript-fits xs t =
     )
 
 -- so it stands whole in a room of that length
-pub transcribed : (text xs room : List ℕ) (next : ℕ) (array after : List ℕ) → length room ≡ 262154 → PlayedInto text xs room next array after → Transcribed text xs room next array after
-transcribed text xs room next array after h p =
-    let fits : length (transcriptOf xs text) ≤ length room = omega (arith, transcript-fits xs text) in
+pub transcribed : (t xs room script : List ℕ) (p : Progress) (array after : List ℕ) (next : ℕ) (after′ : List ℕ) → length room ≡ 262154 → script ≡ scriptOf t
+    → LinesPlayed script xs room p array after → Put after (p .place) (endText (p .count)) after′ next → Transcribed t xs room next array after′
+transcribed t xs room script p array after next after′ h e q w =
+    let fits : length (transcriptOf xs t) ≤ length room = omega (arith, transcript-fits xs t) in
+    let put : Put room 0 (transcriptOf xs t) after′ next = ended t xs room script p array after e q next after′ w in
+    let same : array ≡ machineAtEnd xs t .array = array-at-end t xs room script p array after e q in
     record {
-      written = put-whole (p .written) fits;
-      length-is = put-counted (p .written) fits;
-      size = ap length (p .written .room) ∙ placed-length room 0 (transcriptOf xs text);
-      array-is = p .array-is;
-      journal = λ n. subst (λ (ys : List ℕ). Demand3 BenchBottom (stepsOfScript text) xs ys) (sym (p .array-is)) (journaled xs text n);
+      written = put-whole put fits;
+      length-is = put-counted put fits;
+      size = ap length (put .room) ∙ placed-length room 0 (transcriptOf xs t);
+      array-is = same;
+      journal = λ n. subst (λ (ys : List ℕ). Demand3 BenchBottom (stepsOfScript t) xs ys) (sym same) (journaled xs t n);
     }

@@ -29,7 +29,7 @@ use Rattle.printing.specs.Room.{Put, put-none, put-then}
 use Rattle.script.specs.declared.Taken.{Taken}
 use Rattle.script.specs.declared.Played.{Played}
 use Rattle.script.specs.declared.Progress.{Progress}
-use Rattle.script.specs.Script.{scriptOf, lines, lineRefusal, answerOf, machineAfter, machineOf, LinePlayed, stepsOf, afterLines, spoken, stepsOfLines, stepsOfScript, machineAtEnd, transcriptOf, LinesPlayed, PlayedInto}
+use Rattle.script.specs.Script.{scriptOf, lines, lineRefusal, answerOf, machineAfter, machineOf, LinePlayed, stepsOf, afterLines, spoken, stepsOfLines, stepsOfScript, machineAtEnd, transcriptOf, LinesPlayed}
 use Rattle.script.specs.Lines.{lineEnd, lineNext, takenAt, next-later, lines-next}
 
 -- ---- lines that are refused, and texts that are empty or too long
@@ -194,13 +194,16 @@ module _ (script xs room : List ℕ) (p : Progress) (at : ℕ) (array after : Li
         counted = omega (arith, ap (λ (k : List ℕ). length (lines k)) none, s .counted);
       }
 
--- the end line after all
-pub played-whole : (t xs room : List ℕ) (script : List ℕ) (p : Progress) (array after : List ℕ) (next : ℕ) (after′ : List ℕ) → script ≡ scriptOf t
-    → LinesPlayed script xs room p array after → Put after (p .place) (endText (p .count)) after′ next → PlayedInto t xs room next array after′
-unfolding machineAtEnd transcriptOf
-played-whole t xs room script p array after next after′ e q w = record {
-  written =
+-- ---- the end
+
+module _ (t xs room script : List ℕ) (p : Progress) (array after : List ℕ) (e : script ≡ scriptOf t) (q : LinesPlayed script xs room p array after) where
+  -- the end put after the lines' text: the transcript
+  pub ended : (next : ℕ) (after′ : List ℕ) → Put after (p .place) (endText (p .count)) after′ next → Put room 0 (transcriptOf xs t) after′ next
+  unfolding transcriptOf
+  ended next after′ w =
       subst (λ (k : List ℕ). Put room 0 (spoken (fresh BenchBottom xs) 1 (lines k) ++ endText (length (lines k))) after′ next) e
-      (put-then (q .written) (subst (λ (n : ℕ). Put after (p .place) (endText n) after′ next) (q .counted) w));
-  array-is = ap (λ (m : Machine). m .array) (q .machine) ∙ ap (λ (k : List ℕ). afterLines (fresh BenchBottom xs) (lines k) .array) e;
-}
+      (put-then (q .written) (subst (λ (n : ℕ). Put after (p .place) (endText n) after′ next) (q .counted) w))
+
+  pub array-at-end : array ≡ machineAtEnd xs t .array
+  unfolding machineAtEnd
+  array-at-end = ap (λ (m : Machine). m .array) (q .machine) ∙ ap (λ (k : List ℕ). afterLines (fresh BenchBottom xs) (lines k) .array) e

@@ -107,13 +107,7 @@ pub record LinesPlayed (script xs room : List ℕ) (r : Progress) (array after :
   pub written : Put room 0 (spoken (fresh BenchBottom xs) 1 (lines script)) after (r .place)
   pub counted : r .count ≡ length (lines script)
 
--- what holds after a text was played on an array, and its transcript put into a room as far as it goes: `next` is the place after it, `after` and `array` are
--- the room and the array then
-pub record PlayedInto (text xs room : List ℕ) (next : ℕ) (array after : List ℕ) : Type 0 where
-  pub written : Put room 0 (transcriptOf xs text) after next
-  pub array-is : array ≡ machineAtEnd xs text .array
-
--- the same of a room that holds every transcript
+-- what holds after a text was played on an array, with room for the transcript: `next` is its length, `after` and `array` are the room and the array then
 pub record Transcribed (text xs room : List ℕ) (next : ℕ) (array after : List ℕ) : Type 0 where
   -- "What is written into lent room comes with its length, and places past it stay.": the whole transcript, from the room's start on
   pub written : after ≡ transcriptOf xs text ++ drop (length (transcriptOf xs text)) room

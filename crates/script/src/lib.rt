@@ -1,5 +1,5 @@
 // A script text played whole on a device, with the transcript written into borrowed room: document 01, "The script program".
-// Each function takes every text, place and number.
+// Each public function takes every text, place and number.
 use device::Device;
 use geometry::Part;
 use semantics::Answer;
@@ -7,7 +7,7 @@ use semantics::Decoded;
 ghost use mathlib.Core.Path.{_≡_};
 ghost use Prim.Native.Nat.{_<_};
 ghost use lib.ListN.{length};
-ghost use Rattle.script.specs.Script.{scriptOf, LinePlayed, LinesPlayed, PlayedInto, Transcribed};
+ghost use Rattle.script.specs.Script.{scriptOf, LinePlayed, LinesPlayed, Transcribed};
 ghost use Rattle.script.specs.Laws.{PlayedAt, Begun};
 ghost use Rattle.script.specs.Lines.{lineEnd, takenAt};
 
@@ -71,7 +71,7 @@ struct Played {
     place: usize,
 }
 
-// What is done: the device, the number of lines played, the place of the room after their text, and the place of the script where the next line begins.
+// How far a script is played: the device, the number of lines played, the place of the room after their text, and the place of the script where the next line begins.
 struct Progress {
     device: Device,
     count: u32,
@@ -158,10 +158,10 @@ fn play_lines(script: &[u8], mut p: Progress, array: &mut [u16], room: &mut [u8]
     p
 }
 
-// Plays the script of a text on a bench bottom part from power-up, on a borrowed array, and writes the transcript from the room's start on, as far as the room
-// goes. Gives the place after it.
-fn play_into(text: &[u8], array: &mut [u16], room: &mut [u8]) -> usize
-    ensures { λ r. ⌜ PlayedInto (now (text .entry)) (now (array .entry)) (now (room .entry)) r (now (array .exit)) (now (room .exit)) ⌝ }
+// Plays the script of a text on a bench bottom part from power-up, on a borrowed array, and writes the transcript from the room's start on. The room holds every
+// transcript. Gives its length.
+pub fn play_text(text: &[u8], array: &mut [u16], room: &mut [u8; 262154]) -> usize
+    ensures { λ r. ⌜ Transcribed (now (text .entry)) (now (array .entry)) (now (room .entry)) r (now (array .exit)) (now (room .exit)) ⌝ }
 {
     let script = script_of(text);
     let device = Device::power_up(Part::BenchBottom);
@@ -173,11 +173,4 @@ fn play_into(text: &[u8], array: &mut [u16], room: &mut [u8]) -> usize
     };
     let p = play_lines(script, begun, array, room);
     printing::put_end(room, p.place, p.count)
-}
-
-// The same with room for every transcript: it is written whole, and its length is given.
-pub fn play_text(text: &[u8], array: &mut [u16], room: &mut [u8; 262154]) -> usize
-    ensures { λ r. ⌜ Transcribed (now (text .entry)) (now (array .entry)) (now (room .entry)) r (now (array .exit)) (now (room .exit)) ⌝ }
-{
-    play_into(text, array, room)
 }
