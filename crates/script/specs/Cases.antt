@@ -1,14 +1,20 @@
--- Texts and their lines, and transcripts on an array of another length, each as one table under one statement: the checker computes each through the definition.
+-- Texts and their lines, and scripts and their transcripts, each as one table under one statement: the checker computes each through the definition.
 -- Assumes nothing.
 use Prim.Native.Nat.{ℕ}
 use Prim.Native.String.{String}
 use mathlib.Core.List.{List, [], _∷_, map}
 use mathlib.Core.Path.{_≡_, refl}
-use Rattle.printing.specs.Text.{text}
+use lib.ListN.{replicate}
+use Rattle.geometry.specs.Blocks.{mirror, blockFrom, blockOf, bankOf, sizeOf, startFrom, startOf, bankStart, blockOffset, bankOffset, bankOfBlock, lookupOf}
+use Rattle.protection.specs.Words.{bit, bitAt, isUnprotected, withUnprotected, spareZero, allProtected}
 use Rattle.line.specs.Forms.{hexValue, digits as lineDigits, number, begins, isRead, isWrite, isWork, isSupply, isReset, stepOfLine}
-use Rattle.printing.specs.Text.{digitOf, digits, decimal, hex4, answerText, lineText, endText}
+use Rattle.printing.specs.Text.{text, digitOf, digits, decimal, hex4, answerText, lineText, endText}
 use Rattle.semantics.specs.State.{powerUp}
-use Rattle.semantics.specs.Steps.{stateRefusal, firstRefusal, refusalOf, stepOf, arrayOf}
+use Rattle.semantics.specs.WellFormed.{runningAlone, programAlone, eraseAlone, eraseFits, runningFits, programFits, suspendedEraseFits, allFit, runningApart, programApart, apart, activityFormed, wellFormed}
+use Rattle.semantics.specs.Reading.{runsIn, statusWord, signatureWord, queryWord, readIn, readAt, readWord}
+use Rattle.semantics.specs.Writing.{commandOf, resume, accepts, setUp, clearStatus, firstCycle, programCycle, eraseCycle, lockCommandOf, lockCycle, settle, cycle, writtenAt, written}
+use Rattle.semantics.specs.Working.{unitsLeft, unitsDone, runningAfter, wordAfter, tabulate, arrayAfter, workedOn, worked, workedArray}
+use Rattle.semantics.specs.Steps.{locationRefusal, addressRefusal, countRefusal, stepRefusal, stateRefusal, firstRefusal, refusalOf, accepted, acceptedArray, stepOf, arrayOf}
 use Rattle.script.specs.Script.{scriptOf, lines, lineRefusal, transcriptOf}
 
 infix 20 _⟶_
@@ -38,17 +44,32 @@ pub cases-hold : map found cases ≡ map expected cases
 unfolding lines
 cases-hold = refl
 
--- ---- "array length is not 256u": three words, and every line is refused 1, one without a form too
+-- ---- scripts and their transcripts
 
-abbrev pub printed : String → List ℕ
-printed t = transcriptOf (0xFFFF ∷ 0xFFFF ∷ 0xFFFF ∷ []) (text t)
+-- an array, a script on it, and what is printed
+pub data Play : Type 0 where
+  play : List ℕ → String → String → Play
 
-abbrev pub scripts : List String
-scripts = "X" ∷ "\n" ∷ "Z" ∷ "V 1\nK 00\nR 000000\n" ∷ []
+abbrev pub printed : Play → List ℕ
+printed (play xs t o) = transcriptOf xs (text t)
 
-abbrev pub transcripts : List String
-transcripts = "1 refused 1\nend 1\n" ∷ "1 refused 1\nend 1\n" ∷ "1 refused 1\nend 1\n" ∷ "1 refused 1\n2 refused 1\n3 refused 1\nend 3\n" ∷ []
+abbrev pub output : Play → List ℕ
+output (play xs t o) = text o
 
-pub three-words : map printed scripts ≡ map text transcripts
-unfolding scriptOf lines lineRefusal transcriptOf digitOf digits decimal hex4 answerText lineText endText powerUp stateRefusal firstRefusal refusalOf stepOf arrayOf hexValue lineDigits number begins isRead isWrite isWork isSupply isReset stepOfLine
-three-words = refl
+abbrev pub plays : List Play
+plays =
+    -- "Input: .. Whole output: ..", on 16,384 words that "start as FFFFh"
+    play (replicate 16384 0xFFFF)
+    "V 1\nW 000040 0060\nW 000040 00D0\nW 000041 0040\nW 000041 1234\nR 000041\nK 5\nR 000041\nW 000000 00FF\nR 000041\nR 004041\nK 99999\n"
+    "1 ok\n2 ok\n3 ok\n4 ok\n5 ok\n6 0000\n7 1\n8 0080\n9 ok\n10 1234\n11 1234\n12 refused 4\nend 12\n"
+    -- "A line over 16 bytes, or empty, is refused 6." and changes nothing
+    ∷ play (replicate 16384 0xFFFF) "\nV 1\nW 000040 0060 00\nZ 1\nR 000040" "1 refused 6\n2 ok\n3 refused 6\n4 refused 6\n5 FFFF\nend 5\n"
+    -- "array length is not 256u": every line is refused 1, one without a form too
+    ∷ play (replicate 3 0xFFFF) "X" "1 refused 1\nend 1\n"
+    ∷ play (replicate 3 0xFFFF) "V 1\n\nK 00\nR 000000\nK 99999\n" "1 refused 1\n2 refused 1\n3 refused 1\n4 refused 1\n5 refused 1\nend 5\n"
+    ∷ play (replicate 16385 0xFFFF) "X\nZ\n" "1 refused 1\n2 refused 1\nend 2\n"
+    ∷ []
+
+pub plays-hold : map printed plays ≡ map output plays
+unfolding scriptOf lines lineRefusal transcriptOf digitOf digits decimal hex4 answerText lineText endText hexValue lineDigits number begins isRead isWrite isWork isSupply isReset stepOfLine mirror blockFrom blockOf bankOf sizeOf startFrom startOf bankStart blockOffset bankOffset bankOfBlock lookupOf bit bitAt isUnprotected withUnprotected spareZero allProtected powerUp runningAlone programAlone eraseAlone eraseFits runningFits programFits suspendedEraseFits allFit runningApart programApart apart activityFormed wellFormed runsIn statusWord signatureWord queryWord readIn readAt readWord commandOf resume accepts setUp clearStatus firstCycle programCycle eraseCycle lockCommandOf lockCycle settle cycle writtenAt written unitsLeft unitsDone runningAfter wordAfter tabulate arrayAfter workedOn worked workedArray locationRefusal addressRefusal countRefusal stepRefusal stateRefusal firstRefusal refusalOf accepted acceptedArray stepOf arrayOf
+plays-hold = refl

@@ -4,7 +4,6 @@ use native.Mathlib.Omega.{arith}
 use borrow.Author.Needs.{needs}
 use lib.ListN.{length}
 use Rattle.device.specs.declared.Device.{Device}
-use Rattle.script.specs.declared.Progress.{Progress}
 use Rattle.script.specs.Laws.{script-short}
 use Rattle.script.specs.Fits.{transcribed}
 use Rattle.script.proofs.play_text.Statement.{statement}
