@@ -27,12 +27,14 @@ infixl 20 _⟶_
 pub data Exchange : Type 0 where
   _⟶_ : Step → Answer → Exchange
 
--- an address of a part, by its number, lies in a block and a bank; or: from power-up, on an array, each step answers so; or: after such steps, so many blocks
--- are reported unprotected, and this as the lowest
+-- an address of a part, by its number, lies in a block and a bank; or: from power-up, on an array, each step answers so; or: from a state, which need not be one
+-- that steps lead to; or: after such steps from power-up, so many blocks are reported unprotected, and this as the lowest; or: the report on a state is refused
 pub data Case : Type 0 where
   lies : ℕ → ℕ → ℕ → ℕ → Case
   plays : Part → List ℕ → List Exchange → Case
+  starts : State → List ℕ → List Exchange → Case
   reports : Part → List ℕ → List Exchange → ℕ → ℕ → Case
+  unreported : State → ℕ → Case
 
 -- answers apart by their kind and number
 abbrev code : Answer → ℕ
@@ -46,17 +48,53 @@ abbrev playsOut : Machine → List Exchange → (State → Bool) → Bool
 playsOut m [] f = f (m .state)
 playsOut m ((x ⟶ a) ∷ l) f = eqb (code (stepOf (m .state) (m .array) x .answer)) (code a) && playsOut (after m x) l f
 
-abbrev reported : ℕ → ℕ → State → Bool
-reported n b s = eqb (reportedOf s .refusal) 0 && (eqb (reportedOf s .count) n && eqb (reportedOf s .lowest) b)
+abbrev reported : ℕ → ℕ → ℕ → State → Bool
+reported r n b s = eqb (reportedOf s .refusal) r && (eqb (reportedOf s .count) n && eqb (reportedOf s .lowest) b)
 
 abbrev pub holds : Case → Bool
 holds (lies p a b k) = eqb (lookupOf p a .refusal) 0 && (eqb (lookupOf p a .block) b && eqb (lookupOf p a .bank) k)
 holds (plays p xs l) = playsOut (fresh p xs) l (λ s. true)
-holds (reports p xs l n b) = playsOut (fresh p xs) l (reported n b)
+holds (starts s xs l) = playsOut (record { state = s; array = xs }) l (λ s. true)
+holds (reports p xs l n b) = playsOut (fresh p xs) l (reported 0 n b)
+holds (unreported s r) = reported r 0 0 s
 
 abbrev pub every : List Case → Bool
 every [] = true
 every (c ∷ l) = holds c && every l
+
+-- ---- exchanges, as lists that are joined
+
+-- a write; the two cycles of a command at one address; a read that shows a word; work on n units that does m
+abbrev pub write : ℕ → ℕ → List Exchange
+write a w = (Write a w ⟶ Done) ∷ []
+
+abbrev pub cycles : ℕ → ℕ → ℕ → List Exchange
+cycles a c w = (Write a c ⟶ Done) ∷ (Write a w ⟶ Done) ∷ []
+
+abbrev pub shows : ℕ → ℕ → List Exchange
+shows a w = (Read a ⟶ Word w) ∷ []
+
+abbrev pub works : ℕ → ℕ → List Exchange
+works n m = (Work n ⟶ Units m) ∷ []
+
+abbrev pub supply : Bool → List Exchange
+supply b = (Supply b ⟶ Done) ∷ []
+
+abbrev pub reset : List Exchange
+reset = (Reset ⟶ Done) ∷ []
+
+-- the commands of two cycles
+abbrev pub unprotect : ℕ → List Exchange
+unprotect a = cycles a 0x60 0xD0
+
+abbrev pub protect : ℕ → List Exchange
+protect a = cycles a 0x60 0x01
+
+abbrev pub program : ℕ → ℕ → List Exchange
+program a w = cycles a 0x40 w
+
+abbrev pub erase : ℕ → List Exchange
+erase a = cycles a 0x20 0xD0
 
 -- n words from address a on read w
 abbrev pub reads : ℕ → ℕ → ℕ → List Exchange

@@ -8,6 +8,10 @@ pub mod Working
 pub mod Arrays
 pub mod Steps
 pub mod Cases
+pub mod ReadingCases
+pub mod WritingCases
+pub mod OperationCases
+pub mod RefusalCases
 pub mod FurtherCases
 pub mod Encoding
 pub mod Entries

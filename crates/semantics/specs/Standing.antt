@@ -1,5 +1,5 @@
--- DEMAND 3 whole (demand-3-whole): the words, and that every entry of the journal was accepted with supply on and its block unprotected. And what it comes
--- to: a block that no step unprotected keeps its words; a 0 turns to 1 only by an erase.
+-- DEMAND 3 whole (demand-3-whole): the words, and that every entry of the journal was accepted with supply on and its block unprotected, which is said of the
+-- steps before its acceptance. And what it comes to: a block that no step unprotected keeps its words; a 0 turns to 1 only by an erase.
 -- Assumes nothing.
 use mathlib.Core.Path.{_≡_, refl, sym, ap, _∙_, subst}
 use mathlib.Core.List.{List, [], _∷_, _++_, map}
@@ -10,10 +10,10 @@ use native.Mathlib.Omega.{arith}
 use lib.Dec.{ltb, leb, eqb}
 use lib.Bits.{bitAnd, and-shr, and-step}
 use lib.ListN.{length, getD}
-use borrow.Author.Tests.{eqb-true, eqb-false}
+use borrow.Author.Tests.{eqb-true, eqb-false, ltb-true, lt-ltb}
 use Rattle.geometry.specs.declared.Part.{Part}
 use Rattle.geometry.specs.declared.Geometry.{Geometry}
-use Rattle.geometry.specs.Blocks.{Sound, geometryOf, words, blockOf, startOf, sizeOf}
+use Rattle.geometry.specs.Blocks.{Sound, geometryOf, words, location, blockOf, startOf, sizeOf}
 use Rattle.geometry.specs.Laws as laws
 use Rattle.semantics.specs.declared.Step.{Step}
 use Rattle.semantics.specs.declared.Step.the-variants.{Read, Write, Work, Supply, Reset}
@@ -32,56 +32,125 @@ use Rattle.semantics.specs.Theorem.{readings, readings-applied, demand-3
 abbrev pub bit : ℕ → ℕ → ℕ
 bit w i = w / 2 ^ i % 2
 
+-- ---- what a step is, told from the step itself and from the set-up that is pending before it
+
+-- no step of a list switches the supply
+abbrev pub NoSupply : List Step → Type 0
+NoSupply [] = Unit {0}
+NoSupply (s ∷ l) = ((on : Bool) → s ≡ Supply on → ⊥) × NoSupply l
+
+-- supply is on after a list of steps from power-up: the last of them that switches it switched it on. Power-up has it off, and reset keeps it
+pub record SupplyOn (l : List Step) : Type 0 where
+  pub earlier : List Step
+  pub since : List Step
+  pub whole : l ≡ earlier ++ (Supply true ∷ since)
+  pub none-since : NoSupply since
+
+-- the data of the protection commands: D0h unprotects, 01h protects
+abbrev pub protectionCode : Bool → ℕ
+protectionCode true = 0xD0
+protectionCode false = 0x01
+
 module _ (g : Geometry) where
+  -- the step is a protection command for block b, which unprotects it (v true) or protects it: the second cycle after a lock set-up, at an address in b.
+  -- The set-up p is the one that the recorder holds before the step; it draws it up from the steps alone
+  abbrev pub ProtectionCommand : ℕ → Bool → Setup → Step → Type 0
+  ProtectionCommand b v p (Read a) = ⊥
+  ProtectionCommand b v p (Write a w) = (a < 16777216) × (p ≡ lock-setup) × (w % 256 ≡ protectionCode v) × (blockOf g (location g a) ≡ b)
+  ProtectionCommand b v p (Work n) = ⊥
+  ProtectionCommand b v p (Supply on) = ⊥
+  ProtectionCommand b v p Reset = ⊥
+
+  -- a write of w to address a is the second cycle of an operation, after its set-up: of a program with its data at its location, of an erase with D0h in its block
+  abbrev pub SecondCycle : Setup → ℕ → ℕ → Operation → Type 0
+  SecondCycle p a w (program l d) = (a < 16777216) × (p ≡ program-setup) × (location g a ≡ l) × (w ≡ d)
+  SecondCycle p a w (erase b) = (a < 16777216) × (p ≡ erase-setup) × (w % 256 ≡ 0xD0) × (blockOf g (location g a) ≡ b)
+
+  abbrev OperationCommand : Operation → Setup → Step → Type 0
+  OperationCommand k p (Read a) = ⊥
+  OperationCommand k p (Write a w) = SecondCycle p a w k
+  OperationCommand k p (Work n) = ⊥
+  OperationCommand k p (Supply on) = ⊥
+  OperationCommand k p Reset = ⊥
+
+  -- ---- and so each event of the recorder is the step's own
+
   abbrev Quiet : Event → Type 0
   Quiet nothing = Unit {0}
-  Quiet (supplied b) = Unit {0}
-  Quiet was-reset = Unit {0}
+  Quiet (supplied b) = ⊥
+  Quiet was-reset = ⊥
   Quiet (units n) = Unit {0}
   Quiet suspend = Unit {0}
   Quiet resume-program = Unit {0}
   Quiet resume-erase = Unit {0}
   Quiet (setup-is s) = Unit {0}
-  Quiet (unprotected-is b o) = Unit {0}
+  Quiet (unprotected-is b o) = ⊥
   Quiet (accept k) = ⊥
 
-  -- an operation is accepted only with supply on and its block unprotected
-  data Why (d : Conditions) : Event → Type 0 where
-    because : (k : Operation) → d .supply ≡ true → d .unprotected (blockIn g k) ≡ true → Why d (accept k)
-    quiet : (v : Event) → Quiet v → Why d v
+  -- why an event is that of a step. An operation is accepted only with supply on and its block unprotected
+  data Why (d : Conditions) (s : Step) : Event → Type 0 where
+    because : (k : Operation) → d .supply ≡ true → d .unprotected (blockIn g k) ≡ true → OperationCommand k (d .setup) s → Why d s (accept k)
+    protection : (b : ℕ) (v : Bool) → ProtectionCommand b v (d .setup) s → Why d s (unprotected-is b v)
+    supply-step : (on : Bool) → s ≡ Supply on → Why d s (supplied on)
+    reset-step : s ≡ Reset → Why d s was-reset
+    quiet : (v : Event) → Quiet v → Why d s v
 
   module _ (d : Conditions) (r : Bool) (h : (Operation → Bool) → Bool) where
-    which : (b : Bool) {x y : Event} → (b ≡ true → Why d x) → (b ≡ false → Why d y) → Why d (cond b x y)
+    which : {s : Step} (b : Bool) {x y : Event} → (b ≡ true → Why d s x) → (b ≡ false → Why d s y) → Why d s (cond b x y)
     which true f g = f refl
     which false f g = g refl
 
-    why-first : (c : Command) → Why d (first-cycle g d r h c)
-    why-first suspend-command = which r (λ e. quiet _ tt) (λ e. quiet _ tt)
-    why-first resume-command = which r (λ e. quiet _ tt) (λ e. which (h isProgram) (λ e. quiet _ tt) (λ e. which (h isErase) (λ e. quiet _ tt) (λ e. quiet _ tt)))
-    why-first program-command = which (r || h isProgram) (λ e. quiet _ tt) (λ e. quiet _ tt)
-    why-first lock-command = which (r || h isProgram) (λ e. quiet _ tt) (λ e. quiet _ tt)
-    why-first erase-command = which (r || h isAny) (λ e. quiet _ tt) (λ e. quiet _ tt)
-    why-first other-command = quiet _ tt
+    why-first : (s : Step) (c : Command) → Why d s (first-cycle g d r h c)
+    why-first s suspend-command = which r (λ e. quiet _ tt) (λ e. quiet _ tt)
+    why-first s resume-command = which r (λ e. quiet _ tt) (λ e. which (h isProgram) (λ e. quiet _ tt) (λ e. which (h isErase) (λ e. quiet _ tt) (λ e. quiet _ tt)))
+    why-first s program-command = which (r || h isProgram) (λ e. quiet _ tt) (λ e. quiet _ tt)
+    why-first s lock-command = which (r || h isProgram) (λ e. quiet _ tt) (λ e. quiet _ tt)
+    why-first s erase-command = which (r || h isAny) (λ e. quiet _ tt) (λ e. quiet _ tt)
+    why-first s other-command = quiet _ tt
 
-    why-second : (s : Setup) (l c w : ℕ) → Why d (cycle g d r h s l c w)
-    why-second no-setup l c w = why-first (commandOf c)
-    why-second lock-setup l c w = which (eqb c 0xD0) (λ e. quiet _ tt) (λ e. which (eqb c 0x01) (λ e. quiet _ tt) (λ e. quiet _ tt))
-    why-second program-setup l c w =
-        which (acceptable g d r h (blockOf g l))
-        (λ e. because (program l w) (and-true-l (d .supply) _ e) (and-true-l (d .unprotected (blockOf g l)) _ (and-true-r (d .supply) _ e)))
+    why-second : (p : Setup) → d .setup ≡ p → (a w : ℕ) → a < 16777216 → Why d (Write a w) (cycle g d r h p (location g a) (w % 256) w)
+    why-second no-setup q a w i = why-first (Write a w) (commandOf (w % 256))
+    why-second lock-setup q a w i =
+        which (eqb (w % 256) 0xD0) (λ e. protection (blockOf g (location g a)) true (i, q, eqb-true (w % 256) 0xD0 e, refl))
+        (λ x. which (eqb (w % 256) 0x01) (λ e. protection (blockOf g (location g a)) false (i, q, eqb-true (w % 256) 0x01 e, refl)) (λ e. quiet _ tt))
+    why-second program-setup q a w i =
+        let b : ℕ = blockOf g (location g a) in
+        which (acceptable g d r h b)
+        (λ e. because (program (location g a) w) (and-true-l (d .supply) _ e) (and-true-l (d .unprotected b) _ (and-true-r (d .supply) _ e)) (i, q, refl, refl))
         (λ e. quiet _ tt)
-    why-second erase-setup l c w =
-        which (eqb c 0xD0 && acceptable g d r h (blockOf g l))
-        (λ e. let a = and-true-r (eqb c 0xD0) _ e in
-        because (erase (blockOf g l)) (and-true-l (d .supply) _ a) (and-true-l (d .unprotected (blockOf g l)) _ (and-true-r (d .supply) _ a)))
+    why-second erase-setup q a w i =
+        let b : ℕ = blockOf g (location g a) in
+        which (eqb (w % 256) 0xD0 && acceptable g d r h b)
+        (λ e. let x = and-true-r (eqb (w % 256) 0xD0) _ e in
+        because (erase b) (and-true-l (d .supply) _ x) (and-true-l (d .unprotected b) _ (and-true-r (d .supply) _ x))
+        (i, q, eqb-true (w % 256) 0xD0 (and-true-l (eqb (w % 256) 0xD0) _ e), refl))
         (λ e. quiet _ tt)
 
-    why : (s : Step) → Why d (rule g d r h s)
+    why : (s : Step) → Why d s (rule g d r h s)
     why (Read a) = quiet _ tt
-    why (Write a w) = which (ltb a 16777216) (λ e. why-second (d .setup) (a % words g) (w % 256) w) (λ e. quiet _ tt)
+    why (Write a w) = which (ltb a 16777216) (λ e. why-second (d .setup) refl a w (ltb-true a 16777216 e)) (λ e. quiet _ tt)
     why (Work n) = which (leb n 65535) (λ e. quiet _ tt) (λ e. quiet _ tt)
-    why (Supply b) = quiet _ tt
-    why Reset = quiet _ tt
+    why (Supply b) = supply-step b refl
+    why Reset = reset-step refl
+
+  why-event : (c : Recorder) (s : Step) → Why (c .conditions) s (event g s c)
+  why-event c s = why (c .conditions) (anyRuns (c .journal)) (λ p. anySuspended p (c .journal)) s
+
+  -- the recorder takes a step for a protection command exactly where it is one
+  protection-event : (b : ℕ) (v : Bool) (c : Recorder) (s : Step) → ProtectionCommand b v (c .conditions .setup) s → event g s c ≡ unprotected-is b v
+  protection-event b true c (Write a w) x = rw (lt-ltb a 16777216 (x .0), x .1, x .2, x .3)
+  protection-event b false c (Write a w) x = rw (lt-ltb a 16777216 (x .0), x .1, x .2, x .3)
+  protection-event b v c (Read a) x = absurd x
+  protection-event b v c (Work n) x = absurd x
+  protection-event b v c (Supply on) x = absurd x
+  protection-event b v c Reset x = absurd x
+
+  why-protection : (d : Conditions) (s : Step) (b : ℕ) (v : Bool) → Why d s (unprotected-is b v) → ProtectionCommand b v (d .setup) s
+  why-protection d s b v (protection _ _ x) = x
+  why-protection d s b v (quiet _ x) = absurd x
+
+  event-protection : (b : ℕ) (v : Bool) (c : Recorder) (s : Step) → event g s c ≡ unprotected-is b v → ProtectionCommand b v (c .conditions .setup) s
+  event-protection b v c s e = why-protection (c .conditions) s b v (subst (λ x. Why (c .conditions) s x) e (why-event c s))
 
   abbrev pub operation-of : Entry Operation → Operation
   operation-of (entry k u t) = k
@@ -93,7 +162,7 @@ module _ (g : Geometry) where
 
   -- k was accepted as entry n at one of the steps, with supply on and its block unprotected there; c is the recorder before the steps
   pub data Accepted (k : Operation) (n : ℕ) : Recorder → List Step → Type 0 where
-    here : (c : Recorder) (s : Step) (l : List Step) → event g s c ≡ accept k → length (c .journal) ≡ n → c .conditions .supply ≡ true → c .conditions .unprotected (blockIn g k) ≡ true → Accepted k n c (s ∷ l)
+    here : (c : Recorder) (s : Step) (l : List Step) → event g s c ≡ accept k → length (c .journal) ≡ n → c .conditions .supply ≡ true → c .conditions .unprotected (blockIn g k) ≡ true → OperationCommand k (c .conditions .setup) s → Accepted k n c (s ∷ l)
     later : (c : Recorder) (s : Step) (l : List Step) → Accepted k n (recorded g c s) l → Accepted k n c (s ∷ l)
 
   length-map : (f : Entry Operation → Entry Operation) (j : List (Entry Operation)) → length (map f j) ≡ length j
@@ -142,14 +211,14 @@ module _ (g : Geometry) where
   holds-do k n (accept i) j (inl x) = inr (ap accept (sym (x .0)), x .1)
   holds-do k n (accept i) j (inr x) = inl x
 
-  why-accept : (d : Conditions) (k : Operation) → Why d (accept k) → (d .supply ≡ true) × (d .unprotected (blockIn g k) ≡ true)
-  why-accept d k (because _ x y) = (x, y)
-  why-accept d k (quiet _ x) = absurd x
+  why-accept : (d : Conditions) (s : Step) (k : Operation) → Why d s (accept k) → (d .supply ≡ true) × (d .unprotected (blockIn g k) ≡ true) × OperationCommand k (d .setup) s
+  why-accept d s k (because _ x y z) = (x, y, z)
+  why-accept d s k (quiet _ x) = absurd x
 
   here-if : (k : Operation) (n : ℕ) (c : Recorder) (s : Step) (l : List Step) → event g s c ≡ accept k → length (c .journal) ≡ n → Accepted k n c (s ∷ l)
   here-if k n c s l e z =
-      let w = why-accept (c .conditions) k (subst (λ v. Why (c .conditions) v) e (why (c .conditions) (anyRuns (c .journal)) (λ p. anySuspended p (c .journal)) s)) in
-      here c s l e z (w .0) (w .1)
+      let w = why-accept (c .conditions) s k (subst (λ v. Why (c .conditions) s v) e (why-event c s)) in
+      here c s l e z (w .0) (w .1) (w .2)
 
   -- every entry was accepted so
   pub stands : (k : Operation) (n : ℕ) (l : List Step) (c : Recorder) → Holds k n ((recordedAll g c l) .journal) → Holds k n (c .journal) ⊎ Accepted k n c l
@@ -171,10 +240,10 @@ module _ (g : Geometry) where
       go (inl y) = absurd y
       go (inr a) = a
 
-  -- no step unprotects b
+  -- no step unprotects b; c is the recorder before them
   abbrev pub NeverUnprotected : ℕ → List Step → Recorder → Type 0
   NeverUnprotected b [] c = Unit {0}
-  NeverUnprotected b (s ∷ l) c = (event g s c ≡ unprotected-is b true → ⊥) × NeverUnprotected b l (recorded g c s)
+  NeverUnprotected b (s ∷ l) c = (ProtectionCommand b true (c .conditions .setup) s → ⊥) × NeverUnprotected b l (recorded g c s)
 
   stays-protected : (d : Conditions) (b c : ℕ) (o : Bool) → d .unprotected b ≡ false → (unprotected-is c o ≡ unprotected-is b true → ⊥) → (t : Bool) → eqb b c ≡ t → cond t o (d .unprotected b) ≡ false
   stays-protected d b c o h n false e = h
@@ -194,9 +263,9 @@ module _ (g : Geometry) where
   protected-after (accept k) d b h n = h
 
   never-accepted : (b : ℕ) (k : Operation) (n : ℕ) (c : Recorder) (l : List Step) → c .conditions .unprotected b ≡ false → NeverUnprotected b l c → Accepted k n c l → blockIn g k ≡ b → ⊥
-  never-accepted b k m c l h n (here _ s i e q x y) z = true≢false (sym (rw z at y) ∙ h)
+  never-accepted b k m c l h n (here _ s i e q x y _) z = true≢false (sym (rw z at y) ∙ h)
   never-accepted b k m c l h n (later _ s i a) z =
-      never-accepted b k m (recorded g c s) i (protected-after (event g s c) (c .conditions) b h (n .0)) (n .1) a z
+      never-accepted b k m (recorded g c s) i (protected-after (event g s c) (c .conditions) b h (λ e. n .0 (event-protection b true c s e))) (n .1) a z
 
   off : (w v : ℕ) (t : Bool) → (t ≡ true → ⊥) → cond t v w ≡ w
   off w v true h = absurd (h refl)
@@ -271,15 +340,14 @@ module _ (g : Geometry) where
 
   -- ---- the last protection command for a block since power-up or the last reset
 
-  -- no step resets, and none protects or unprotects b
+  -- no step resets, and none is a protection command for b; c is the recorder before them
   abbrev pub Undisturbed : ℕ → Recorder → List Step → Type 0
   Undisturbed b c [] = Unit {0}
-  Undisturbed b c (s ∷ l) =
-      (event g s c ≡ was-reset → ⊥) × ((o : Bool) → event g s c ≡ unprotected-is b o → ⊥) × Undisturbed b (recorded g c s) l
+  Undisturbed b c (s ∷ l) = (s ≡ Reset → ⊥) × ((v : Bool) → ProtectionCommand b v (c .conditions .setup) s → ⊥) × Undisturbed b (recorded g c s) l
 
-  -- one of the steps unprotected b, and none after it resets, protects b or unprotects it again
+  -- one of the steps is a protection command that unprotects b, and none after it resets or is a protection command for b
   pub data LastUnprotected (b : ℕ) : Recorder → List Step → Type 0 where
-    at-this : (c : Recorder) (s : Step) (l : List Step) → event g s c ≡ unprotected-is b true → Undisturbed b (recorded g c s) l → LastUnprotected b c (s ∷ l)
+    at-this : (c : Recorder) (s : Step) (l : List Step) → ProtectionCommand b true (c .conditions .setup) s → Undisturbed b (recorded g c s) l → LastUnprotected b c (s ∷ l)
     at-later : (c : Recorder) (s : Step) (l : List Step) → LastUnprotected b (recorded g c s) l → LastUnprotected b c (s ∷ l)
 
   abbrev Touch : ℕ → Event → Conditions → Type 0
@@ -340,17 +408,72 @@ module _ (g : Geometry) where
   unprotected-since b (s ∷ l) c h = go (unprotected-since b l (recorded g c s) h)
     where
       go₂ : Undisturbed b (recorded g c s) l → Touch b (event g s c) (c .conditions) → LastUnprotected b c (s ∷ l) ⊎ ((c .conditions .unprotected b ≡ true) × Undisturbed b c (s ∷ l))
-      go₂ u (inl e) = inl (at-this c s l e u)
-      go₂ u (inr t) = inr (t .0, (t .1, t .2, u))
+      go₂ u (inl e) = inl (at-this c s l (event-protection b true c s e) u)
+      go₂ u (inr t) = inr (t .0, ((λ e. t .1 (ap (λ (x : Step). event g x c) e)), (λ v x. t .2 v (protection-event b v c s x)), u))
 
       go : LastUnprotected b (recorded g c s) l ⊎ (((recorded g c s) .conditions .unprotected b ≡ true) × Undisturbed b (recorded g c s) l)
           → LastUnprotected b c (s ∷ l) ⊎ ((c .conditions .unprotected b ≡ true) × Undisturbed b c (s ∷ l))
       go (inl x) = inl (at-later c s l x)
       go (inr x) = go₂ (x .1) (touch (event g s c) (c .conditions) b (x .0))
 
+  -- ---- the last supply step
+
+  -- every other step leaves the supply as it was
+  supply-kept : (d : Conditions) (s : Step) (v : Event) → ((on : Bool) → s ≡ Supply on → ⊥) → Why d s v → (conditions-after v d) .supply ≡ d .supply
+  supply-kept d s v n (because k x y z) = refl
+  supply-kept d s v n (protection b o x) = refl
+  supply-kept d s v n (supply-step on e) = absurd (n on e)
+  supply-kept d s v n (reset-step e) = refl
+  supply-kept d s v n (quiet nothing q) = refl
+  supply-kept d s v n (quiet (supplied on) q) = absurd q
+  supply-kept d s v n (quiet was-reset q) = refl
+  supply-kept d s v n (quiet (units m) q) = refl
+  supply-kept d s v n (quiet suspend q) = refl
+  supply-kept d s v n (quiet resume-program q) = refl
+  supply-kept d s v n (quiet resume-erase q) = refl
+  supply-kept d s v n (quiet (setup-is p) q) = refl
+  supply-kept d s v n (quiet (unprotected-is b o) q) = refl
+  supply-kept d s v n (quiet (accept k) q) = refl
+
+  abbrev isSupply : Step → Bool
+  isSupply (Read a) = false
+  isSupply (Write a w) = false
+  isSupply (Work n) = false
+  isSupply (Supply on) = true
+  isSupply Reset = false
+
+  -- the step switched the supply on, or it was on before and the step does not switch it
+  abbrev Switched : Recorder → Step → Type 0
+  Switched c s = (s ≡ Supply true) ⊎ ((c .conditions .supply ≡ true) × ((on : Bool) → s ≡ Supply on → ⊥))
+
+  unswitched : (c : Recorder) (s : Step) → isSupply s ≡ false → (recorded g c s) .conditions .supply ≡ true → Switched c s
+  unswitched c s n h =
+      let m : (on : Bool) → s ≡ Supply on → ⊥ = λ on e. false≢true (sym n ∙ ap isSupply e) in
+      inr (sym (supply-kept (c .conditions) s (event g s c) m (why-event c s)) ∙ h, m)
+
+  switched : (c : Recorder) (s : Step) → (recorded g c s) .conditions .supply ≡ true → Switched c s
+  switched c (Supply true) h = inl refl
+  switched c (Supply false) h = absurd (false≢true h)
+  switched c (Read a) h = unswitched c (Read a) refl h
+  switched c (Write a w) h = unswitched c (Write a w) refl h
+  switched c (Work m) h = unswitched c (Work m) refl h
+  switched c Reset h = unswitched c Reset refl h
+
+  supply-since : (l : List Step) (c : Recorder) → (recordedAll g c l) .conditions .supply ≡ true → SupplyOn l ⊎ ((c .conditions .supply ≡ true) × NoSupply l)
+  supply-since [] c h = inr (h, tt)
+  supply-since (s ∷ l) c h = go (supply-since l (recorded g c s) h)
+    where
+      go₂ : NoSupply l → Switched c s → SupplyOn (s ∷ l) ⊎ ((c .conditions .supply ≡ true) × NoSupply (s ∷ l))
+      go₂ n (inl e) = inl (record { earlier = []; since = l; whole = ap (λ (x : Step). x ∷ l) e; none-since = n })
+      go₂ n (inr x) = inr (x .0, (x .1, n))
+
+      go : SupplyOn l ⊎ (((recorded g c s) .conditions .supply ≡ true) × NoSupply l) → SupplyOn (s ∷ l) ⊎ ((c .conditions .supply ≡ true) × NoSupply (s ∷ l))
+      go (inl x) = inl (record { earlier = s ∷ x .earlier; since = x .since; whole = ap (λ (m : List Step). s ∷ m) (x .whole); none-since = x .none-since })
+      go (inr x) = go₂ (x .1) (switched c s (x .0))
+
   -- ---- where an operation was accepted: the steps before it, the step, and those after it
 
-  pub record Split (k : Operation) (n : ℕ) (c : Recorder) (l : List Step) : Type 0 where
+  record Split (k : Operation) (n : ℕ) (c : Recorder) (l : List Step) : Type 0 where
     pub before : List Step
     pub step : Step
     pub later : List Step
@@ -359,25 +482,29 @@ module _ (g : Geometry) where
     pub place : length (recordedAll g c before .journal) ≡ n
     pub supply-on : recordedAll g c before .conditions .supply ≡ true
     pub unprotected : recordedAll g c before .conditions .unprotected (blockIn g k) ≡ true
+    pub command : OperationCommand k (recordedAll g c before .conditions .setup) step
 
   split : (k : Operation) (n : ℕ) (c : Recorder) (l : List Step) → Accepted k n c l → Split k n c l
-  split k n c l (here _ s i e q x y) = record { before = []; step = s; later = i; whole = refl; accepts = e; place = q; supply-on = x; unprotected = y }
+  split k n c l (here _ s i e q x y z) = record { before = []; step = s; later = i; whole = refl; accepts = e; place = q; supply-on = x; unprotected = y; command = z }
   split k n c l (later _ s i a) =
       let r = split k n (recorded g c s) i a in
-      record { before = s ∷ r .before; step = r .step; later = r .later; whole = ap (λ (m : List Step). s ∷ m) (r .whole); accepts = r .accepts; place = r .place; supply-on = r .supply-on; unprotected = r .unprotected }
+      record { before = s ∷ r .before; step = r .step; later = r .later; whole = ap (λ (m : List Step). s ∷ m) (r .whole); accepts = r .accepts; place = r .place; supply-on = r .supply-on; unprotected = r .unprotected; command = r .command }
 
 -- ---- the theorems
 
--- entry n of the journal, which is of the operation k, stands: at the step that accepted it, when the journal had n entries, supply was on, and the last
--- protection command for its block since power-up or the last reset had unprotected it
+-- "An entry stands only where, at its acceptance, supply was on and the last protection command for its block since power-up or reset had opened it.": entry n of
+-- the journal, which is of the operation k, stands. The steps are those before its acceptance, the write that is its second cycle, and those after; when it came
+-- the journal had n entries. Which set-up was pending at a step is the recorder's, who has it from the steps before alone
 pub record Stands (g : Geometry) (k : Operation) (n : ℕ) (l : List Step) : Type 0 where
   pub before : List Step
-  pub step : Step
+  pub address : ℕ
+  pub word : ℕ
   pub later : List Step
-  pub whole : l ≡ before ++ (step ∷ later)
-  pub accepts : event g step (recordedAll g beginning before) ≡ accept k
+  pub whole : l ≡ before ++ (Write address word ∷ later)
+  pub second-cycle : SecondCycle g (recordedAll g beginning before .conditions .setup) address word k
+  pub accepts : event g (Write address word) (recordedAll g beginning before) ≡ accept k
   pub place : length (recordedAll g beginning before .journal) ≡ n
-  pub supply-on : recordedAll g beginning before .conditions .supply ≡ true
+  pub supply-on : SupplyOn before
   pub last-unprotected : LastUnprotected g (blockIn g k) beginning before
 
 -- every entry of the journal stands so
@@ -388,17 +515,31 @@ every-entry-stands g k n l h = go (split g k n beginning l (stands₀ g k n l h)
     last b i (inl x) = x
     last b i (inr x) = absurd (false≢true (x .0))
 
-    go : Split g k n beginning l → Stands g k n l
-    go r = record {
+    on : (i : List Step) → SupplyOn i ⊎ ((false ≡ true) × NoSupply i) → SupplyOn i
+    on i (inl x) = x
+    on i (inr x) = absurd (false≢true (x .0))
+
+    -- the step is a write, since no other is an operation's
+    by-step : (x : Step) (r : Split g k n beginning l) → r .step ≡ x → Stands g k n l
+    by-step (Write a w) r e = record {
       before = r .before;
-      step = r .step;
+      address = a;
+      word = w;
       later = r .later;
-      whole = r .whole;
-      accepts = r .accepts;
+      whole = r .whole ∙ ap (λ (x : Step). r .before ++ (x ∷ r .later)) e;
+      second-cycle = subst (λ x. OperationCommand g k (recordedAll g beginning (r .before) .conditions .setup) x) e (r .command);
+      accepts = ap (λ (x : Step). event g x (recordedAll g beginning (r .before))) (sym e) ∙ r .accepts;
       place = r .place;
-      supply-on = r .supply-on;
+      supply-on = on (r .before) (supply-since g (r .before) beginning (r .supply-on));
       last-unprotected = last (blockIn g k) (r .before) (unprotected-since g (blockIn g k) (r .before) beginning (r .unprotected));
     }
+    by-step (Read a) r e = absurd (subst (λ x. OperationCommand g k (recordedAll g beginning (r .before) .conditions .setup) x) e (r .command))
+    by-step (Work m) r e = absurd (subst (λ x. OperationCommand g k (recordedAll g beginning (r .before) .conditions .setup) x) e (r .command))
+    by-step (Supply o) r e = absurd (subst (λ x. OperationCommand g k (recordedAll g beginning (r .before) .conditions .setup) x) e (r .command))
+    by-step Reset r e = absurd (subst (λ x. OperationCommand g k (recordedAll g beginning (r .before) .conditions .setup) x) e (r .command))
+
+    go : Split g k n beginning l → Stands g k n l
+    go r = by-step (r .step) r refl
 
 -- what demand 3 says of the array ys that a list l of steps makes of power-up of the part p on the array xs
 pub record Demand3 (p : Part) (l : List Step) (xs ys : List ℕ) : Type 0 where
