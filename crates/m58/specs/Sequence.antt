@@ -12,7 +12,8 @@ use Rattle.geometry.specs.Blocks.{geometryOf, words, partNumbered}
 use Rattle.semantics.specs.declared.Step.{Step}
 use Rattle.semantics.specs.declared.Answer.{Answer}
 use Rattle.semantics.specs.Steps.{Machine, afterAll, answersOf, fresh}
-use Rattle.semantics.specs.Standing.{Demand3, demand-3-whole}
+use Rattle.semantics.specs.Demand.{Demand3}
+use Rattle.semantics.specs.Standing.{demand-3-whole}
 use Rattle.device.specs.Outcomes.{holding}
 use Rattle.playback.specs.Playback.{playable, answerCode, roomAfter, machineOf}
 use Rattle.playback.specs.Laws.{afterAll-append, answersOf-append, answersOf-length}

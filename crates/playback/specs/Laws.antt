@@ -13,7 +13,8 @@ use Rattle.semantics.specs.declared.Decoded.{Decoded}
 use Rattle.semantics.specs.declared.Decoded.the-variants.{Valid, Invalid}
 use Rattle.semantics.specs.Steps.{stepOf, Machine, after, afterAll, answersOf, fresh}
 use Rattle.semantics.specs.Encoding.{decode}
-use Rattle.semantics.specs.Standing.{Demand3, demand-3-whole}
+use Rattle.semantics.specs.Demand.{Demand3}
+use Rattle.semantics.specs.Standing.{demand-3-whole}
 use Rattle.semantics.specs.Invariant.{length-kept}
 use Rattle.semantics.specs.Held.{Held, Does, held-next}
 use Rattle.device.specs.declared.Device.{Device}

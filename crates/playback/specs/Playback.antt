@@ -13,7 +13,7 @@ use Rattle.semantics.specs.declared.Decoded.{Decoded}
 use Rattle.semantics.specs.declared.Decoded.the-variants.{Valid, Invalid}
 use Rattle.semantics.specs.Steps.{numberOf, valueOf, Machine, afterAll, answersOf, fresh}
 use Rattle.semantics.specs.Encoding.{decode}
-use Rattle.semantics.specs.Standing.{Demand3}
+use Rattle.semantics.specs.Demand.{Demand3}
 use Rattle.device.specs.declared.Device.{Device}
 use Rattle.playback.specs.declared.RunEnd.{RunEnd}
 

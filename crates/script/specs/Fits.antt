@@ -23,7 +23,7 @@ use Rattle.semantics.specs.WellFormed.{wellFormed}
 use Rattle.semantics.specs.Reading.{readWord}
 use Rattle.semantics.specs.Working.{unitsDone}
 use Rattle.semantics.specs.Steps.{locationRefusal, addressRefusal, countRefusal, stepRefusal, stateRefusal, firstRefusal, refusalOf, next, accepted, stepOf, Machine, after, fresh}
-use Rattle.semantics.specs.Standing.{Demand3}
+use Rattle.semantics.specs.Demand.{Demand3}
 use Rattle.line.specs.Forms.{stepOfLine}
 use Rattle.printing.specs.Text.{answerText, lineText, endText, word-short, units-short, done-short, refused-short, line-short, end-short}
 use Rattle.printing.specs.Room.{Put, placed-length, put-whole, put-counted}

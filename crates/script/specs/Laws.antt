@@ -17,7 +17,8 @@ use Rattle.semantics.specs.declared.Decoded.the-variants.{Valid, Invalid}
 use Rattle.semantics.specs.State.{geometry, powerUp}
 use Rattle.semantics.specs.Steps.{stateRefusal, firstRefusal, refusalOf, next, stepOf, Machine, after, afterAll, fresh}
 use Rattle.semantics.specs.Invariant.{state-good}
-use Rattle.semantics.specs.Standing.{Demand3, demand-3-whole}
+use Rattle.semantics.specs.Demand.{Demand3}
+use Rattle.semantics.specs.Standing.{demand-3-whole}
 use Rattle.semantics.specs.Consequences.{Good, reached-good}
 use Rattle.device.specs.declared.Device.{Device}
 use Rattle.device.specs.declared.Outcome.{Outcome}

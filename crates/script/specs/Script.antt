@@ -15,7 +15,7 @@ use Rattle.semantics.specs.declared.Answer.the-variants.{Refused}
 use Rattle.semantics.specs.declared.Decoded.{Decoded}
 use Rattle.semantics.specs.declared.Decoded.the-variants.{Valid, Invalid}
 use Rattle.semantics.specs.Steps.{stateRefusal, firstRefusal, stepOf, Machine, after, fresh}
-use Rattle.semantics.specs.Standing.{Demand3}
+use Rattle.semantics.specs.Demand.{Demand3}
 use Rattle.device.specs.declared.Device.{Device}
 use Rattle.line.specs.Forms.{stepOfLine}
 use Rattle.printing.specs.Text.{lineText, endText}

@@ -16,6 +16,7 @@ pub mod FurtherCases
 pub mod Encoding
 pub mod Entries
 pub mod Recorder
+pub mod Demand
 pub mod Layout
 pub mod Engine
 pub mod Follows

@@ -25,6 +25,7 @@ use Rattle.semantics.specs.Entries.{Entry, entry, Phase, running, suspen
 use Rattle.semantics.specs.Recorder.{Operation, program, erase, Setup, no-setup, program-setup, erase-setup, lock-setup, Event, nothing, supplied, was-reset, units, suspend, resume-program, resume-erase, setup-is, unprotected-is, accept}
 use Rattle.semantics.specs.Recorder.{Conditions, conditions-after, rule, len, kinds, isProgram, isErase, isAny, blockIn, Recorder, beginning, recorded, recordedAll, journalOf, event, journal-after, first-cycle, cycle, acceptable, reading, applied}
 use Rattle.semantics.specs.Recorder.{Command, commandOf, suspend-command, resume-command, program-command, lock-command, erase-command, other-command}
+use Rattle.semantics.specs.Demand.{NoSupply, SupplyOn, protectionCode, ProtectionCommand, SecondCycle, operation-of, Holds, Undisturbed, LastUnprotected, at-this, at-later, Stands, Demand3}
 use Rattle.semantics.specs.Engine.{and-true-l, and-true-r, Matches, After}
 use Rattle.semantics.specs.Theorem.{readings, readings-applied, demand-3, reached, reached-length}
 
@@ -32,43 +33,10 @@ use Rattle.semantics.specs.Theorem.{readings, readings-applied, demand-3
 abbrev pub bit : ℕ → ℕ → ℕ
 bit w i = w / 2 ^ i % 2
 
--- ---- what a step is, told from the step itself and from the set-up that is pending before it
-
--- no step of a list switches the supply
-abbrev pub NoSupply : List Step → Type 0
-NoSupply [] = Unit {0}
-NoSupply (s ∷ l) = ((on : Bool) → s ≡ Supply on → ⊥) × NoSupply l
-
--- supply is on after a list of steps from power-up: the last of them that switches it switched it on. Power-up has it off, and reset keeps it
-pub record SupplyOn (l : List Step) : Type 0 where
-  pub earlier : List Step
-  pub since : List Step
-  pub whole : l ≡ earlier ++ (Supply true ∷ since)
-  pub none-since : NoSupply since
-
--- the data of the protection commands: D0h unprotects, 01h protects
-abbrev pub protectionCode : Bool → ℕ
-protectionCode true = 0xD0
-protectionCode false = 0x01
-
 module _ (g : Geometry) where
-  -- the step is a protection command for block b, which unprotects it (v true) or protects it: the second cycle after a lock set-up, at an address in b.
-  -- The set-up p is the one that the recorder holds before the step; it draws it up from the steps alone
-  abbrev pub ProtectionCommand : ℕ → Bool → Setup → Step → Type 0
-  ProtectionCommand b v p (Read a) = ⊥
-  ProtectionCommand b v p (Write a w) = (a < 16777216) × (p ≡ lock-setup) × (w % 256 ≡ protectionCode v) × (blockOf g (location g a) ≡ b)
-  ProtectionCommand b v p (Work n) = ⊥
-  ProtectionCommand b v p (Supply on) = ⊥
-  ProtectionCommand b v p Reset = ⊥
-
-  -- a write of w to address a is the second cycle of an operation, after its set-up: of a program with its data at its location, of an erase with D0h in its block
-  abbrev pub SecondCycle : Setup → ℕ → ℕ → Operation → Type 0
-  SecondCycle p a w (program l d) = (a < 16777216) × (p ≡ program-setup) × (location g a ≡ l) × (w ≡ d)
-  SecondCycle p a w (erase b) = (a < 16777216) × (p ≡ erase-setup) × (w % 256 ≡ 0xD0) × (blockOf g (location g a) ≡ b)
-
   abbrev OperationCommand : Operation → Setup → Step → Type 0
   OperationCommand k p (Read a) = ⊥
-  OperationCommand k p (Write a w) = SecondCycle p a w k
+  OperationCommand k p (Write a w) = SecondCycle g p a w k
   OperationCommand k p (Work n) = ⊥
   OperationCommand k p (Supply on) = ⊥
   OperationCommand k p Reset = ⊥
@@ -90,7 +58,7 @@ module _ (g : Geometry) where
   -- why an event is that of a step. An operation is accepted only with supply on and its block unprotected
   data Why (d : Conditions) (s : Step) : Event → Type 0 where
     because : (k : Operation) → d .supply ≡ true → d .unprotected (blockIn g k) ≡ true → OperationCommand k (d .setup) s → Why d s (accept k)
-    protection : (b : ℕ) (v : Bool) → ProtectionCommand b v (d .setup) s → Why d s (unprotected-is b v)
+    protection : (b : ℕ) (v : Bool) → ProtectionCommand g b v (d .setup) s → Why d s (unprotected-is b v)
     supply-step : (on : Bool) → s ≡ Supply on → Why d s (supplied on)
     reset-step : s ≡ Reset → Why d s was-reset
     quiet : (v : Event) → Quiet v → Why d s v
@@ -137,7 +105,7 @@ module _ (g : Geometry) where
   why-event c s = why (c .conditions) (anyRuns (c .journal)) (λ p. anySuspended p (c .journal)) s
 
   -- the recorder takes a step for a protection command exactly where it is one
-  protection-event : (b : ℕ) (v : Bool) (c : Recorder) (s : Step) → ProtectionCommand b v (c .conditions .setup) s → event g s c ≡ unprotected-is b v
+  protection-event : (b : ℕ) (v : Bool) (c : Recorder) (s : Step) → ProtectionCommand g b v (c .conditions .setup) s → event g s c ≡ unprotected-is b v
   protection-event b true c (Write a w) x = rw (lt-ltb a 16777216 (x .0), x .1, x .2, x .3)
   protection-event b false c (Write a w) x = rw (lt-ltb a 16777216 (x .0), x .1, x .2, x .3)
   protection-event b v c (Read a) x = absurd x
@@ -145,20 +113,12 @@ module _ (g : Geometry) where
   protection-event b v c (Supply on) x = absurd x
   protection-event b v c Reset x = absurd x
 
-  why-protection : (d : Conditions) (s : Step) (b : ℕ) (v : Bool) → Why d s (unprotected-is b v) → ProtectionCommand b v (d .setup) s
+  why-protection : (d : Conditions) (s : Step) (b : ℕ) (v : Bool) → Why d s (unprotected-is b v) → ProtectionCommand g b v (d .setup) s
   why-protection d s b v (protection _ _ x) = x
   why-protection d s b v (quiet _ x) = absurd x
 
-  event-protection : (b : ℕ) (v : Bool) (c : Recorder) (s : Step) → event g s c ≡ unprotected-is b v → ProtectionCommand b v (c .conditions .setup) s
+  event-protection : (b : ℕ) (v : Bool) (c : Recorder) (s : Step) → event g s c ≡ unprotected-is b v → ProtectionCommand g b v (c .conditions .setup) s
   event-protection b v c s e = why-protection (c .conditions) s b v (subst (λ x. Why (c .conditions) s x) e (why-event c s))
-
-  abbrev pub operation-of : Entry Operation → Operation
-  operation-of (entry k u t) = k
-
-  -- entry n of the journal, counted from the oldest, which is entry 0, is of the operation k
-  abbrev pub Holds : Operation → ℕ → List (Entry Operation) → Type 0
-  Holds k n [] = ⊥
-  Holds k n (e ∷ j) = ((k ≡ operation-of e) × (length j ≡ n)) ⊎ Holds k n j
 
   -- k was accepted as entry n at one of the steps, with supply on and its block unprotected there; c is the recorder before the steps
   pub data Accepted (k : Operation) (n : ℕ) : Recorder → List Step → Type 0 where
@@ -169,36 +129,36 @@ module _ (g : Geometry) where
   length-map f [] = refl
   length-map f (e ∷ j) = ap suc (length-map f j)
 
-  holds-map : (k : Operation) (n : ℕ) (f : Entry Operation → Entry Operation) → ((e : Entry Operation) → operation-of (f e) ≡ operation-of e) → (j : List (Entry Operation)) → Holds k n (map f j) → Holds k n j
+  holds-map : (k : Operation) (n : ℕ) (f : Entry Operation → Entry Operation) → ((e : Entry Operation) → operation-of g (f e) ≡ operation-of g e) → (j : List (Entry Operation)) → Holds g k n (map f j) → Holds g k n j
   holds-map k n f h [] x = x
   holds-map k n f h (e ∷ j) (inl x) = inl (x .0 ∙ h e, sym (length-map f j) ∙ x .1)
   holds-map k n f h (e ∷ j) (inr x) = inr (holds-map k n f h j x)
 
-  operation-worked : (n : ℕ) (e : Entry Operation) → operation-of (worked (kinds g) n e) ≡ operation-of e
+  operation-worked : (n : ℕ) (e : Entry Operation) → operation-of g (worked (kinds g) n e) ≡ operation-of g e
   operation-worked n (entry k u running) = refl
   operation-worked n (entry k u suspended) = refl
   operation-worked n (entry k u finished) = refl
   operation-worked n (entry k u broken-off) = refl
 
-  operation-paused : (e : Entry Operation) → operation-of (paused e) ≡ operation-of e
+  operation-paused : (e : Entry Operation) → operation-of g (paused e) ≡ operation-of g e
   operation-paused (entry k u running) = refl
   operation-paused (entry k u suspended) = refl
   operation-paused (entry k u finished) = refl
   operation-paused (entry k u broken-off) = refl
 
-  operation-resumed : (p : Operation → Bool) (e : Entry Operation) → operation-of (resumed p e) ≡ operation-of e
+  operation-resumed : (p : Operation → Bool) (e : Entry Operation) → operation-of g (resumed p e) ≡ operation-of g e
   operation-resumed p (entry k u running) = refl
   operation-resumed p (entry k u suspended) = refl
   operation-resumed p (entry k u finished) = refl
   operation-resumed p (entry k u broken-off) = refl
 
-  operation-abandoned : (e : Entry Operation) → operation-of (abandoned e) ≡ operation-of e
+  operation-abandoned : (e : Entry Operation) → operation-of g (abandoned e) ≡ operation-of g e
   operation-abandoned (entry k u running) = refl
   operation-abandoned (entry k u suspended) = refl
   operation-abandoned (entry k u finished) = refl
   operation-abandoned (entry k u broken-off) = refl
 
-  holds-do : (k : Operation) (n : ℕ) (v : Event) (j : List (Entry Operation)) → Holds k n (journal-after g v j) → Holds k n j ⊎ ((v ≡ accept k) × (length j ≡ n))
+  holds-do : (k : Operation) (n : ℕ) (v : Event) (j : List (Entry Operation)) → Holds g k n (journal-after g v j) → Holds g k n j ⊎ ((v ≡ accept k) × (length j ≡ n))
   holds-do k n nothing j x = inl x
   holds-do k n (supplied b) j x = inl x
   holds-do k n was-reset j x = inl (holds-map k n abandoned operation-abandoned j x)
@@ -221,19 +181,19 @@ module _ (g : Geometry) where
       here c s l e z (w .0) (w .1) (w .2)
 
   -- every entry was accepted so
-  pub stands : (k : Operation) (n : ℕ) (l : List Step) (c : Recorder) → Holds k n ((recordedAll g c l) .journal) → Holds k n (c .journal) ⊎ Accepted k n c l
+  pub stands : (k : Operation) (n : ℕ) (l : List Step) (c : Recorder) → Holds g k n ((recordedAll g c l) .journal) → Holds g k n (c .journal) ⊎ Accepted k n c l
   stands k n [] c x = inl x
   stands k n (s ∷ l) c x = go (stands k n l (recorded g c s) x)
     where
-      go₂ : Holds k n (c .journal) ⊎ ((event g s c ≡ accept k) × (length (c .journal) ≡ n)) → Holds k n (c .journal) ⊎ Accepted k n c (s ∷ l)
+      go₂ : Holds g k n (c .journal) ⊎ ((event g s c ≡ accept k) × (length (c .journal) ≡ n)) → Holds g k n (c .journal) ⊎ Accepted k n c (s ∷ l)
       go₂ (inl y) = inl y
       go₂ (inr e) = inr (here-if k n c s l (e .0) (e .1))
 
-      go : Holds k n ((recorded g c s) .journal) ⊎ Accepted k n (recorded g c s) l → Holds k n (c .journal) ⊎ Accepted k n c (s ∷ l)
+      go : Holds g k n ((recorded g c s) .journal) ⊎ Accepted k n (recorded g c s) l → Holds g k n (c .journal) ⊎ Accepted k n c (s ∷ l)
       go (inr a) = inr (later c s l a)
       go (inl y) = go₂ (holds-do k n (event g s c) (c .journal) y)
 
-  pub stands₀ : (k : Operation) (n : ℕ) (l : List Step) → Holds k n ((recordedAll g beginning l) .journal) → Accepted k n beginning l
+  pub stands₀ : (k : Operation) (n : ℕ) (l : List Step) → Holds g k n ((recordedAll g beginning l) .journal) → Accepted k n beginning l
   stands₀ k n l x = go (stands k n l beginning x)
     where
       go : ⊥ ⊎ Accepted k n beginning l → Accepted k n beginning l
@@ -243,7 +203,7 @@ module _ (g : Geometry) where
   -- no step unprotects b; c is the recorder before them
   abbrev pub NeverUnprotected : ℕ → List Step → Recorder → Type 0
   NeverUnprotected b [] c = Unit {0}
-  NeverUnprotected b (s ∷ l) c = (ProtectionCommand b true (c .conditions .setup) s → ⊥) × NeverUnprotected b l (recorded g c s)
+  NeverUnprotected b (s ∷ l) c = (ProtectionCommand g b true (c .conditions .setup) s → ⊥) × NeverUnprotected b l (recorded g c s)
 
   stays-protected : (d : Conditions) (b c : ℕ) (o : Bool) → d .unprotected b ≡ false → (unprotected-is c o ≡ unprotected-is b true → ⊥) → (t : Bool) → eqb b c ≡ t → cond t o (d .unprotected b) ≡ false
   stays-protected d b c o h n false e = h
@@ -271,7 +231,7 @@ module _ (g : Geometry) where
   off w v true h = absurd (h refl)
   off w v false h = refl
 
-  free : (e : Entry Operation) (L w : ℕ) → (blockIn g (operation-of e) ≡ blockOf g L → ⊥) → reading g e L w ≡ w
+  free : (e : Entry Operation) (L w : ℕ) → (blockIn g (operation-of g e) ≡ blockOf g L → ⊥) → reading g e L w ≡ w
   free (entry (program l d) u finished) L w h = off w (bitAnd w d) (eqb L l) (λ e. h (ap (λ (i : ℕ). blockOf g i) (sym (eqb-true L l e))))
   free (entry (program l d) u running) L w h = refl
   free (entry (program l d) u suspended) L w h = refl
@@ -281,9 +241,9 @@ module _ (g : Geometry) where
   free (entry (erase b) u suspended) L w h = off w 65535 (eqb (blockOf g L) b && ltb (L - startOf g b) u) (λ e. h (sym (eqb-true (blockOf g L) b (and-true-l _ _ e))))
   free (entry (erase b) u broken-off) L w h = off w 65535 (eqb (blockOf g L) b && ltb (L - startOf g b) u) (λ e. h (sym (eqb-true (blockOf g L) b (and-true-l _ _ e))))
 
-  free-all : (j : List (Entry Operation)) (L w : ℕ) → ((k : Operation) (n : ℕ) → Holds k n j → blockIn g k ≡ blockOf g L → ⊥) → readings g j L w ≡ w
+  free-all : (j : List (Entry Operation)) (L w : ℕ) → ((k : Operation) (n : ℕ) → Holds g k n j → blockIn g k ≡ blockOf g L → ⊥) → readings g j L w ≡ w
   free-all [] L w h = refl
-  free-all (e ∷ j) L w h = free e L (readings g j L w) (h (operation-of e) (length j) (inl (refl, refl))) ∙ free-all j L w (λ k n x. h k n (inr x))
+  free-all (e ∷ j) L w h = free e L (readings g j L w) (h (operation-of g e) (length j) (inl (refl, refl))) ∙ free-all j L w (λ k n x. h k n (inr x))
 
   -- where no step unprotects its block, the journal leaves a word as it is
   never-read : (l : List Step) (L x : ℕ) → NeverUnprotected (blockOf g L) l beginning → readings g (journalOf g l) L x ≡ x
@@ -338,18 +298,6 @@ module _ (g : Geometry) where
   zero-to-one (entry (erase b) u t ∷ j) L w i h =
       eras-bit (within (startOf g b) u L) (After g j L w) w i (Reached j L) h (λ x. zero-to-one j L w i x)
 
-  -- ---- the last protection command for a block since power-up or the last reset
-
-  -- no step resets, and none is a protection command for b; c is the recorder before them
-  abbrev pub Undisturbed : ℕ → Recorder → List Step → Type 0
-  Undisturbed b c [] = Unit {0}
-  Undisturbed b c (s ∷ l) = (s ≡ Reset → ⊥) × ((v : Bool) → ProtectionCommand b v (c .conditions .setup) s → ⊥) × Undisturbed b (recorded g c s) l
-
-  -- one of the steps is a protection command that unprotects b, and none after it resets or is a protection command for b
-  pub data LastUnprotected (b : ℕ) : Recorder → List Step → Type 0 where
-    at-this : (c : Recorder) (s : Step) (l : List Step) → ProtectionCommand b true (c .conditions .setup) s → Undisturbed b (recorded g c s) l → LastUnprotected b c (s ∷ l)
-    at-later : (c : Recorder) (s : Step) (l : List Step) → LastUnprotected b (recorded g c s) l → LastUnprotected b c (s ∷ l)
-
   abbrev Touch : ℕ → Event → Conditions → Type 0
   Touch b v d = (v ≡ unprotected-is b true) ⊎ ((d .unprotected b ≡ true) × (v ≡ was-reset → ⊥) × ((o : Bool) → v ≡ unprotected-is b o → ⊥))
 
@@ -403,16 +351,16 @@ module _ (g : Geometry) where
   touch (accept k) d b h = inr (h, apart-tag _ _ (λ x. omega arith), λ o. apart-tag _ _ (λ x. omega arith))
 
   pub unprotected-since : (b : ℕ) (l : List Step) (c : Recorder) → (recordedAll g c l) .conditions .unprotected b ≡ true
-      → LastUnprotected b c l ⊎ ((c .conditions .unprotected b ≡ true) × Undisturbed b c l)
+      → LastUnprotected g b c l ⊎ ((c .conditions .unprotected b ≡ true) × Undisturbed g b c l)
   unprotected-since b [] c h = inr (h, tt)
   unprotected-since b (s ∷ l) c h = go (unprotected-since b l (recorded g c s) h)
     where
-      go₂ : Undisturbed b (recorded g c s) l → Touch b (event g s c) (c .conditions) → LastUnprotected b c (s ∷ l) ⊎ ((c .conditions .unprotected b ≡ true) × Undisturbed b c (s ∷ l))
+      go₂ : Undisturbed g b (recorded g c s) l → Touch b (event g s c) (c .conditions) → LastUnprotected g b c (s ∷ l) ⊎ ((c .conditions .unprotected b ≡ true) × Undisturbed g b c (s ∷ l))
       go₂ u (inl e) = inl (at-this c s l (event-protection b true c s e) u)
       go₂ u (inr t) = inr (t .0, ((λ e. t .1 (ap (λ (x : Step). event g x c) e)), (λ v x. t .2 v (protection-event b v c s x)), u))
 
-      go : LastUnprotected b (recorded g c s) l ⊎ (((recorded g c s) .conditions .unprotected b ≡ true) × Undisturbed b (recorded g c s) l)
-          → LastUnprotected b c (s ∷ l) ⊎ ((c .conditions .unprotected b ≡ true) × Undisturbed b c (s ∷ l))
+      go : LastUnprotected g b (recorded g c s) l ⊎ (((recorded g c s) .conditions .unprotected b ≡ true) × Undisturbed g b (recorded g c s) l)
+          → LastUnprotected g b c (s ∷ l) ⊎ ((c .conditions .unprotected b ≡ true) × Undisturbed g b c (s ∷ l))
       go (inl x) = inl (at-later c s l x)
       go (inr x) = go₂ (x .1) (touch (event g s c) (c .conditions) b (x .0))
 
@@ -492,21 +440,6 @@ module _ (g : Geometry) where
 
 -- ---- the theorems
 
--- "An entry stands only where, at its acceptance, supply was on and the last protection command for its block since power-up or reset had opened it.": entry n of
--- the journal, which is of the operation k, stands. The steps are those before its acceptance, the write that is its second cycle, and those after; when it came
--- the journal had n entries. Which set-up was pending at a step is the recorder's, who has it from the steps before alone
-pub record Stands (g : Geometry) (k : Operation) (n : ℕ) (l : List Step) : Type 0 where
-  pub before : List Step
-  pub address : ℕ
-  pub word : ℕ
-  pub later : List Step
-  pub whole : l ≡ before ++ (Write address word ∷ later)
-  pub second-cycle : SecondCycle g (recordedAll g beginning before .conditions .setup) address word k
-  pub accepts : event g (Write address word) (recordedAll g beginning before) ≡ accept k
-  pub place : length (recordedAll g beginning before .journal) ≡ n
-  pub supply-on : SupplyOn before
-  pub last-unprotected : LastUnprotected g (blockIn g k) beginning before
-
 -- every entry of the journal stands so
 pub every-entry-stands : (g : Geometry) (k : Operation) (n : ℕ) (l : List Step) → Holds g k n (journalOf g l) → Stands g k n l
 every-entry-stands g k n l h = go (split g k n beginning l (stands₀ g k n l h))
@@ -540,15 +473,6 @@ every-entry-stands g k n l h = go (split g k n beginning l (stands₀ g k n l h)
 
     go : Split g k n beginning l → Stands g k n l
     go r = by-step (r .step) r refl
-
--- what demand 3 says of the array ys that a list l of steps makes of power-up of the part p on the array xs
-pub record Demand3 (p : Part) (l : List Step) (xs ys : List ℕ) : Type 0 where
-  -- the array is as long as it was
-  pub length-same : length ys ≡ length xs
-  -- every word is the word at the start with the journal of the list applied in order of acceptance
-  pub word : (L : ℕ) → L < words (geometryOf p) → getD ys L 0 ≡ applied (geometryOf p) (journalOf (geometryOf p) l) L (getD xs L 0)
-  -- and every entry of the journal stands
-  pub stands : (k : Operation) (n : ℕ) → Holds (geometryOf p) k n (journalOf (geometryOf p) l) → Stands (geometryOf p) k n l
 
 -- DEMAND 3, as one claim: for every part p, every list l of the five steps, refused ones included, and every array xs of the part's length
 pub demand-3-whole : (p : Part) (l : List Step) (xs : List ℕ) → length xs ≡ words (geometryOf p) → Demand3 p l xs (afterAll (fresh p xs) l .array)
