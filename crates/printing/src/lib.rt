@@ -1,4 +1,4 @@
-// The text that the script program prints (document 01, "The script program"), written into lent room.
+// The text that the script program prints (document 01, "The script program"), written into borrowed room.
 // Each function puts its bytes at a place and gives the next place. It takes every number: what does not fit the room is dropped.
 use semantics::Answer;
 ghost use mathlib.Core.Path.{_≡_};
