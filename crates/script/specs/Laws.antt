@@ -19,7 +19,7 @@ use Rattle.semantics.specs.Steps.{stateRefusal, firstRefusal, refusalOf, next, 
 use Rattle.semantics.specs.Invariant.{state-good}
 use Rattle.semantics.specs.Demand.{Demand3}
 use Rattle.semantics.specs.Standing.{demand-3-whole}
-use Rattle.semantics.specs.Consequences.{Good, reached-good}
+use Rattle.semantics.specs.Progress.{Good, reached-good}
 use Rattle.device.specs.declared.Device.{Device}
 use Rattle.device.specs.declared.Outcome.{Outcome}
 use Rattle.device.specs.Outcomes.{holding, outcome, arrayOut}
