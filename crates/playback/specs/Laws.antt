@@ -2,13 +2,17 @@
 use Prim.Native.Nat.{ℕ, zero, suc, _≤_, _<_}
 use mathlib.Core.List.{List, [], _∷_, _++_}
 use mathlib.Core.Path.{_≡_, refl, sym, ap, _∙_, subst, subst₂}
+use mathlib.Core.Bool.{cond}
 use native.Mathlib.Omega.{arith}
+use lib.Dec.{eqb}
 use lib.ListN.{length, getD, take, set, length-set}
 use lib.Seq.{take-length}
+use borrow.Author.Tests.{eq-eqb, ne-eqb}
 use Rattle.semantics.specs.declared.State.{State}
 use Rattle.semantics.specs.declared.Next.{Next}
 use Rattle.semantics.specs.declared.Step.{Step}
 use Rattle.semantics.specs.declared.Answer.{Answer}
+use Rattle.semantics.specs.declared.Answer.the-variants.{Done, Refused}
 use Rattle.semantics.specs.declared.Decoded.{Decoded}
 use Rattle.semantics.specs.declared.Decoded.the-variants.{Valid, Invalid}
 use Rattle.semantics.specs.Steps.{stepOf, Machine, after, afterAll, answersOf, fresh}
@@ -165,3 +169,14 @@ going-next c s₀ codes room xs i s answers array x t a ys g p q e f = record {
   room-long = length-set answers i (answerCode a) ∙ g .room-long;
   array-long = ap length (f .1) ∙ length-kept s array x ∙ g .array-long;
 }
+
+-- ---- the answer of a step, before its kind is looked at: that of a refused one, or of one that is done
+
+abbrev pub refusedOrDone : ℕ → Answer
+refusedOrDone e = cond (eqb e 0) Done (Refused e)
+
+pub is-refused : (e : ℕ) (a b : Answer) → (e ≡ 0 → ⊥) → b ≡ refusedOrDone e → a ≡ b → a ≡ Refused e
+is-refused e a b h f k = k ∙ f ∙ rw (ne-eqb e 0 h)
+
+pub is-done : (e : ℕ) (a b : Answer) → e ≡ 0 → b ≡ refusedOrDone e → a ≡ b → a ≡ Done
+is-done e a b h f k = k ∙ f ∙ rw (eq-eqb e 0 h)

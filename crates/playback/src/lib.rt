@@ -5,9 +5,11 @@ use semantics::Bank;
 use semantics::Decoded;
 use semantics::State;
 use semantics::Step;
+use semantics::View;
 ghost use mathlib.Core.Path.{_≡_};
 ghost use Rattle.semantics.specs.Encoding.{decode};
 ghost use Rattle.playback.specs.Playback.{answerCode, Played};
+ghost use Rattle.playback.specs.Laws.{refusedOrDone};
 
 // How many steps were played, and the device after them.
 pub struct RunEnd {
@@ -61,6 +63,24 @@ pub fn answer_code(a: Answer) -> u64
     }
 }
 
+// The answer of a step that is refused with a number, or, where that is 0, of one that is done.
+fn refused_or_done(e: u32) -> Answer
+    ensures { λ r. ⌜ r ≡ refusedOrDone e ⌝ }
+{
+    if e == 0 {
+        return Answer::Done;
+    }
+    Answer::Refused(e)
+}
+
+// The addressed bank, as a view has it.
+fn bank_in(v: View) -> Bank
+    ensures { λ r. ⌜ r ≡ record { mode = v .mode } ⌝ }
+{
+    let mode = v.mode;
+    Bank { mode }
+}
+
 // The end of a list.
 fn ended(played: usize, state: State) -> RunEnd
     ensures { λ r. ⌜ r ≡ record { played = played; device = record { state = state } } ⌝ }
@@ -87,25 +107,20 @@ pub fn run(device: Device, steps: &[u64], answers: &mut [u64], array: &mut [u16]
         };
         let part = s.part;
         let e = state::first_refusal(refused, state::step_refusal(part, x));
-        let mut answer = Answer::Done;
-        if e != 0 {
-            answer = Answer::Refused(e);
-        } else {
+        let mut answer = refused_or_done(e);
+        if e == 0 {
             match x {
                 Step::Read(address) => answer = Answer::Word(reading::read_word(s, array, address)),
                 Step::Write(address, word) => {
                     let p = state::place_of(part, address);
                     let v = writing::view_after(s, p, word);
                     let control = v.control;
-                    let mode = v.mode;
-                    let bank = p.bank;
                     s.control = control;
-                    s.banks[bank as usize] = Bank { mode };
+                    s.banks[p.bank as usize] = bank_in(v);
                     protection::set_block(&mut s.unprotected, p.block, v.unprotected);
                 }
                 Step::Work(count) => {
-                    let c = s.control;
-                    let o = working::work(part, c, array, count);
+                    let o = working::work(part, s.control, array, count);
                     let after = o.control;
                     s.control = after;
                     answer = Answer::Units(o.units);

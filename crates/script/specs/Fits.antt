@@ -79,7 +79,7 @@ accepted-short : (s : State) (xs : List ℕ) (x : Step) → refusalOf s (length 
 unfolding accepted unitsDone
 accepted-short s xs (Read address) h = word-short (readWord s xs address)
 accepted-short s xs (Write address w) h = done-short
-accepted-short s xs (Work n) h = units-short (unitsDone (geometry s) (s .activity .running) n) (omega (arith, count-short s n (length xs) h))
+accepted-short s xs (Work n) h = units-short (unitsDone (geometry s) (s .control .activity .running) n) (omega (arith, count-short s n (length xs) h))
 accepted-short s xs (Supply on) h = done-short
 accepted-short s xs Reset h = done-short
 

@@ -16,6 +16,7 @@ use Rattle.semantics.specs.declared.Step.{Step}
 use Rattle.semantics.specs.declared.Step.the-variants.{Read, Write, Work, Supply, Reset}
 use Rattle.semantics.specs.declared.Answer.{Answer}
 use Rattle.semantics.specs.declared.Answer.the-variants.{Word, Units, Done, Refused}
+use Rattle.semantics.specs.declared.Bank.{Bank}
 use Rattle.semantics.specs.declared.Place.{Place}
 use Rattle.semantics.specs.declared.View.{View}
 use Rattle.semantics.specs.declared.Worked.{Worked}
@@ -88,13 +89,12 @@ module _ (c : ℕ) (s : State) (xs : List ℕ) (r : Held c s xs) (x : Step) (d e
   unfolding accepted acceptedArray
   does-read b w h q i j k l = done (Read b) h q (rw (j, k, i)) l
 
-  -- the view that is put back field by field
-  pub does-write : (b w : ℕ) (p : Place) (v : View) (u : List ℕ) → e ≡ 0 → x ≡ Write b w → p ≡ placeOf (geometry s) b → v ≡ cycle (viewAt s p) (s .control .activity .setup) p w
-      → u ≡ withUnprotected (s .unprotected) (p .block) (v .unprotected)
-      → t ≡ record { part = s .part; banks = set (s .banks) (p .bank) (record { mode = v .mode }); unprotected = u; control = v .control }
-      → a ≡ Done → ys ≡ xs → Does s xs x t a ys
+  -- the view that is put back field by field: k is the bank with its mode, u the protection words with its protection
+  pub does-write : (b w : ℕ) (p : Place) (v : View) (k : Bank) (u : List ℕ) → e ≡ 0 → x ≡ Write b w → p ≡ placeOf (geometry s) b → v ≡ cycle (viewAt s p) (s .control .activity .setup) p w
+      → k ≡ record { mode = v .mode } → u ≡ withUnprotected (s .unprotected) (p .block) (v .unprotected)
+      → t ≡ record { part = s .part; banks = set (s .banks) (p .bank) k; unprotected = u; control = v .control } → a ≡ Done → ys ≡ xs → Does s xs x t a ys
   unfolding accepted acceptedArray written writtenAt
-  does-write b w p v u h q i j k l m n = done (Write b w) h q (rw (l, k, j, i, m)) n
+  does-write b w p v k u h q i j m n l o r = done (Write b w) h q (rw (l, n, m, j, i, o)) r
 
   pub does-work : (n : ℕ) (o : Worked) → e ≡ 0 → x ≡ Work n → o ≡ workedOn (geometry s) (s .control) n → t ≡ withControl s (o .control) → a ≡ Units (o .units)
       → ys ≡ arrayAfter (geometry s) (s .control .activity .running) (unitsDone (geometry s) (s .control .activity .running) n) xs → Does s xs x t a ys

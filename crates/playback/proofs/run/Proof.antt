@@ -8,7 +8,7 @@ use native.Mathlib.Numerals.{add-one}
 use borrow.Author.Needs.{needs}
 use lib.ListN.{length}
 use Rattle.semantics.specs.Held.{does-refused, does-read, does-write, does-work, does-supply, does-reset}
-use Rattle.playback.specs.Laws.{Going, going-none, going-next, sofar-end}
+use Rattle.playback.specs.Laws.{Going, going-none, going-next, sofar-end, is-refused, is-done}
 use Rattle.playback.proofs.Fits.{five, sixteen}
 use Rattle.playback.proofs.run.Statement.{statement}
 use Rattle.playback.proofs.run.Tie as tie
@@ -30,18 +30,19 @@ returns c = rw (c .ended .ensures) (sofar-end _ _ _ _ _ _ _ _ (c .before .before
 
 loop-again : tie.Need-loop-again Inv-loop μ-loop
 loop-again c =
-    let l = c .before .before .before .before .before .before .before .before .before .before .loop in
+    let l = c .before .before .before .before .before .before .before .before .before .before .before .loop in
     let g = l .inv .0 in
-    let d = c .before .before .before .step-refusal .ensures in
-    let e = c .before .before .first-refusal .ensures in (
+    let d = c .before .before .before .before .step-refusal .ensures in
+    let e = c .before .before .before .first-refusal .ensures in
+    let f = c .before .before .refused-or-done .ensures in (
       rw (add-one, c .answer-code .ensures)
-          (going-next _ _ _ _ _ _ _ _ _ _ _ _ _ g (omega arith) (omega arith) (sym (c .before .before .before .before .before .before .before .decoded .ensures) ∙ c .before .before .before .before .before .x .given .1)
-          (⊎-elim (λ w. does-refused _ _ _ (g .held) _ _ _ d e _ _ _ (w .0 .taken) (w .2) (w .3) (w .1))
-          (⊎-elim (λ w. does-read _ _ _ (g .held) _ _ _ d e _ _ _ _ _ (w .0 .left) (w .2 .given .1) (w .5 .ensures) (w .7) (w .8) (w .6))
-          (⊎-elim (λ w. does-write _ _ _ (g .held) _ _ _ d e _ _ _ _ _ _ _ _ (w .0 .left) (w .2 .given .1) (w .4 .ensures .0) (w .5 .ensures) (w .8 .ensures) (w .10) (w .11) (w .9))
-          (⊎-elim (λ w. does-work _ _ _ (g .held) _ _ _ d e _ _ _ _ _ (w .0 .left) (w .2 .given .1) (w .6 .ensures .0) (w .11) (w .12) (w .10 ∙ w .6 .ensures .1))
-          (⊎-elim (λ w. does-supply _ _ _ (g .held) _ _ _ d e _ _ _ _ (w .0 .left) (w .2 .given .1) (w .6) (w .7) (w .5))
-          (λ w. does-reset _ _ _ (g .held) _ _ _ d e _ _ _ (w .0 .left) (w .2 .given .1) (w .5 ∙ w .3 .ensures) (w .6) (w .4)))))) (c .before .if1 .came))),
+          (going-next _ _ _ _ _ _ _ _ _ _ _ _ _ g (omega arith) (omega arith) (sym (c .before .before .before .before .before .before .before .before .decoded .ensures) ∙ c .before .before .before .before .before .before .x .given .1)
+          (⊎-elim (λ w. does-read _ _ _ (g .held) _ _ _ d e _ _ _ _ _ (w .0 .taken) (w .2 .given .1) (w .5 .ensures) (w .7) (w .8) (w .6))
+          (⊎-elim (λ w. does-write _ _ _ (g .held) _ _ _ d e _ _ _ _ _ _ _ _ _ (w .0 .taken) (w .2 .given .1) (w .4 .ensures .0) (w .5 .ensures) (w .7 .ensures) (w .10 .ensures) (w .12) (is-done _ _ _ (w .0 .taken) f (w .13)) (w .11))
+          (⊎-elim (λ w. does-work _ _ _ (g .held) _ _ _ d e _ _ _ _ _ (w .0 .taken) (w .2 .given .1) (w .6 .ensures .0) (w .11) (w .12) (w .10 ∙ w .6 .ensures .1))
+          (⊎-elim (λ w. does-supply _ _ _ (g .held) _ _ _ d e _ _ _ _ (w .0 .taken) (w .2 .given .1) (w .6) (is-done _ _ _ (w .0 .taken) f (w .7)) (w .5))
+          (⊎-elim (λ w. does-reset _ _ _ (g .held) _ _ _ d e _ _ _ (w .0 .taken) (w .2 .given .1) (w .5 ∙ w .3 .ensures) (is-done _ _ _ (w .0 .taken) f (w .6)) (w .4))
+          (λ w. does-refused _ _ _ (g .held) _ _ _ d e _ _ _ (w .0 .left) (w .2) (is-refused _ _ _ (w .0 .left) f (w .3)) (w .1)))))) (c .before .if1 .came))),
       l .inv .1,
     )
 
@@ -68,9 +69,11 @@ run-spec =
     returns
     (λ c κs. search needs)
     (λ c κs. search needs)
+    (λ c κs. search needs)
     (λ c. search needs)
     (λ c κs. search needs)
     (λ c. search needs)
+    (λ c κs. search needs)
     (λ c κs. search needs)
     (λ c κs. search needs)
     (λ c. search needs)
