@@ -1,2 +1,2 @@
 -- The modules of the proofs by hand.
-pub mod Again
+pub mod Reborrow
