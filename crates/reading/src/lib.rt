@@ -11,8 +11,7 @@ ghost use mathlib.Core.Path.{_≡_};
 ghost use Prim.Native.Nat.{_≤_};
 ghost use lib.ListN.{getD};
 ghost use Rattle.geometry.specs.Blocks.{geometryOf};
-ghost use Rattle.semantics.specs.Reading.{bitIf, statusWord, deviceCode, signatureWord, queryWord, readWord};
-ghost use Rattle.reading.specs.Shown.{shown};
+ghost use Rattle.semantics.specs.Reading.{bitIf, statusWord, deviceCode, signatureWord, queryWord, shown, readWord};
 
 // `n` where `on` holds, and else 0. The bound is what a sum of them asks.
 fn bit_if(on: bool, n: u16) -> u16
@@ -95,7 +94,7 @@ fn word_at(array: &[u16], location: u32) -> u16
 
 // The mode that decides what a read shows: array mode shows the status word while an operation runs in the bank.
 fn shown(part: Part, mode: Mode, running: Running, bank: u32) -> Mode
-    ensures { λ r. ⌜ r ≡ shown (geometryOf part) mode running bank ⌝ }
+    ensures { λ r. ⌜ r ≡ shown (geometryOf part) running bank mode ⌝ }
 {
     match mode {
         Mode::Array => {

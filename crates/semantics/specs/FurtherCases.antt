@@ -6,7 +6,7 @@ use Rattle.geometry.specs.Blocks.{mirror, blockFrom, blockOf, bankOf, sizeOf, s
 use Rattle.protection.specs.Words.{bit, bitAt, isUnprotected, withUnprotected, spareZero, allProtected, count, least, unprotectedCount, lowestUnprotected, reportOf}
 use Rattle.semantics.specs.State.{powerUp}
 use Rattle.semantics.specs.WellFormed.{runningAlone, programAlone, eraseAlone, eraseFits, runningFits, programFits, suspendedEraseFits, allFit, runningApart, programApart, apart, activityFormed, wellFormed}
-use Rattle.semantics.specs.Reading.{runsIn, statusWord, signatureWord, queryWord, readIn, readAt, readWord}
+use Rattle.semantics.specs.Reading.{runsIn, statusWord, signatureWord, queryWord, shown, showsBy, readIn, readWord}
 use Rattle.semantics.specs.Writing.{commandOf, resume, accepts, setUp, clearStatus, firstCycle, programCycle, eraseCycle, lockCommandOf, lockCycle, settle, cycle, writtenAt, written}
 use Rattle.semantics.specs.Working.{unitsLeft, unitsDone, runningAfter, wordAfter, tabulate, arrayAfter, workedOn, worked, workedArray}
 use Rattle.semantics.specs.Steps.{locationRefusal, addressRefusal, countRefusal, stepRefusal, stateRefusal, firstRefusal, refusalOf, accepted, acceptedArray, stepOf, arrayOf, reportedOf}
@@ -17,5 +17,5 @@ use Rattle.semantics.specs.OperationCases.{operationCases}
 use Rattle.semantics.specs.RefusalCases.{refusalCases}
 
 pub further-hold : T (every readingCases) × T (every writingCases) × T (every operationCases) × T (every refusalCases)
-unfolding mirror blockFrom blockOf bankOf sizeOf startFrom startOf bankStart blockOffset bankOffset bankOfBlock lookupOf bit bitAt isUnprotected withUnprotected spareZero allProtected count least unprotectedCount lowestUnprotected reportOf powerUp runningAlone programAlone eraseAlone eraseFits runningFits programFits suspendedEraseFits allFit runningApart programApart apart activityFormed wellFormed runsIn statusWord signatureWord queryWord readIn readAt readWord commandOf resume accepts setUp clearStatus firstCycle programCycle eraseCycle lockCommandOf lockCycle settle cycle writtenAt written unitsLeft unitsDone runningAfter wordAfter tabulate arrayAfter workedOn worked workedArray locationRefusal addressRefusal countRefusal stepRefusal stateRefusal firstRefusal refusalOf accepted acceptedArray stepOf arrayOf reportedOf
+unfolding mirror blockFrom blockOf bankOf sizeOf startFrom startOf bankStart blockOffset bankOffset bankOfBlock lookupOf bit bitAt isUnprotected withUnprotected spareZero allProtected count least unprotectedCount lowestUnprotected reportOf powerUp runningAlone programAlone eraseAlone eraseFits runningFits programFits suspendedEraseFits allFit runningApart programApart apart activityFormed wellFormed runsIn statusWord signatureWord queryWord shown showsBy readIn readWord commandOf resume accepts setUp clearStatus firstCycle programCycle eraseCycle lockCommandOf lockCycle settle cycle writtenAt written unitsLeft unitsDone runningAfter wordAfter tabulate arrayAfter workedOn worked workedArray locationRefusal addressRefusal countRefusal stepRefusal stateRefusal firstRefusal refusalOf accepted acceptedArray stepOf arrayOf reportedOf
 further-hold = (tt, tt, tt, tt)

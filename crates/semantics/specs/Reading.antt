@@ -61,17 +61,25 @@ signatureWord g v l =
 unfoldable pub queryWord : ℕ → ℕ
 queryWord o = cond (eqb o 0x10) 0x51 (cond (eqb o 0x11) 0x52 (cond (eqb o 0x12) 0x59 0))
 
--- "By the mode of the bank: array, the word at the location, but the status word while an operation runs in that bank; status, the
--- status word; signature ..; query .."
-unfoldable pub readIn : Geometry → View → List ℕ → Mode → Place → ℕ
-readIn g v xs Array p = cond (runsIn g (v .control .activity .running) (p .bank)) (statusWord g (v .control .activity) (v .control .flags) (p .bank)) (getD xs (p .location) 0)
-readIn g v xs Status p = statusWord g (v .control .activity) (v .control .flags) (p .bank)
-readIn g v xs Signature p = signatureWord g v (p .location)
-readIn g v xs Query p = queryWord (bankOffset g (p .location))
+-- "By the mode of the bank: array, the word at the location, but the status word while an operation runs in that bank; status, the status word; signature ..;
+-- query ..". The mode that decides what is shown: array mode shows what status mode does while an operation runs in the bank
+unfoldable pub shown : Geometry → Running → ℕ → Mode → Mode
+shown g r k Array = cond (runsIn g r k) Status Array
+shown g r k Status = Status
+shown g r k Signature = Signature
+shown g r k Query = Query
 
--- the word that a read at an address shows
-unfoldable pub readAt : State → List ℕ → Place → ℕ
-readAt s xs p = readIn (geometry s) (viewAt s p) xs (viewAt s p .mode) p
+-- and what that mode shows
+unfoldable pub showsBy : Geometry → View → List ℕ → Place → Mode → ℕ
+showsBy g v xs p Array = getD xs (p .location) 0
+showsBy g v xs p Status = statusWord g (v .control .activity) (v .control .flags) (p .bank)
+showsBy g v xs p Signature = signatureWord g v (p .location)
+showsBy g v xs p Query = queryWord (bankOffset g (p .location))
 
+-- the word that a read at a place shows
+unfoldable pub readIn : Geometry → View → List ℕ → Place → ℕ
+readIn g v xs p = showsBy g v xs p (shown g (v .control .activity .running) (p .bank) (v .mode))
+
+-- and at an address
 unfoldable pub readWord : State → List ℕ → ℕ → ℕ
-readWord s xs address = readAt s xs (placeOf (geometry s) address)
+readWord s xs address = readIn (geometry s) (viewAt s (placeOf (geometry s) address)) xs (placeOf (geometry s) address)
