@@ -7,6 +7,8 @@
 use libc::STDERR_FILENO;
 use libc::STDIN_FILENO;
 use libc::STDOUT_FILENO;
+ghost use Prim.Native.Nat.{_≤_};
+ghost use lib.ListN.{length};
 ghost use Rattle.io.specs.Counts.{Counts};
 
 // How many bytes of the input there are, and whether a read failed.
@@ -72,16 +74,11 @@ fn warn(text: &[u8]) {
 }
 
 // Writes the first bytes of the room.
-fn print(room: &[u8], end: usize) {
-    if end <= room.len() {
-        if !io::write_all(STDOUT_FILENO, &room[..end]) {
-            os::fail(b"play: the transcript is not whole: standard output");
-        }
-    } else {
-        io::write_all(
-            STDERR_FILENO,
-            b"play: the transcript is not printed: it does not fit its room\n",
-        );
+fn print(room: &[u8], end: usize)
+    requires { ⌜ end ≤ length (now room) ⌝ }
+{
+    if !io::write_all(STDOUT_FILENO, &room[..end]) {
+        os::fail(b"play: the transcript is not whole: standard output");
     }
 }
 

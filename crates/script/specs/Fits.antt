@@ -138,10 +138,12 @@ transcribed t xs room script p array after next after′ h e q w =
     let fits : length (transcriptOf xs t) ≤ length room = omega (arith, transcript-fits xs t) in
     let put : Put room 0 (transcriptOf xs t) after′ next = ended t xs room script p array after e q next after′ w in
     let same : array ≡ machineAtEnd xs t .array = array-at-end t xs room script p array after e q in
+    let size : length after′ ≡ length room = ap length (put .room) ∙ placed-length room 0 (transcriptOf xs t) in
     record {
       written = put-whole put fits;
       length-is = put-counted put fits;
-      size = ap length (put .room) ∙ placed-length room 0 (transcriptOf xs t);
+      size = size;
+      within = omega (arith, put-counted put fits, size, fits);
       array-is = same;
       journal = λ n. subst (λ (ys : List ℕ). Demand3 BenchBottom (stepsOfScript t) xs ys) (sym same) (journaled xs t n);
     }

@@ -1,7 +1,7 @@
 -- A script played whole and its transcript: document 01, "The script program". A text is the list of its bytes. Definitions only; the laws are in
 -- Lines and Laws.
 -- Assumes nothing.
-use Prim.Native.Nat.{ℕ, suc}
+use Prim.Native.Nat.{ℕ, suc, _≤_}
 use mathlib.Core.Bool.{cond}
 use mathlib.Core.List.{List, [], _∷_, _++_}
 use mathlib.Core.Path.{_≡_}
@@ -113,6 +113,8 @@ pub record Transcribed (text xs room : List ℕ) (next : ℕ) (array after : Lis
   pub written : after ≡ transcriptOf xs text ++ drop (length (transcriptOf xs text)) room
   pub length-is : next ≡ length (transcriptOf xs text)
   pub size : length after ≡ length room
+  -- so it lies in the room
+  pub within : next ≤ length after
   pub array-is : array ≡ machineAtEnd xs text .array
   -- DEMAND 3, on an array of the part's length: its length, every word, and every entry of the journal of the script's steps
   pub journal : length xs ≡ words (geometryOf BenchBottom) → Demand3 BenchBottom (stepsOfScript text) xs array
