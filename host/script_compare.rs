@@ -366,6 +366,9 @@ fn examples(compare: &mut Compare, folder: &str) -> u64 {
         .filter_map(|f| f.ok().map(|f| f.path()))
         .filter(|p| p.extension().is_some_and(|e| e == "script"))
         .collect();
+    if names.is_empty() {
+        fail(&format!("{folder} has no script"));
+    }
     names.sort();
     for path in &names {
         let input = std::fs::read(path).unwrap_or_else(|e| fail(&e.to_string()));

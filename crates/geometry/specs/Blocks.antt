@@ -11,7 +11,7 @@ use Rattle.geometry.specs.declared.Part.the-variants.{FullBottom, FullTo
 use Rattle.geometry.specs.declared.Geometry.{Geometry}
 use Rattle.geometry.specs.declared.Lookup.{Lookup}
 
--- "The full parts have u = 65,536. Two bench parts, top and bottom, have u = 64."
+-- "The full parts have u = 65,536. Two bench parts (H), top and bottom, have u = 64, so that a program can hold one."
 abbrev pub geometryOf : Part → Geometry
 geometryOf FullBottom = record { unit = 65536; smalls = 4; places = 256; group = 16; top = false }
 geometryOf FullTop = record { unit = 65536; smalls = 4; places = 256; group = 16; top = true }

@@ -40,7 +40,7 @@ decimalNumber = number 10
 
 -- ---- the forms
 
--- a letter and a "single space"
+-- a letter and a space: "single spaces"
 unfoldable pub begins : List ℕ → ℕ → Bool
 begins xs letter = eqb (getD xs 0 0) letter && eqb (getD xs 1 0) 32
 

@@ -92,8 +92,8 @@ fn ended(played: usize, state: State) -> RunEnd
 }
 
 // Plays the steps that the numbers encode, one after the other, and writes the answer of each into its place of the room; stops at the first number that
-// encodes no step, and where the room ends. A list goes on with the device that is given back. What is refused whatever the step is, is tested once; the state stands once, and is changed where it stands: what a write makes
-// of its view is put back field by field.
+// encodes no step, and where the room ends. A list goes on with the device that is given back. What is refused whatever the step is, is tested once; the
+// state stands once, and is changed where it stands: what a write makes of its view is put back field by field.
 pub fn run(device: Device, steps: &[u64], answers: &mut [u64], array: &mut [u16]) -> RunEnd
     ensures { λ r. ⌜ Played device (now (steps .entry)) (now (answers .entry)) (now (array .entry)) r (now (answers .exit)) (now (array .exit)) ⌝ }
 {

@@ -73,7 +73,7 @@ module _ (g : Geometry) where
 
 -- "An entry stands only where, at its acceptance, supply was on and the last protection command for its block since power-up or reset had opened it.": entry n of
 -- the journal, which is of the operation k, stands. The steps are those before its acceptance, the write that is its second cycle, and those after; when it came
--- the journal had n entries. Which set-up was pending at a step is the recorder's, who has it from the steps before alone
+-- the journal had n entries. Which set-up was pending at a step is the recorder's, which has it from the steps before alone
 pub record Stands (g : Geometry) (k : Operation) (n : ℕ) (l : List Step) : Type 0 where
   pub before : List Step
   pub address : ℕ

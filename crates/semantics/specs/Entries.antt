@@ -1,16 +1,16 @@
 -- A journal of operations on numbered words, latest entry first, and the words that it makes of the words at the start. Nothing here knows
 -- of commands, blocks or chips: an operation is a run of words, and a rule for each of them. First the definitions, then the laws.
 -- Assumes nothing.
-use mathlib.Core.Path.{_≡_, refl, sym, ap, _∙_}
+use mathlib.Core.Path.{_≡_, refl, ap, _∙_}
 use mathlib.Core.List.{List, [], _∷_, map}
-use mathlib.Core.Bool.{Bool, true, false, cond, _&&_, _||_}
+use mathlib.Core.Bool.{Bool, true, false, cond, _||_}
 use Prim.Native.Nat.{ℕ, zero, suc, _+_, _-_, _≤_, _<_, min}
 use native.Mathlib.Omega.{arith}
-use lib.Dec.{ltb, leb, eqb}
+use lib.Dec.{leb, eqb}
 use borrow.Author.Tests.{leb-true, leb-false, eq-eqb, ne-eqb}
 use Rattle.semantics.specs.Numbers.{within, within-in, within-out, within-true, within-false}
 
--- how an entry stands
+-- "whether it is running, suspended, finished or broken off"
 pub data Phase : Type 0 where
   running suspended finished broken-off : Phase
 

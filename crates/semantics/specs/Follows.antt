@@ -235,7 +235,7 @@ module _ (c : ℕ) where
 
 -- ---- each step is an event
 
--- the event of a step, by the recorder's rule on the device as he would see it
+-- the event of a step, by the recorder's rule on the device as it would see it
 abbrev pub eventOf : Geometry → State → Step → Event
 eventOf g s x = rule g (conditions s) (busy (underWay (s .control .activity))) (held? (underWay (s .control .activity))) x
 

@@ -61,7 +61,7 @@ signatureWord g v l =
 unfoldable pub queryWord : ℕ → ℕ
 queryWord o = cond (eqb o 0x10) 0x51 (cond (eqb o 0x11) 0x52 (cond (eqb o 0x12) 0x59 0))
 
--- "By the mode of the bank: array, the word at the location, but the status word while an operation runs in that bank; status, the status word; signature ..;
+-- "By the mode of the bank: array, the word at the location, but the status word while an operation runs in that bank (H); status, the status word; signature ..;
 -- query ..". The mode that decides what is shown: array mode shows what status mode does while an operation runs in the bank
 unfoldable pub shown : Geometry → Running → ℕ → Mode → Mode
 shown g r k Array = cond (runsIn g r k) Status Array

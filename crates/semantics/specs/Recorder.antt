@@ -9,7 +9,7 @@ use Prim.Native.Nat.{ℕ, _-_, _%_}
 use lib.Dec.{ltb, leb, eqb}
 use lib.Bits.{bitAnd}
 use Rattle.geometry.specs.declared.Geometry.{Geometry}
-use Rattle.geometry.specs.Blocks.{words, location, blockOf, startOf, sizeOf}
+use Rattle.geometry.specs.Blocks.{location, blockOf, startOf, sizeOf}
 use Rattle.semantics.specs.declared.Step.{Step}
 use Rattle.semantics.specs.declared.Step.the-variants.{Read, Write, Work, Supply, Reset}
 use Rattle.semantics.specs.Entries.{Entry, entry, running, suspended, finished, broken-off, Kinds, worked, paused, resumed, abandoned, anyRuns, anySuspended}

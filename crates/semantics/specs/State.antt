@@ -1,7 +1,7 @@
 -- What a device holds, and the states that differ from another in one field: document 01, "What a device holds".
 -- Assumes nothing.
 use Prim.Native.Nat.{ℕ}
-use mathlib.Core.Bool.{Bool, true, false, cond, _||_}
+use mathlib.Core.Bool.{Bool, true, false, _||_}
 use mathlib.Core.List.{List}
 use lib.ListN.{getD, replicate}
 use Rattle.geometry.specs.declared.Part.{Part}
@@ -9,7 +9,7 @@ use Rattle.geometry.specs.declared.Geometry.{Geometry}
 use Rattle.geometry.specs.Blocks.{geometryOf}
 use Rattle.protection.specs.Words.{allProtected}
 use Rattle.semantics.specs.declared.Mode.{Mode}
-use Rattle.semantics.specs.declared.Mode.the-variants.{Array, Status, Signature, Query}
+use Rattle.semantics.specs.declared.Mode.the-variants.{Array}
 use Rattle.semantics.specs.declared.Bank.{Bank}
 use Rattle.semantics.specs.declared.Setup.{Setup}
 use Rattle.semantics.specs.declared.Setup.the-variants as setup
@@ -28,7 +28,7 @@ use Rattle.semantics.specs.declared.State.{State}
 abbrev pub geometry : State → Geometry
 geometry s = geometryOf (s .part)
 
--- ---- one field changed. antt has no update of a record, so that each is written out here once
+-- ---- one field changed
 
 abbrev pub setActivity : Control → Activity → Control
 setActivity c x = record { activity = x; flags = c .flags; configuration = c .configuration; supply = c .supply }

@@ -100,14 +100,14 @@ module _ (g : Geometry) (sound : Sound g) where
 
 -- ---- the theorem
 
--- a machine that agrees with a recorder has the words of his journal
+-- a machine that agrees with a recorder has the words of its journal
 pub agree-words : (p : Part) (xs₀ : List ℕ) (m : Machine) (c : Recorder) → Agree p xs₀ m c → (L : ℕ) → L < words (geometryOf p)
     → getD (m .array) L 0 ≡ applied (geometryOf p) (c .journal) L (getD xs₀ L 0)
 agree-words p xs₀ m c a L h =
     a .word L h ∙ sym (readings-after (geometryOf p) (laws.sound p) _ _ (c .journal) (a .sim .match) L (getD xs₀ L 0) h)
     ∙ sym (readings-applied (geometryOf p) (laws.sound p) (c .journal) L (getD xs₀ L 0))
 
--- what is reached from power-up by a list of steps agrees with the recorder who was told of them
+-- what is reached from power-up by a list of steps agrees with the recorder that was told of them
 pub reached : (p : Part) (l : List Step) (xs : List ℕ) → length xs ≡ words (geometryOf p) → Agree p xs (afterAll (fresh p xs) l) (recordedAll (geometryOf p) beginning l)
 reached p l xs h = agree-all p xs l (fresh p xs) beginning (agree-fresh p xs h)
 

@@ -1,4 +1,5 @@
--- What an address names, and what a read or a write there sees of a state. A write changes the state there and nowhere else.
+-- What an address names, and what a read or a write there sees of a state. Of the modes and the protection a write changes
+-- those there and no others.
 -- Assumes nothing.
 use Prim.Native.Nat.{ℕ}
 use mathlib.Core.Bool.{Bool}
@@ -7,7 +8,6 @@ use Rattle.geometry.specs.declared.Geometry.{Geometry}
 use Rattle.geometry.specs.Blocks.{location, blockOf, bankOf}
 use Rattle.protection.specs.Words.{isUnprotected, withUnprotected}
 use Rattle.semantics.specs.declared.Mode.{Mode}
-use Rattle.semantics.specs.declared.Bank.{Bank}
 use Rattle.semantics.specs.declared.Activity.{Activity}
 use Rattle.semantics.specs.declared.Flags.{Flags}
 use Rattle.semantics.specs.declared.Control.{Control}

@@ -1,7 +1,7 @@
 -- The work step: document 01, "Work, n". What it makes of the array is said for every location.
 -- Assumes nothing.
 use Prim.Native.Nat.{ℕ, zero, suc, _+_, _-_, min}
-use mathlib.Core.Bool.{Bool, true, false, cond, _&&_}
+use mathlib.Core.Bool.{cond, _&&_}
 use mathlib.Core.List.{List, [], _∷_}
 use lib.Dec.{ltb, eqb}
 use lib.Bits.{bitAnd}
@@ -48,9 +48,12 @@ tabulate (suc n) f = let x : ℕ = f 0 in x ∷ tabulate n (λ L. f (suc L))
 unfoldable pub arrayAfter : Geometry → Running → ℕ → List ℕ → List ℕ
 arrayAfter g r m xs = tabulate (length xs) (λ L. wordAfter g r m L (getD xs L 0))
 
--- what is under way after up to n units, and how many they were
+-- the control after up to n units, and how many were done
 unfoldable pub workedOn : Geometry → Control → ℕ → Worked
-workedOn g c n = record { control = setActivity c (withRunning (c .activity) (runningAfter g (c .activity .running) (unitsDone g (c .activity .running) n))); units = unitsDone g (c .activity .running) n }
+workedOn g c n = record {
+  control = setActivity c (withRunning (c .activity) (runningAfter g (c .activity .running) (unitsDone g (c .activity .running) n)));
+  units = unitsDone g (c .activity .running) n;
+}
 
 -- the state and the array after up to n units
 unfoldable pub worked : State → ℕ → State

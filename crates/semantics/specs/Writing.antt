@@ -90,7 +90,7 @@ firstCycle v command.Unknown = v
 
 -- ---- the second cycle: "it ends the set-up, its address alone names the word or block, and the first rule that applies holds"
 
--- "supply off, set SR4 and SR3; block protected, SR4 and SR1; block of the suspended erase, SR4; else a program runs": with the whole word w as data
+-- "supply off, set SR4 and SR3; block protected, SR4 and SR1; block of the suspended erase, SR4 (H); else a program runs": with the whole word w as data
 unfoldable pub programCycle : View → Place → ℕ → View
 programCycle v p w =
     cond (not (v .control .supply)) (raise v (flagsOf false true true false))

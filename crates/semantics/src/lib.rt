@@ -39,7 +39,7 @@ pub enum SuspendedErase {
     Erase { block: u32, done: u32 },
 }
 
-// All that is under way: what later commands may add to comes in here.
+// All that is under way: the set-up that is pending, what runs, and what is suspended.
 pub struct Activity {
     pub setup: Setup,
     pub running: Running,
@@ -79,7 +79,7 @@ pub struct Place {
     pub block: u32,
 }
 
-// What a read or a write at a place sees of a state, and may change: of the modes that of the addressed bank, of the protection that of the addressed block.
+// What a read or a write at a place sees of a state, and a write may change: of the modes that of the addressed bank, of the protection that of the addressed block.
 pub struct View {
     pub mode: Mode,
     pub unprotected: bool,
@@ -116,7 +116,7 @@ pub struct Next {
 }
 
 // The report of unprotected blocks (document 01: open report): a refusal's number or 0, how many blocks are unprotected, and the lowest of them, 259 where there
-// is none; all 0 beside a refusal.
+// is none; count and lowest are 0 beside a refusal.
 pub struct Reported {
     pub refusal: u32,
     pub count: u32,
