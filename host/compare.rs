@@ -10,6 +10,7 @@ mod author;
 mod checks;
 mod library;
 mod lists;
+mod outcome;
 mod pair;
 mod second {
     pub mod geometry;
@@ -59,16 +60,7 @@ fn main() -> ExitCode {
         },
         _ => return usage(),
     };
-    match result {
-        Ok(summary) => {
-            println!("{summary}");
-            ExitCode::SUCCESS
-        }
-        Err(message) => {
-            eprintln!("{message}");
-            ExitCode::from(1)
-        }
-    }
+    outcome::end(result)
 }
 
 fn usage() -> ExitCode {

@@ -10,22 +10,34 @@ use std::ptr;
 /// M58_STATE_WORDS.
 pub const STATE_WORDS: usize = 38;
 
+/// The prototypes of power-up and of a run, under the names that a library has
+/// for them: benchmark links a second one beside the first.
+macro_rules! prototypes {
+    ($power_up:ident, $run:ident) => {
+        extern "C" {
+            pub fn $power_up(part: u32, state: *mut u64, state_count: usize) -> u32;
+            pub fn $run(
+                state: *mut u64,
+                state_count: usize,
+                steps: *const u64,
+                step_count: usize,
+                answers: *mut u64,
+                answer_count: usize,
+                array: *mut u16,
+                array_count: usize,
+            ) -> usize;
+        }
+    };
+}
+#[allow(unused_imports)] // only benchmark has a second library
+pub(crate) use prototypes;
+
 mod c {
+    prototypes!(m58_power_up, m58_run);
     extern "C" {
         pub fn m58_lookup_refusal(part: u32, address: u32) -> u32;
         pub fn m58_lookup_block(part: u32, address: u32) -> u32;
         pub fn m58_lookup_bank(part: u32, address: u32) -> u32;
-        pub fn m58_power_up(part: u32, state: *mut u64, state_count: usize) -> u32;
-        pub fn m58_run(
-            state: *mut u64,
-            state_count: usize,
-            steps: *const u64,
-            step_count: usize,
-            answers: *mut u64,
-            answer_count: usize,
-            array: *mut u16,
-            array_count: usize,
-        ) -> usize;
         pub fn m58_report(state: *const u64, state_count: usize) -> u64;
     }
 }

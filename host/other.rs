@@ -2,19 +2,7 @@
 //! m58_power_up and m58_run, since two of a name cannot be linked.
 
 mod c {
-    extern "C" {
-        pub fn other_power_up(part: u32, state: *mut u64, state_count: usize) -> u32;
-        pub fn other_run(
-            state: *mut u64,
-            state_count: usize,
-            steps: *const u64,
-            step_count: usize,
-            answers: *mut u64,
-            answer_count: usize,
-            array: *mut u16,
-            array_count: usize,
-        ) -> usize;
-    }
+    crate::library::prototypes!(other_power_up, other_run);
 }
 
 pub fn power_up(part: u32, state: &mut [u64]) -> u32 {

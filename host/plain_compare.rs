@@ -10,6 +10,7 @@
 #[allow(dead_code)] // its states to begin from: the C model takes none
 mod author;
 mod library;
+mod outcome;
 mod plain;
 mod second {
     pub mod geometry;
@@ -38,16 +39,7 @@ const UNTOUCHED: u64 = 0xA5A5_5A5A_C3C3_3C3C;
 const LAST_STEPS: usize = 10;
 
 fn main() -> ExitCode {
-    match compare() {
-        Ok(summary) => {
-            println!("{summary}");
-            ExitCode::SUCCESS
-        }
-        Err(message) => {
-            eprintln!("{message}");
-            ExitCode::from(1)
-        }
-    }
+    outcome::end(compare())
 }
 
 fn compare() -> Result<String, String> {

@@ -10,7 +10,7 @@ use native.Mathlib.Omega.{arith}
 use lib.Dec.{ltb, leb, eqb}
 use lib.Bits.{bitAnd, and-shr, and-step}
 use lib.ListN.{length, getD}
-use borrow.Author.Tests.{eqb-true, eqb-false, ltb-true, lt-ltb}
+use borrow.Author.Tests.{eqb-true, eqb-false, eq-eqb, ltb-true, lt-ltb}
 use Rattle.geometry.specs.declared.Part.{Part}
 use Rattle.geometry.specs.declared.Geometry.{Geometry}
 use Rattle.geometry.specs.Blocks.{Sound, geometryOf, words, location, blockOf, startOf, sizeOf}
@@ -418,6 +418,58 @@ module _ (g : Geometry) where
       go : SupplyOn l ⊎ (((recorded g c s) .conditions .supply ≡ true) × NoSupply l) → SupplyOn (s ∷ l) ⊎ ((c .conditions .supply ≡ true) × NoSupply (s ∷ l))
       go (inl x) = inl (record { earlier = s ∷ x .earlier; since = x .since; whole = ap (λ (m : List Step). s ∷ m) (x .whole); none-since = x .none-since })
       go (inr x) = go₂ (x .1) (switched c s (x .0))
+
+  -- ---- and no less: what the claim says of the steps holds only where the recorder has it so
+
+  why-reset : (d : Conditions) (s : Step) → Why d s was-reset → s ≡ Reset
+  why-reset d s (reset-step e) = e
+  why-reset d s (quiet _ x) = absurd x
+
+  event-reset : (c : Recorder) (s : Step) → event g s c ≡ was-reset → s ≡ Reset
+  event-reset c s e = why-reset (c .conditions) s (subst (λ x. Why (c .conditions) s x) e (why-event c s))
+
+  recorded-append : (l m : List Step) (c : Recorder) → recordedAll g c (l ++ m) ≡ recordedAll g (recordedAll g c l) m
+  recorded-append [] m c = refl
+  recorded-append (s ∷ l) m c = recorded-append l m (recorded g c s)
+
+  supply-quiet : (l : List Step) (c : Recorder) → NoSupply l → (recordedAll g c l) .conditions .supply ≡ c .conditions .supply
+  supply-quiet [] c n = refl
+  supply-quiet (s ∷ l) c n = supply-quiet l (recorded g c s) (n .1) ∙ supply-kept (c .conditions) s (event g s c) (n .0) (why-event c s)
+
+  pub supply-on-only : (l : List Step) (c : Recorder) → SupplyOn l → (recordedAll g c l) .conditions .supply ≡ true
+  supply-on-only l c h =
+      ap (λ (m : List Step). (recordedAll g c m) .conditions .supply) (h .whole)
+      ∙ ap (λ (r : Recorder). r .conditions .supply) (recorded-append (h .earlier) (Supply true ∷ h .since) c)
+      ∙ supply-quiet (h .since) (recorded g (recordedAll g c (h .earlier)) (Supply true)) (h .none-since)
+
+  untouched : (v : Event) (d : Conditions) (b : ℕ) → (v ≡ was-reset → ⊥) → ((o : Bool) → v ≡ unprotected-is b o → ⊥) → (conditions-after v d) .unprotected b ≡ d .unprotected b
+  untouched nothing d b n m = refl
+  untouched (supplied on) d b n m = refl
+  untouched was-reset d b n m = absurd (n refl)
+  untouched (units i) d b n m = refl
+  untouched suspend d b n m = refl
+  untouched resume-program d b n m = refl
+  untouched resume-erase d b n m = refl
+  untouched (setup-is s) d b n m = refl
+  untouched (unprotected-is c o) d b n m = go (eqb b c) refl
+    where
+      go : (t : Bool) → eqb b c ≡ t → cond t o (d .unprotected b) ≡ d .unprotected b
+      go true e = absurd (m o (ap (λ (i : ℕ). unprotected-is i o) (sym (eqb-true b c e))))
+      go false e = refl
+  untouched (accept k) d b n m = refl
+
+  unprotected-quiet : (b : ℕ) (l : List Step) (c : Recorder) → Undisturbed g b c l → (recordedAll g c l) .conditions .unprotected b ≡ c .conditions .unprotected b
+  unprotected-quiet b [] c u = refl
+  unprotected-quiet b (s ∷ l) c u =
+      unprotected-quiet b l (recorded g c s) (u .2)
+      ∙ untouched (event g s c) (c .conditions) b (λ e. u .0 (event-reset c s e)) (λ o e. u .1 o (event-protection b o c s e))
+
+  pub last-unprotected-only : (b : ℕ) (l : List Step) (c : Recorder) → LastUnprotected g b c l → (recordedAll g c l) .conditions .unprotected b ≡ true
+  last-unprotected-only b _ c (at-this _ s l p u) =
+      unprotected-quiet b l (recorded g c s) u
+      ∙ ap (λ (v : Event). (conditions-after v (c .conditions)) .unprotected b) (protection-event b true c s p)
+      ∙ rw (eq-eqb b b refl)
+  last-unprotected-only b _ c (at-later _ s l x) = last-unprotected-only b l (recorded g c s) x
 
   -- ---- where an operation was accepted: the steps before it, the step, and those after it
 
