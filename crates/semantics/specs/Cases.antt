@@ -15,11 +15,12 @@ use Rattle.semantics.specs.declared.Step.the-variants.{Read, Write, Work
 use Rattle.semantics.specs.declared.Answer.{Answer}
 use Rattle.semantics.specs.declared.State.{State}
 use Rattle.semantics.specs.declared.Answer.the-variants.{Word, Units, Done, Refused}
-use Rattle.semantics.specs.State.{powerUp}
-use Rattle.semantics.specs.WellFormed.{runningAlone, programAlone, eraseAlone, eraseFits, runningFits, programFits, suspendedEraseFits, allFit, runningApart, programApart, apart, activityFormed, wellFormed}
+use Rattle.semantics.specs.Tabulate.{tabulate}
+use Rattle.semantics.specs.State.{emptyBuffer, powerUp}
+use Rattle.semantics.specs.WellFormed.{runningAlone, programAlone, eraseAlone, eraseFits, wordsFit, bufferFits, setupFits, runningFits, programFits, suspendedEraseFits, allFit, runningApart, programApart, apart, activityFormed, setupPlaces, runningPlaces, programPlaces, placesUsed, zeroFrom, wellFormed}
 use Rattle.semantics.specs.Reading.{runsIn, statusWord, signatureWord, queryWord, shown, showsBy, readIn, readWord}
-use Rattle.semantics.specs.Writing.{commandOf, resume, accepts, setUp, clearStatus, firstCycle, programCycle, eraseCycle, lockCommandOf, lockCycle, settle, cycle, writtenAt, written}
-use Rattle.semantics.specs.Working.{unitsLeft, unitsDone, runningAfter, wordAfter, tabulate, arrayAfter, workedOn, worked, workedArray}
+use Rattle.semantics.specs.Writing.{commandOf, resume, accepts, setUp, clearStatus, firstCycle, programRuns, eraseCycle, lockCommandOf, lockCycle, settle, loads, countRight, firstRight, laterRight, confirmRight, confirmCycle, wordsCycle, cycle, keptIf, firstLoaded, wordsLoaded, loaded, writtenAt, written}
+use Rattle.semantics.specs.Working.{unitsLeft, unitsDone, runningAfter, wordAfter, arrayAfter, bufferAfter, workedOn, worked, workedArray}
 use Rattle.semantics.specs.Steps.{locationRefusal, addressRefusal, countRefusal, stepRefusal, stateRefusal, firstRefusal, refusalOf, accepted, acceptedArray, stepOf, arrayOf, reportedOf, Machine, after, fresh}
 
 infixl 20 _⟶_
@@ -152,5 +153,5 @@ cases =
     ∷ []
 
 pub cases-hold : T (every cases)
-unfolding mirror blockFrom blockOf bankOf sizeOf startFrom startOf bankStart blockOffset bankOffset bankOfBlock lookupOf bit bitAt isUnprotected withUnprotected spareZero allProtected powerUp runningAlone programAlone eraseAlone eraseFits runningFits programFits suspendedEraseFits allFit runningApart programApart apart activityFormed wellFormed runsIn statusWord signatureWord queryWord shown showsBy readIn readWord commandOf resume accepts setUp clearStatus firstCycle programCycle eraseCycle lockCommandOf lockCycle settle cycle writtenAt written unitsLeft unitsDone runningAfter wordAfter tabulate arrayAfter workedOn worked workedArray locationRefusal addressRefusal countRefusal stepRefusal stateRefusal firstRefusal refusalOf accepted acceptedArray stepOf arrayOf
+unfolding mirror blockFrom blockOf bankOf sizeOf startFrom startOf bankStart blockOffset bankOffset bankOfBlock lookupOf bit bitAt isUnprotected withUnprotected spareZero allProtected emptyBuffer powerUp runningAlone programAlone eraseAlone eraseFits wordsFit bufferFits setupFits runningFits programFits suspendedEraseFits allFit runningApart programApart apart activityFormed setupPlaces runningPlaces programPlaces placesUsed zeroFrom wellFormed runsIn statusWord signatureWord queryWord shown showsBy readIn readWord commandOf resume accepts setUp clearStatus firstCycle programRuns eraseCycle lockCommandOf lockCycle settle loads countRight firstRight laterRight confirmRight confirmCycle wordsCycle cycle keptIf firstLoaded wordsLoaded loaded writtenAt written unitsLeft unitsDone runningAfter wordAfter tabulate arrayAfter bufferAfter workedOn worked workedArray locationRefusal addressRefusal countRefusal stepRefusal stateRefusal firstRefusal refusalOf accepted acceptedArray stepOf arrayOf
 cases-hold = tt

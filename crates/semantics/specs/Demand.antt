@@ -13,7 +13,7 @@ use Rattle.geometry.specs.Blocks.{geometryOf, words, location, blockOf}
 use Rattle.semantics.specs.declared.Step.{Step}
 use Rattle.semantics.specs.declared.Step.the-variants.{Read, Write, Work, Supply, Reset}
 use Rattle.semantics.specs.Entries.{Entry, entry}
-use Rattle.semantics.specs.Recorder.{Operation, program, erase, Setup, program-setup, erase-setup, lock-setup, accept, blockIn, Recorder, beginning, recorded, recordedAll, journalOf, event, applied}
+use Rattle.semantics.specs.Recorder.{Operation, program, erase, buffer, Setup, program-setup, erase-setup, lock-setup, words-setup, accept, blockIn, Recorder, beginning, recorded, recordedAll, journalOf, event, applied}
 
 -- ---- what a step is, told from the step itself and from the set-up that is pending before it
 
@@ -44,10 +44,12 @@ module _ (g : Geometry) where
   ProtectionCommand b v p (Supply on) = ⊥
   ProtectionCommand b v p Reset = ⊥
 
-  -- a write of w to address a is the second cycle of an operation, after its set-up: of a program with its data at its location, of an erase with D0h in its block
+  -- a write of w to address a is the cycle that an operation is accepted at, after its set-up: of a program with its data at its location, of an erase with D0h in its block, of
+  -- a buffer program with D0h in its block, after all its words
   abbrev pub SecondCycle : Setup → ℕ → ℕ → Operation → Type 0
   SecondCycle p a w (program l d) = (a < 16777216) × (p ≡ program-setup) × (location g a ≡ l) × (w ≡ d)
   SecondCycle p a w (erase b) = (a < 16777216) × (p ≡ erase-setup) × (w % 256 ≡ 0xD0) × (blockOf g (location g a) ≡ b)
+  SecondCycle p a w (buffer l ws) = (a < 16777216) × (p ≡ words-setup l ws 0) × (w % 256 ≡ 0xD0) × (blockOf g (location g a) ≡ blockOf g l)
 
   abbrev pub operation-of : Entry Operation → Operation
   operation-of (entry k u t) = k

@@ -9,17 +9,20 @@ use Prim.Native.Nat.{ℕ, zero, suc, _+_, _-_, _≤_, _<_, _%_, min}
 use native.Mathlib.Omega.{arith}
 use native.Mathlib.Nat.{mod-lt}
 use lib.Dec.{ltb, leb, eqb}
-use borrow.Author.Tests.{eqb-true, eqb-false, eq-eqb}
+use lib.ListN.{length, set, replicate, length-set, length-replicate}
+use borrow.Author.Tests.{eqb-true, eqb-false, eq-eqb, leb-true}
 use Rattle.geometry.specs.declared.Geometry.{Geometry}
-use Rattle.geometry.specs.Blocks.{Sound, words, location, blockOf, startOf, sizeOf}
+use Rattle.geometry.specs.Laws as laws
+use Rattle.geometry.specs.Blocks.{Sound, words, blocks, location, blockOf, startOf, sizeOf}
 use Rattle.semantics.specs.declared.Step.{Step}
 use Rattle.semantics.specs.declared.Step.the-variants.{Read, Write, Work, Supply, Reset}
+use Rattle.semantics.specs.Numbers.{within, within-true}
 use Rattle.semantics.specs.Layout.{inside, only, fits}
 use Rattle.semantics.specs.Entries as entries
 use Rattle.semantics.specs.Entries.{Entry, entry, Live, live, resting, anyRuns, anySuspended, anyLive, None}
-use Rattle.semantics.specs.Recorder.{Operation, program, erase, Setup, no-setup, program-setup, erase-setup, lock-setup, Event, nothing, supplied, was-reset, units, suspend, resume-program, resume-erase, setup-is, unprotected-is, accept}
-use Rattle.semantics.specs.Recorder.{Conditions, conditions-after, rule, base, len, put, kinds, isProgram, isErase, isEraseOf, isAny, blockIn, Recorder, beginning, event, journal-after, first-cycle, cycle, acceptable}
-use Rattle.semantics.specs.Recorder.{Command, commandOf, suspend-command, resume-command, program-command, lock-command, erase-command, other-command}
+use Rattle.semantics.specs.Recorder.{Operation, program, erase, buffer, Setup, no-setup, program-setup, erase-setup, lock-setup, count-setup, first-setup, words-setup, Event, nothing, supplied, was-reset, units, suspend, resume-program, resume-erase, setup-is, unprotected-is, accept}
+use Rattle.semantics.specs.Recorder.{Conditions, conditions-after, rule, base, len, put, kinds, isProgram, isErase, isEraseOf, isAny, blockIn, Recorder, beginning, event, journal-after, first-cycle, goes-on, count-cycle, first-word-cycle, later-word-cycle, confirm-cycle, cycle, acceptable}
+use Rattle.semantics.specs.Recorder.{Command, commandOf, suspend-command, resume-command, program-command, lock-command, erase-command, buffer-command, other-command}
 
 pub or-false-l : (a b : Bool) → (a || b) ≡ false → a ≡ false
 or-false-l true b e = cc
@@ -105,13 +108,26 @@ module _ (g : Geometry) where
 
 -- ---- what the rules guarantee of an event
 
-abbrev pub Ready : Setup → Bool → ((Operation → Bool) → Bool) → Type 0
-Ready no-setup r h = Unit {0}
-Ready program-setup r h = (r ≡ false) × (h isProgram ≡ false)
-Ready lock-setup r h = (r ≡ false) × (h isProgram ≡ false)
-Ready erase-setup r h = (r ≡ false) × (h isAny ≡ false)
-
 module _ (g : Geometry) where
+  -- n words from location l on lie in one block, and the buffer holds them
+  abbrev pub Spans : ℕ → ℕ → Type 0
+  Spans l n = (l < words g) × (l + n ≤ startOf g (blockOf g l) + sizeOf g (blockOf g l)) × (n ≤ 32)
+
+  -- an operation lies in the array
+  abbrev pub Lies : Operation → Type 0
+  Lies (program l w) = l < words g
+  Lies (erase b) = startOf g b < words g
+  Lies (buffer l ws) = Spans l (length ws)
+
+  abbrev pub Ready : Setup → Bool → ((Operation → Bool) → Bool) → Type 0
+  Ready no-setup r h = Unit {0}
+  Ready program-setup r h = (r ≡ false) × (h isProgram ≡ false)
+  Ready lock-setup r h = (r ≡ false) × (h isProgram ≡ false)
+  Ready erase-setup r h = (r ≡ false) × (h isAny ≡ false)
+  Ready (count-setup b) r h = (r ≡ false) × (h isProgram ≡ false) × (b < blocks g)
+  Ready (first-setup b n) r h = (r ≡ false) × (h isProgram ≡ false) × (b < blocks g) × (0 < n) × (n ≤ 32)
+  Ready (words-setup l ws due) r h = (r ≡ false) × (h isProgram ≡ false) × (due < length ws) × Spans l (length ws)
+
   abbrev pub InK : Operation → ℕ → Type 0
   InK = entries.In (kinds g)
 
@@ -125,12 +141,16 @@ module _ (g : Geometry) where
     ok-resume-erase : s ≡ no-setup → r ≡ false → h isProgram ≡ false → h isErase ≡ true → Ok s r h resume-erase
     ok-setup : (t : Setup) → Ready t r h → Ok s r h (setup-is t)
     ok-unprotected : (b : ℕ) (o : Bool) → Ok s r h (unprotected-is b o)
-    ok-program : (k : Operation) → base g k < words g → isErase k ≡ false → 0 < len g k → ((L : ℕ) → InK k L → blockOf g L ≡ blockIn g k)
+    ok-program : (k : Operation) → Lies k → isErase k ≡ false → 0 < len g k → ((L : ℕ) → InK k L → blockOf g L ≡ blockIn g k)
         → r ≡ false → h isProgram ≡ false → h (isEraseOf g (blockIn g k)) ≡ false → Ok s r h (accept k)
     ok-erase : (b : ℕ) → startOf g b < words g → r ≡ false → h isAny ≡ false → 0 < sizeOf g b → Ok s r h (accept (erase b))
 
   program-in : (l w L : ℕ) → InK (program l w) L → blockOf g L ≡ blockOf g l
   program-in l w L i = ap (λ (x : ℕ). blockOf g x) (omega arith)
+
+  -- words that lie in one block
+  pub buffer-in : Sound g → (l : ℕ) (ws : List ℕ) → Spans l (length ws) → (L : ℕ) → InK (buffer l ws) L → blockOf g L ≡ blockOf g l
+  buffer-in sound l ws x L i = let z = inside g sound l (x .0) in only g sound (blockOf g l) L (omega (arith, z, i)) (omega (arith, x .1, i))
 
   module _ (s : Setup) (r : Bool) (h : (Operation → Bool) → Bool) where
     either : (b : Bool) {x y : Event} → (b ≡ true → Ok s r h x) → (b ≡ false → Ok s r h y) → Ok s r h (cond b x y)
@@ -141,22 +161,54 @@ module _ (g : Geometry) where
     idle-prog t f =
         either (r || h isProgram) (λ e. ok-nothing) (λ e. ok-setup t (f (or-false-l r (h isProgram) e, or-false-r r (h isProgram) e)))
 
-    first-ok : (d : Conditions) → s ≡ no-setup → (c : Command) → Ok s r h (first-cycle g d r h c)
-    first-ok d z suspend-command = either r (λ e. ok-suspend z) (λ e. ok-nothing)
-    first-ok d z resume-command =
+    first-ok : (d : Conditions) → s ≡ no-setup → (b : ℕ) → b < blocks g → (c : Command) → Ok s r h (first-cycle g d r h b c)
+    first-ok d z b q suspend-command = either r (λ e. ok-suspend z) (λ e. ok-nothing)
+    first-ok d z b q resume-command =
         either r (λ e. ok-nothing) (λ er. either (h isProgram) (λ ep. ok-resume-program z er ep)
         (λ ep. either (h isErase) (λ ee. ok-resume-erase z er ep ee) (λ e. ok-nothing)))
-    first-ok d z program-command = idle-prog program-setup (λ x. x)
-    first-ok d z lock-command = idle-prog lock-setup (λ x. x)
-    first-ok d z erase-command =
+    first-ok d z b q program-command = idle-prog program-setup (λ x. x)
+    first-ok d z b q lock-command = idle-prog lock-setup (λ x. x)
+    first-ok d z b q erase-command =
         either (r || h isAny) (λ e. ok-nothing) (λ e. ok-setup erase-setup (or-false-l r (h isAny) e, or-false-r r (h isAny) e))
-    first-ok d z other-command = ok-nothing
+    first-ok d z b q buffer-command = idle-prog (count-setup b) (λ x. (x .0, x .1, q))
+    first-ok d z b q other-command = ok-nothing
 
     unheld : (d : Conditions) (b : ℕ) → acceptable g d r h b ≡ true → h (isEraseOf g b) ≡ false
     unheld d b e = not-true _ (and-true-r (d .unprotected b) _ (and-true-r (d .supply) _ e))
 
+    -- a cycle of a load: the next is ready where it is right
+    goes-on-ok : (d : Conditions) (b : Bool) (t : Setup) → (b ≡ true → Ready t r h) → Ok s r h (goes-on g d r h b t)
+    goes-on-ok d b t f = either b (λ e. ok-setup t (f e)) (λ e. ok-setup no-setup tt)
+
+    count-ok : (d : Conditions) (b l w : ℕ) → Ready (count-setup b) r h → Ok s r h (count-cycle g d r h b l w)
+    count-ok d b l w y =
+        goes-on-ok d (eqb (blockOf g l) b && leb w 31) (first-setup b (w + 1))
+        (λ e. (y .0, y .1, y .2, omega arith, omega (arith, leb-true w 31 (and-true-r (eqb (blockOf g l) b) _ e))))
+
+    first-word-ok : (d : Conditions) (b n l w : ℕ) → l < words g → Ready (first-setup b n) r h → Ok s r h (first-word-cycle g d r h b n l w)
+    first-word-ok d b n l w q y =
+        goes-on-ok d (eqb (blockOf g l) b && leb (l + n) (startOf g b + sizeOf g b)) (words-setup l (set (replicate n 0xFFFF) 0 w) (n - 1))
+        (λ e. let z : length (set (replicate n 0xFFFF) 0 w) ≡ n = length-set (replicate n 0xFFFF) 0 w ∙ length-replicate n 0xFFFF in
+        let i = eqb-true (blockOf g l) b (and-true-l _ _ e) in
+        let f = leb-true (l + n) (startOf g b + sizeOf g b) (and-true-r (eqb (blockOf g l) b) _ e) in
+        rw z (y .0, y .1, omega (arith, y .3), (q, rw i f, y .4)))
+
+    later-word-ok : (d : Conditions) (t : ℕ) (ws : List ℕ) (due l w : ℕ) → Ready (words-setup t ws due) r h → Ok s r h (later-word-cycle g d r h t ws due l w)
+    later-word-ok d t ws due l w y =
+        goes-on-ok d (within t (length ws) l) (words-setup t (set ws (l - t) w) (due - 1))
+        (λ e. rw (length-set ws (l - t) w) (y .0, y .1, omega (arith, y .2), y .3))
+
+    confirm-ok : Sound g → (d : Conditions) (t : ℕ) (ws : List ℕ) (due l c : ℕ) → Ready (words-setup t ws due) r h → Ok s r h (confirm-cycle g d r h t ws l c)
+    confirm-ok sound d t ws due l c y =
+        either ((eqb c 0xD0 && eqb (blockOf g l) (blockOf g t)) && acceptable g d r h (blockOf g l))
+        (λ e. let i = eqb-true (blockOf g l) (blockOf g t) (and-true-r (eqb c 0xD0) _ (and-true-l _ _ e)) in
+        let x : Spans t (length ws) = y .3 in
+        ok-program (buffer t ws) x refl (omega (arith, y .2)) (buffer-in sound t ws x) (y .0) (y .1)
+        (subst (λ (b : ℕ). h (isEraseOf g b) ≡ false) i (unheld d (blockOf g l) (and-true-r (eqb c 0xD0 && eqb (blockOf g l) (blockOf g t)) _ e))))
+        (λ e. ok-setup no-setup tt)
+
     second-ok : (sound : Sound g) (d : Conditions) (t : Setup) → s ≡ t → Ready t r h → (l c w : ℕ) → l < words g → Ok s r h (cycle g d r h t l c w)
-    second-ok sound d no-setup z y l c w q = first-ok d z (commandOf c)
+    second-ok sound d no-setup z y l c w q = first-ok d z (blockOf g l) (laws.block-lt g sound l q) (commandOf c)
     second-ok sound d lock-setup z y l c w q =
         either (eqb c 0xD0) (λ e. ok-unprotected _ _) (λ e. either (eqb c 0x01) (λ e. ok-unprotected _ _) (λ e. ok-setup no-setup tt))
     second-ok sound d program-setup z y l c w q =
@@ -167,6 +219,9 @@ module _ (g : Geometry) where
         either (eqb c 0xD0 && acceptable g d r h (blockOf g l))
         (λ e. ok-erase (blockOf g l) (omega (arith, inside g sound l q)) (y .0) (y .1) (omega (arith, inside g sound l q)))
         (λ e. ok-setup no-setup tt)
+    second-ok sound d (count-setup b) z y l c w q = count-ok d b l w y
+    second-ok sound d (first-setup b n) z y l c w q = first-word-ok d b n l w q y
+    second-ok sound d (words-setup t ws due) z y l c w q = either (eqb due 0) (λ e. confirm-ok sound d t ws due l c y) (λ e. later-word-ok d t ws due l w y)
 
   pub rule-ok : (sound : Sound g) (d : Conditions) (r : Bool) (h : (Operation → Bool) → Bool) → Ready (d .setup) r h → (s : Step) → Ok (d .setup) r h (rule g d r h s)
   rule-ok sound d r h y (Read a) = ok-nothing
@@ -193,12 +248,18 @@ module _ (g : Geometry) where
   -- the operations under way lie in the array
   abbrev pub Inside : List (Live Operation) → Type 0
   Inside [] = Unit {0}
-  Inside (live k u ∷ s) = (base g k < words g) × Inside s
+  Inside (live k u ∷ s) = Lies k × Inside s
+
+  -- and so do those of the journal
+  abbrev pub Lying : List (Entry Operation) → Type 0
+  Lying [] = Unit {0}
+  Lying (entry k u t ∷ j) = Lies k × Lying j
 
   pub record Sim (d : Conditions) (e : Engine) (j : List (Entry Operation)) : Type 0 where
     pub match : Matches (busy e) (stack e) j
     pub order : Order (stack e)
     pub inside : Inside (stack e)
+    pub lying : Lying j
     pub ready : Ready (d .setup) (busy e) (held? e)
 
   -- ---- each event keeps it
@@ -258,6 +319,7 @@ module _ (g : Geometry) where
   erase-in : (sound : Sound g) (k : Operation) → isErase k ≡ true → (L : ℕ) → InK k L → blockOf g L ≡ blockIn g k
   erase-in sound (program l d) e L i = absurd (false≢true e)
   erase-in sound (erase b) e L i = only g sound b L (i .0) (i .1)
+  erase-in sound (buffer l ws) e L i = absurd (false≢true e)
 
   fit-program : (sound : Sound g) (k : Operation) (e : Engine) (j : List (Entry Operation)) → isErase k ≡ false → 0 < len g k → ((L : ℕ) → InK k L → blockOf g L ≡ blockIn g k)
       → busy e ≡ false → held? e isProgram ≡ false → held? e (isEraseOf g (blockIn g k)) ≡ false → Fit e j
@@ -286,6 +348,9 @@ module _ (g : Geometry) where
   ready-run program-setup h r k y = absurd (true≢false (y .0))
   ready-run lock-setup h r k y = absurd (true≢false (y .0))
   ready-run erase-setup h r k y = absurd (true≢false (y .0))
+  ready-run (count-setup b) h r k y = absurd (true≢false (y .0))
+  ready-run (first-setup b n) h r k y = absurd (true≢false (y .0))
+  ready-run (words-setup l ws due) h r k y = absurd (true≢false (y .0))
 
   ready-work : (n : ℕ) (s : Setup) (e : Engine) → Ready s (busy e) (held? e) → Ready s (busy (engine-worked g n e)) (held? (engine-worked g n e))
   ready-work n s (engine false l) y = y
@@ -304,25 +369,57 @@ module _ (g : Geometry) where
       go true = x .1
       go false = x
 
+  -- an entry keeps its operation
+  abbrev Keeps : (Entry Operation → Entry Operation) → Type 0
+  Keeps f = (k : Operation) (u : ℕ) (t : entries.Phase) (j : List (Entry Operation)) → Lying (entry k u t ∷ j) → Lying (f (entry k u t) ∷ j)
+
+  lying-map : (f : Entry Operation → Entry Operation) → Keeps f → (j : List (Entry Operation)) → Lying j → Lying (map f j)
+  lying-map f h [] x = tt
+  lying-map f h (entry k u t ∷ j) x = h k u t (map f j) (x .0, lying-map f h j (x .1))
+
+  lying-worked : (n : ℕ) → Keeps (entries.worked (kinds g) n)
+  lying-worked n k u entries.running j x = x
+  lying-worked n k u entries.suspended j x = x
+  lying-worked n k u entries.finished j x = x
+  lying-worked n k u entries.broken-off j x = x
+
+  lying-paused : Keeps entries.paused
+  lying-paused k u entries.running j x = x
+  lying-paused k u entries.suspended j x = x
+  lying-paused k u entries.finished j x = x
+  lying-paused k u entries.broken-off j x = x
+
+  lying-resumed : (p : Operation → Bool) → Keeps (entries.resumed p)
+  lying-resumed p k u entries.running j x = x
+  lying-resumed p k u entries.suspended j x = x
+  lying-resumed p k u entries.finished j x = x
+  lying-resumed p k u entries.broken-off j x = x
+
+  lying-abandoned : Keeps entries.abandoned
+  lying-abandoned k u entries.running j x = x
+  lying-abandoned k u entries.suspended j x = x
+  lying-abandoned k u entries.finished j x = x
+  lying-abandoned k u entries.broken-off j x = x
+
   pub sim-do : (sound : Sound g) (d : Conditions) (e : Engine) (j : List (Entry Operation)) (v : Event) → Ok (d .setup) (busy e) (held? e) v → Sim d e j
       → Sim (conditions-after v d) (engine-after g v e) (journal-after g v j)
   sim-do sound d e j v ok-nothing s = s
-  sim-do sound d e j v (ok-supplied b) s = record { match = s .match; order = s .order; inside = s .inside; ready = s .ready }
-  sim-do sound d e j v ok-was-reset s = record { match = entries.match-abandoned (kinds g) (s .match); order = tt; inside = tt; ready = tt }
+  sim-do sound d e j v (ok-supplied b) s = record { match = s .match; order = s .order; inside = s .inside; lying = s .lying; ready = s .ready }
+  sim-do sound d e j v ok-was-reset s = record { match = entries.match-abandoned (kinds g) (s .match); order = tt; inside = tt; lying = lying-map entries.abandoned lying-abandoned j (s .lying); ready = tt }
   sim-do sound d e j v (ok-units n) s =
       let f = fit-work n e j (s .match, s .order) in
-      record { match = f .0; order = f .1; inside = inside-work n e (s .inside); ready = ready-work n (d .setup) e (s .ready) }
-  sim-do sound d e j v (ok-suspend z) s = record { match = match-suspend e j (s .match); order = s .order; inside = s .inside; ready = ready-none _ _ _ z }
+      record { match = f .0; order = f .1; inside = inside-work n e (s .inside); lying = lying-map (entries.worked (kinds g) n) (lying-worked n) j (s .lying); ready = ready-work n (d .setup) e (s .ready) }
+  sim-do sound d e j v (ok-suspend z) s = record { match = match-suspend e j (s .match); order = s .order; inside = s .inside; lying = lying-map entries.paused lying-paused j (s .lying); ready = ready-none _ _ _ z }
   sim-do sound d e j v (ok-resume-program z x y) s =
-      record { match = match-resume-program e j x y (s .match, s .order); order = s .order; inside = s .inside; ready = ready-none _ _ _ z }
+      record { match = match-resume-program e j x y (s .match, s .order); order = s .order; inside = s .inside; lying = lying-map (entries.resumed isProgram) (lying-resumed isProgram) j (s .lying); ready = ready-none _ _ _ z }
   sim-do sound d e j v (ok-resume-erase z x y w) s =
-      record { match = match-resume-erase e j x y w (s .match, s .order); order = s .order; inside = s .inside; ready = ready-none _ _ _ z }
-  sim-do sound d e j v (ok-setup t y) s = record { match = s .match; order = s .order; inside = s .inside; ready = y }
-  sim-do sound d e j v (ok-unprotected b o) s = record { match = s .match; order = s .order; inside = s .inside; ready = tt }
+      record { match = match-resume-erase e j x y w (s .match, s .order); order = s .order; inside = s .inside; lying = lying-map (entries.resumed isErase) (lying-resumed isErase) j (s .lying); ready = ready-none _ _ _ z }
+  sim-do sound d e j v (ok-setup t y) s = record { match = s .match; order = s .order; inside = s .inside; lying = s .lying; ready = y }
+  sim-do sound d e j v (ok-unprotected b o) s = record { match = s .match; order = s .order; inside = s .inside; lying = s .lying; ready = tt }
   sim-do sound d e j v (ok-program k q a b c x y z) s =
-      let f = fit-program sound k e j a b c x y z (s .match, s .order) in record { match = f .0; order = f .1; inside = (q, s .inside); ready = tt }
+      let f = fit-program sound k e j a b c x y z (s .match, s .order) in record { match = f .0; order = f .1; inside = (q, s .inside); lying = (q, s .lying); ready = tt }
   sim-do sound d e j v (ok-erase b q x y z) s =
-      let f = fit-erase b e j x y z (s .match, s .order) in record { match = f .0; order = f .1; inside = (q, s .inside); ready = tt }
+      let f = fit-erase b e j x y z (s .match, s .order) in record { match = f .0; order = f .1; inside = (q, s .inside); lying = (q, s .lying); ready = tt }
 
   -- ---- the words keep up with the journal
 

@@ -3,15 +3,18 @@
 use mathlib.Core.Path.{_≡_, refl, sym, ap, _∙_}
 use mathlib.Core.List.{List}
 use mathlib.Core.Bool.{Bool, true, false, cond, not, _||_, true≢false}
-use Prim.Native.Nat.{ℕ, _-_, _%_}
+use Prim.Native.Nat.{ℕ, _+_, _-_, _%_}
 use lib.Dec.{eqb}
 use lib.ListN.{length, set}
+use Rattle.geometry.specs.declared.Geometry.{Geometry}
 use Rattle.semantics.specs.declared.Setup.{Setup}
 use Rattle.semantics.specs.declared.Setup.the-variants as setup
 use Rattle.semantics.specs.declared.Command.{Command}
 use Rattle.semantics.specs.declared.Command.the-variants as command
 use Rattle.semantics.specs.declared.LockCommand.{LockCommand}
 use Rattle.semantics.specs.declared.LockCommand.the-variants as lock
+use Rattle.semantics.specs.declared.Running.{Running}
+use Rattle.semantics.specs.declared.Running.the-variants as running
 use Rattle.semantics.specs.declared.Flags.{Flags}
 use Rattle.semantics.specs.declared.State.{State}
 use Rattle.semantics.specs.declared.Step.{Step}
@@ -21,11 +24,11 @@ use Rattle.semantics.specs.declared.Answer.the-variants.{Word, Units, Do
 use Rattle.semantics.specs.declared.Mode.the-variants.{Status}
 use Rattle.semantics.specs.declared.Place.{Place}
 use Rattle.semantics.specs.declared.View.{View}
-use Rattle.semantics.specs.State.{geometry, runs, withFlags, withSetup, noFlags, joined}
+use Rattle.semantics.specs.State.{geometry, runs, withFlags, withBuffer, withSetup, noFlags, joined}
 use Rattle.semantics.specs.View as view
 use Rattle.semantics.specs.View.{placeOf, viewAt, withView, withActivity, withMode}
 use Rattle.semantics.specs.WellFormed.{pending, erasing, wellFormed}
-use Rattle.semantics.specs.Writing.{commandOf, accepts, setUp, clearStatus, firstCycle, programCycle, eraseCycle, lockCommandOf, lockCycle, settle, cycle, writtenAt, written}
+use Rattle.semantics.specs.Writing.{commandOf, accepts, setUp, clearStatus, firstCycle, pend, programRuns, eraseCycle, lockCommandOf, lockCycle, settle, loads, countRight, firstRight, laterRight, confirmRight, confirmCycle, wordsCycle, cycle, loadedAt, writtenAt, written}
 use Rattle.semantics.specs.Working.{workedOn, worked, workedArray}
 use Rattle.semantics.specs.Steps.{stateRefusal, refusalOf, next, accepted, acceptedArray, stepOf, arrayOf, numberOf}
 use Rattle.semantics.specs.Refusals.{answer-number}
@@ -60,19 +63,20 @@ stay-setup : (v : View) (c : Setup) → Stay (v .control .flags) (setUp v c .con
 unfolding setUp
 stay-setup v c = stay-cond (v .control .flags) (accepts (v .control .activity) c) (withMode (withActivity v (withSetup (v .control .activity) c)) Status) v (stay-same _ _ refl) (stay-same _ _ refl)
 
-stay-first : (v : View) (c : Command) → (c ≡ command.ClearStatus → ⊥) → Stay (v .control .flags) (firstCycle v c .control .flags)
+stay-first : (v : View) (p : Place) (c : Command) → (c ≡ command.ClearStatus → ⊥) → Stay (v .control .flags) (firstCycle v p c .control .flags)
 unfolding firstCycle
-stay-first v command.ReadArray n = stay-same _ _ refl
-stay-first v command.ReadStatus n = stay-same _ _ refl
-stay-first v command.ReadSignature n = stay-same _ _ refl
-stay-first v command.ReadQuery n = stay-same _ _ refl
-stay-first v command.Suspend n = stay-same _ _ refl
-stay-first v command.Resume n = stay-same _ _ refl
-stay-first v command.ClearStatus n = absurd (n refl)
-stay-first v command.SetUpProgram n = stay-setup v setup.Program
-stay-first v command.SetUpErase n = stay-setup v setup.Erase
-stay-first v command.SetUpLock n = stay-setup v setup.Lock
-stay-first v command.Unknown n = stay-same _ _ refl
+stay-first v p command.ReadArray n = stay-same _ _ refl
+stay-first v p command.ReadStatus n = stay-same _ _ refl
+stay-first v p command.ReadSignature n = stay-same _ _ refl
+stay-first v p command.ReadQuery n = stay-same _ _ refl
+stay-first v p command.Suspend n = stay-same _ _ refl
+stay-first v p command.Resume n = stay-same _ _ refl
+stay-first v p command.ClearStatus n = absurd (n refl)
+stay-first v p command.SetUpProgram n = stay-setup v setup.Program
+stay-first v p command.SetUpErase n = stay-setup v setup.Erase
+stay-first v p command.SetUpLock n = stay-setup v setup.Lock
+stay-first v p command.SetUpBuffer n = stay-setup v (setup.BufferCount (p .block))
+stay-first v p command.Unknown n = stay-same _ _ refl
 
 stay-lock : (v : View) (p : Place) (c : LockCommand) → Stay (v .control .flags) (lockCycle (settle v) p c .control .flags)
 unfolding lockCycle settle
@@ -87,17 +91,36 @@ ClearCommand setup.Nothing w = commandOf (w % 256) ≡ command.ClearStatus
 ClearCommand setup.Program w = ⊥
 ClearCommand setup.Erase w = ⊥
 ClearCommand setup.Lock w = ⊥
+ClearCommand (setup.BufferCount b) w = ⊥
+ClearCommand (setup.BufferFirst b n) w = ⊥
+ClearCommand (setup.BufferWords l n due) w = ⊥
 
-stay-cycle : (v : View) (c : Setup) (p : Place) (w : ℕ) → (ClearCommand c w → ⊥) → Stay (v .control .flags) (cycle v c p w .control .flags)
-unfolding cycle programCycle eraseCycle settle
-stay-cycle v setup.Nothing p w n = stay-first v (commandOf (w % 256)) n
-stay-cycle v setup.Program p w n =
+stay-program : (v : View) (p : Place) (r : Running) → Stay (v .control .flags) (programRuns (settle v) p r .control .flags)
+unfolding programRuns settle
+stay-program v p r =
     stay-cond _ (not (v .control .supply)) _ _ (stay-joined _ _ _ refl)
     (stay-cond _ (not (v .unprotected)) _ _ (stay-joined _ _ _ refl) (stay-cond _ (erasing (v .control .activity .erase) (p .block)) _ _ (stay-joined _ _ _ refl) (stay-same _ _ refl)))
-stay-cycle v setup.Erase p w n =
+
+stay-loads : (b : Bool) (v : View) (c : Setup) → Stay (v .control .flags) (loads b v c .control .flags)
+unfolding loads settle
+stay-loads b v c = stay-cond _ b (pend v c) _ (stay-same _ _ refl) (stay-joined _ _ _ refl)
+
+stay-words : (g : Geometry) (v : View) (l n due : ℕ) (p : Place) (w : ℕ) → Stay (v .control .flags) (wordsCycle g v l n due p w .control .flags)
+unfolding wordsCycle confirmCycle settle
+stay-words g v l n due p w =
+    stay-cond _ (eqb due 0) _ _ (stay-cond _ (confirmRight g l p w) _ _ (stay-program v p (running.Buffer l n 0)) (stay-joined _ _ _ refl)) (stay-loads (laterRight l n p) v (setup.BufferWords l n (due - 1)))
+
+stay-cycle : (g : Geometry) (v : View) (c : Setup) (p : Place) (w : ℕ) → (ClearCommand c w → ⊥) → Stay (v .control .flags) (cycle g v c p w .control .flags)
+unfolding cycle eraseCycle settle
+stay-cycle g v setup.Nothing p w n = stay-first v p (commandOf (w % 256)) n
+stay-cycle g v setup.Program p w n = stay-program v p (running.Program (p .location) w)
+stay-cycle g v (setup.BufferCount b) p w n = stay-loads (countRight b p w) v (setup.BufferFirst b (w + 1))
+stay-cycle g v (setup.BufferFirst b k) p w n = stay-loads (firstRight g b k p) v (setup.BufferWords (p .location) k (k - 1))
+stay-cycle g v (setup.BufferWords l k due) p w n = stay-words g v l k due p w
+stay-cycle g v setup.Erase p w n =
     stay-cond _ (not (eqb (w % 256) 0xD0)) _ _ (stay-joined _ _ _ refl)
     (stay-cond _ (not (v .control .supply)) _ _ (stay-joined _ _ _ refl) (stay-cond _ (not (v .unprotected)) _ _ (stay-joined _ _ _ refl) (stay-same _ _ refl)))
-stay-cycle v setup.Lock p w n = stay-lock v p _
+stay-cycle g v setup.Lock p w n = stay-lock v p _
 
 -- the step may clear the flags: a reset, or 50h with no set-up pending. (Refused, neither does; nor does 50h while something runs.)
 abbrev pub MayClear : State → Step → Type 0
@@ -110,7 +133,7 @@ MayClear s Reset = Unit {0}
 stay-accepted : (s : State) (xs : List ℕ) (x : Step) → (MayClear s x → ⊥) → Stay (s .control .flags) (accepted s xs x .state .control .flags)
 unfolding accepted written writtenAt workedOn worked
 stay-accepted s xs (Read a) n = stay-same _ _ refl
-stay-accepted s xs (Write a w) n = stay-cycle (viewAt s (placeOf (geometry s) a)) (s .control .activity .setup) (placeOf (geometry s) a) w n
+stay-accepted s xs (Write a w) n = stay-cycle (geometry s) (viewAt s (placeOf (geometry s) a)) (s .control .activity .setup) (placeOf (geometry s) a) w n
 stay-accepted s xs (Work k) n = stay-same _ _ refl
 stay-accepted s xs (Supply on) n = stay-same _ _ refl
 stay-accepted s xs Reset n = absurd (n tt)
@@ -141,19 +164,20 @@ alike-setup : (v : View) (f : Flags) (c : Setup) → unflaggedView (setUp (view.
 unfolding setUp
 alike-setup v f c = alike-cond (accepts (v .control .activity) c) _ _ _ _ refl refl
 
-alike-first : (v : View) (f : Flags) (c : Command) → unflaggedView (firstCycle (view.withFlags v f) c) ≡ unflaggedView (firstCycle v c)
+alike-first : (v : View) (f : Flags) (p : Place) (c : Command) → unflaggedView (firstCycle (view.withFlags v f) p c) ≡ unflaggedView (firstCycle v p c)
 unfolding firstCycle clearStatus
-alike-first v f command.ReadArray = refl
-alike-first v f command.ReadStatus = refl
-alike-first v f command.ReadSignature = refl
-alike-first v f command.ReadQuery = refl
-alike-first v f command.Suspend = refl
-alike-first v f command.Resume = refl
-alike-first v f command.ClearStatus = alike-cond (runs (v .control .activity .running)) _ _ _ _ refl refl
-alike-first v f command.SetUpProgram = alike-setup v f setup.Program
-alike-first v f command.SetUpErase = alike-setup v f setup.Erase
-alike-first v f command.SetUpLock = alike-setup v f setup.Lock
-alike-first v f command.Unknown = refl
+alike-first v f p command.ReadArray = refl
+alike-first v f p command.ReadStatus = refl
+alike-first v f p command.ReadSignature = refl
+alike-first v f p command.ReadQuery = refl
+alike-first v f p command.Suspend = refl
+alike-first v f p command.Resume = refl
+alike-first v f p command.ClearStatus = alike-cond (runs (v .control .activity .running)) _ _ _ _ refl refl
+alike-first v f p command.SetUpProgram = alike-setup v f setup.Program
+alike-first v f p command.SetUpErase = alike-setup v f setup.Erase
+alike-first v f p command.SetUpLock = alike-setup v f setup.Lock
+alike-first v f p command.SetUpBuffer = alike-setup v f (setup.BufferCount (p .block))
+alike-first v f p command.Unknown = refl
 
 alike-lock : (v : View) (f : Flags) (p : Place) (c : LockCommand) → unflaggedView (lockCycle (settle (view.withFlags v f)) p c) ≡ unflaggedView (lockCycle (settle v) p c)
 unfolding lockCycle settle
@@ -162,19 +186,36 @@ alike-lock v f p lock.Unprotect = refl
 alike-lock v f p lock.Configure = refl
 alike-lock v f p lock.Unknown = refl
 
-alike-cycle : (v : View) (f : Flags) (c : Setup) (p : Place) (w : ℕ) → unflaggedView (cycle (view.withFlags v f) c p w) ≡ unflaggedView (cycle v c p w)
-unfolding cycle programCycle eraseCycle settle
-alike-cycle v f setup.Nothing p w = alike-first v f (commandOf (w % 256))
-alike-cycle v f setup.Program p w =
+alike-program : (v : View) (f : Flags) (p : Place) (r : Running) → unflaggedView (programRuns (settle (view.withFlags v f)) p r) ≡ unflaggedView (programRuns (settle v) p r)
+unfolding programRuns settle
+alike-program v f p r =
     alike-cond (not (v .control .supply)) _ _ _ _ refl (alike-cond (not (v .unprotected)) _ _ _ _ refl (alike-cond (erasing (v .control .activity .erase) (p .block)) _ _ _ _ refl refl))
-alike-cycle v f setup.Erase p w =
+
+alike-loads : (b : Bool) (v : View) (f : Flags) (c : Setup) → unflaggedView (loads b (view.withFlags v f) c) ≡ unflaggedView (loads b v c)
+unfolding loads settle
+alike-loads b v f c = alike-cond b _ _ _ _ refl refl
+
+alike-words : (g : Geometry) (v : View) (f : Flags) (l n due : ℕ) (p : Place) (w : ℕ) → unflaggedView (wordsCycle g (view.withFlags v f) l n due p w) ≡ unflaggedView (wordsCycle g v l n due p w)
+unfolding wordsCycle confirmCycle settle
+alike-words g v f l n due p w =
+    alike-cond (eqb due 0) _ _ _ _ (alike-cond (confirmRight g l p w) _ _ _ _ (alike-program v f p (running.Buffer l n 0)) refl) (alike-loads (laterRight l n p) v f (setup.BufferWords l n (due - 1)))
+
+alike-cycle : (g : Geometry) (v : View) (f : Flags) (c : Setup) (p : Place) (w : ℕ) → unflaggedView (cycle g (view.withFlags v f) c p w) ≡ unflaggedView (cycle g v c p w)
+unfolding cycle eraseCycle settle
+alike-cycle g v f setup.Nothing p w = alike-first v f p (commandOf (w % 256))
+alike-cycle g v f setup.Program p w = alike-program v f p (running.Program (p .location) w)
+alike-cycle g v f (setup.BufferCount b) p w = alike-loads (countRight b p w) v f (setup.BufferFirst b (w + 1))
+alike-cycle g v f (setup.BufferFirst b n) p w = alike-loads (firstRight g b n p) v f (setup.BufferWords (p .location) n (n - 1))
+alike-cycle g v f (setup.BufferWords l n due) p w = alike-words g v f l n due p w
+alike-cycle g v f setup.Erase p w =
     alike-cond (not (eqb (w % 256) 0xD0)) _ _ _ _ refl (alike-cond (not (v .control .supply)) _ _ _ _ refl (alike-cond (not (v .unprotected)) _ _ _ _ refl refl))
-alike-cycle v f setup.Lock p w = alike-lock v f p (lockCommandOf (w % 256))
+alike-cycle g v f setup.Lock p w = alike-lock v f p (lockCommandOf (w % 256))
 
 alike-accepted : (s : State) (f : Flags) (xs : List ℕ) (x : Step) → unflagged (accepted (withFlags s f) xs x .state) ≡ unflagged (accepted s xs x .state)
 unfolding accepted written writtenAt workedOn worked
 alike-accepted s f xs (Read a) = refl
-alike-accepted s f xs (Write a w) = let p : Place = placeOf (geometry s) a in ap (withView s p) (alike-cycle (viewAt s p) f (s .control .activity .setup) p w)
+alike-accepted s f xs (Write a w) = let p : Place = placeOf (geometry s) a in
+    ap (λ (v : View). withBuffer (withView s p v) (loadedAt s p w (v .control .activity .running))) (alike-cycle (geometry s) (viewAt s p) f (s .control .activity .setup) p w)
 alike-accepted s f xs (Work n) = refl
 alike-accepted s f xs (Supply on) = refl
 alike-accepted s f xs Reset = refl

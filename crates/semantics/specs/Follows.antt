@@ -9,7 +9,7 @@ use Prim.Native.Nat.{ℕ, suc, _+_, _-_, _≤_, _<_, _%_, min}
 use native.Mathlib.Omega.{arith}
 use lib.Dec.{ltb, leb, eqb}
 use lib.Bits.{bitAnd}
-use lib.ListN.{length, getD}
+use lib.ListN.{length, getD, set, replicate}
 use borrow.Author.Tests.{ltb-true, ltb-false, leb-true, leb-false, lt-ltb, le-ltb, le-leb, lt-leb, eqb-true, eqb-false, eq-eqb, ne-eqb}
 use Rattle.geometry.specs.declared.Geometry.{Geometry}
 use Rattle.geometry.specs.Blocks.{Sound, geometryOf, words, blocks, location, blockOf, bankOf, startOf, sizeOf}
@@ -32,132 +32,161 @@ use Rattle.semantics.specs.declared.LockCommand.the-variants as lock
 use Rattle.semantics.specs.declared.State.{State}
 use Rattle.semantics.specs.declared.Step.{Step}
 use Rattle.semantics.specs.declared.Step.the-variants.{Read, Write, Work, Supply, Reset}
-use Rattle.semantics.specs.Numbers.{within, within-in, within-out}
+use Rattle.semantics.specs.Numbers.{within, within-in, within-out, within-true}
 use Rattle.semantics.specs.declared.Place.{Place}
 use Rattle.semantics.specs.declared.View.{View}
 use Rattle.semantics.specs.State as state
-use Rattle.semantics.specs.State.{activity, runs, programSuspended, eraseSuspended}
+use Rattle.semantics.specs.State.{activity, withBuffer, runs, programSuspended, eraseSuspended, wordsIn, emptyBuffer}
+use Rattle.semantics.specs.Buffer.{words-length, words-word, words-first, words-later}
 use Rattle.semantics.specs.View.{placeOf, viewAt, withView, withActivity}
 use Rattle.semantics.specs.WellFormed.{erasing}
 use Rattle.semantics.specs.Writing as writing
-use Rattle.semantics.specs.Writing.{commandOf, suspended, resumedErase, resumed, resume, accepts, setUp, clearStatus, firstCycle, programCycle, eraseCycle, lockCommandOf, lockCycle, settle, writtenAt}
-use Rattle.semantics.specs.Working.{unitsLeft, unitsDone, runningAfter, wordAfter, worked}
+use Rattle.semantics.specs.Writing.{commandOf, suspended, resumedErase, resumed, resume, accepts, setUp, clearStatus, firstCycle, programRuns, programCycle, eraseCycle, lockCommandOf, lockCycle, settle, loads, countRight, firstRight, laterRight, confirmRight, confirmCycle, wordsCycle, keptIf, firstLoaded, wordsLoaded, loaded, cycleAt, loadedAt, writtenAt}
+use Rattle.semantics.specs.Working.{unitsLeft, unitsDone, runningAfter, wordAfter, bufferAfter, worked}
 use Rattle.semantics.specs.Entries.{Live, live, anyLive}
 use Rattle.semantics.specs.Recorder as recorder
-use Rattle.semantics.specs.Recorder.{Operation, Event, nothing, supplied, was-reset, units, suspend, resume-program, resume-erase, setup-is, unprotected-is, accept, Conditions, conditions-after, rule, isProgram, isErase, isEraseOf, isAny, first-cycle, cycle, base, len, put, kinds, no-setup, program-setup, erase-setup, lock-setup}
+use Rattle.semantics.specs.Recorder.{Operation, Event, nothing, supplied, was-reset, units, suspend, resume-program, resume-erase, setup-is, unprotected-is, accept, Conditions, conditions-after, rule, isProgram, isErase, isEraseOf, isAny, first-cycle, acceptable, count-cycle, first-word-cycle, later-word-cycle, confirm-cycle, cycle, base, len, put, kinds, no-setup, program-setup, erase-setup, lock-setup, count-setup, first-setup, words-setup}
 use Rattle.semantics.specs.Engine.{Engine, engine, busy, stack, held?, some?, engine-after, engine-worked, words-after, words-worked, Ready}
 
 -- ---- the device as the recorder would see it
 
-abbrev pub setupOf : Setup → recorder.Setup
-setupOf setup.Nothing = no-setup
-setupOf setup.Program = program-setup
-setupOf setup.Erase = erase-setup
-setupOf setup.Lock = lock-setup
+-- with the buffer bs
+abbrev pub setupOf : List ℕ → Setup → recorder.Setup
+setupOf bs setup.Nothing = no-setup
+setupOf bs setup.Program = program-setup
+setupOf bs setup.Erase = erase-setup
+setupOf bs setup.Lock = lock-setup
+setupOf bs (setup.BufferCount b) = count-setup b
+setupOf bs (setup.BufferFirst b n) = first-setup b n
+setupOf bs (setup.BufferWords l n due) = words-setup l (wordsIn bs n) due
 
 abbrev pub conditions : State → Conditions
-conditions s = record { supply = s .control .supply; unprotected = λ b. isUnprotected (s .unprotected) b; setup = setupOf (s .control .activity .setup) }
+conditions s = record { supply = s .control .supply; unprotected = λ b. isUnprotected (s .unprotected) b; setup = setupOf (s .buffer) (s .control .activity .setup) }
 
 -- what is under way as a stack
 abbrev pub addErase : SuspendedErase → List (Live Operation)
 addErase erase.Nothing = []
 addErase (erase.Erase b n) = live (recorder.erase b) n ∷ []
 
-abbrev pub addProgram : SuspendedProgram → List (Live Operation) → List (Live Operation)
-addProgram program.Nothing l = l
-addProgram (program.Program a w) l = live (recorder.program a w) 0 ∷ l
+abbrev pub addProgram : List ℕ → SuspendedProgram → List (Live Operation) → List (Live Operation)
+addProgram bs program.Nothing l = l
+addProgram bs (program.Program a w) l = live (recorder.program a w) 0 ∷ l
+addProgram bs (program.Buffer a n d) l = live (recorder.buffer a (wordsIn bs n)) d ∷ l
 
-abbrev pub addRunning : Running → List (Live Operation) → List (Live Operation)
-addRunning running.Idle l = l
-addRunning (running.Program a w) l = live (recorder.program a w) 0 ∷ l
-addRunning (running.Erase b n) l = live (recorder.erase b) n ∷ l
+abbrev pub addRunning : List ℕ → Running → List (Live Operation) → List (Live Operation)
+addRunning bs running.Idle l = l
+addRunning bs (running.Program a w) l = live (recorder.program a w) 0 ∷ l
+addRunning bs (running.Erase b n) l = live (recorder.erase b) n ∷ l
+addRunning bs (running.Buffer a n d) l = live (recorder.buffer a (wordsIn bs n)) d ∷ l
 
-abbrev pub underWayOf : Running → SuspendedProgram → SuspendedErase → Engine
-underWayOf r p e = engine (runs r) (addRunning r (addProgram p (addErase e)))
+abbrev pub underWayOf : List ℕ → Running → SuspendedProgram → SuspendedErase → Engine
+underWayOf bs r p e = engine (runs r) (addRunning bs r (addProgram bs p (addErase e)))
 
-abbrev pub underWay : Activity → Engine
-underWay a = underWayOf (a .running) (a .program) (a .erase)
+abbrev pub underWayIn : List ℕ → Activity → Engine
+underWayIn bs a = underWayOf bs (a .running) (a .program) (a .erase)
+
+abbrev pub underWay : State → Engine
+underWay s = underWayIn (s .buffer) (s .control .activity)
 
 -- which of the three go together
 abbrev pub Together : Running → SuspendedProgram → SuspendedErase → Type 0
 Together running.Idle p e = Unit {0}
 Together (running.Program l w) program.Nothing e = Unit {0}
 Together (running.Program l w) (program.Program k v) e = ⊥
+Together (running.Program l w) (program.Buffer k v d) e = ⊥
 Together (running.Erase b n) program.Nothing erase.Nothing = Unit {0}
 Together (running.Erase b n) program.Nothing (erase.Erase c m) = ⊥
 Together (running.Erase b n) (program.Program k v) e = ⊥
+Together (running.Erase b n) (program.Buffer k v d) e = ⊥
+Together (running.Buffer l n d) program.Nothing e = Unit {0}
+Together (running.Buffer l n d) (program.Program k v) e = ⊥
+Together (running.Buffer l n d) (program.Buffer k v i) e = ⊥
 
--- ---- the view answers as the device does
+-- ---- the stack answers as the device does
 
-held-under-way : (r : Running) (p : SuspendedProgram) (e : SuspendedErase) (q : Operation → Bool) → held? (underWayOf r p e) q ≡ anyLive q (addProgram p (addErase e))
-held-under-way running.Idle p e q = refl
-held-under-way (running.Program l w) p e q = refl
-held-under-way (running.Erase b n) p e q = refl
+module _ (bs : List ℕ) where
+  held-under-way : (r : Running) (p : SuspendedProgram) (e : SuspendedErase) (q : Operation → Bool) → held? (underWayOf bs r p e) q ≡ anyLive q (addProgram bs p (addErase e))
+  held-under-way running.Idle p e q = refl
+  held-under-way (running.Program l w) p e q = refl
+  held-under-way (running.Erase b n) p e q = refl
+  held-under-way (running.Buffer l n d) p e q = refl
 
-pub under-way-program : (r : Running) (p : SuspendedProgram) (e : SuspendedErase) → held? (underWayOf r p e) isProgram ≡ programSuspended p
-under-way-program r p e = held-under-way r p e isProgram ∙ go p e
-  where
-    go : (p : SuspendedProgram) (e : SuspendedErase) → anyLive isProgram (addProgram p (addErase e)) ≡ programSuspended p
-    go (program.Program l w) e = refl
-    go program.Nothing erase.Nothing = refl
-    go program.Nothing (erase.Erase b n) = refl
-
-pub under-way-any : (r : Running) (p : SuspendedProgram) (e : SuspendedErase) → held? (underWayOf r p e) isAny ≡ (programSuspended p || eraseSuspended e)
-under-way-any r p e = held-under-way r p e isAny ∙ go p e
-  where
-    go : (p : SuspendedProgram) (e : SuspendedErase) → anyLive isAny (addProgram p (addErase e)) ≡ (programSuspended p || eraseSuspended e)
-    go (program.Program l w) e = refl
-    go program.Nothing erase.Nothing = refl
-    go program.Nothing (erase.Erase b n) = refl
-
-under-way-erase : (r : Running) (p : SuspendedProgram) (e : SuspendedErase) → held? (underWayOf r p e) isErase ≡ eraseSuspended e
-under-way-erase r p e = held-under-way r p e isErase ∙ go p e
-  where
-    go : (p : SuspendedProgram) (e : SuspendedErase) → anyLive isErase (addProgram p (addErase e)) ≡ eraseSuspended e
-    go (program.Program l w) erase.Nothing = refl
-    go (program.Program l w) (erase.Erase b n) = refl
-    go program.Nothing erase.Nothing = refl
-    go program.Nothing (erase.Erase b n) = refl
-
-module _ (g : Geometry) where
-  under-way-erasing : (r : Running) (p : SuspendedProgram) (e : SuspendedErase) (b : ℕ) → held? (underWayOf r p e) (isEraseOf g b) ≡ erasing e b
-  under-way-erasing r p e b = held-under-way r p e (isEraseOf g b) ∙ go p e
+  pub under-way-program : (r : Running) (p : SuspendedProgram) (e : SuspendedErase) → held? (underWayOf bs r p e) isProgram ≡ programSuspended p
+  under-way-program r p e = held-under-way r p e isProgram ∙ go p e
     where
-      go : (p : SuspendedProgram) (e : SuspendedErase) → anyLive (isEraseOf g b) (addProgram p (addErase e)) ≡ erasing e b
+      go : (p : SuspendedProgram) (e : SuspendedErase) → anyLive isProgram (addProgram bs p (addErase e)) ≡ programSuspended p
+      go (program.Program l w) e = refl
+      go (program.Buffer l n d) e = refl
+      go program.Nothing erase.Nothing = refl
+      go program.Nothing (erase.Erase b n) = refl
+
+  pub under-way-any : (r : Running) (p : SuspendedProgram) (e : SuspendedErase) → held? (underWayOf bs r p e) isAny ≡ (programSuspended p || eraseSuspended e)
+  under-way-any r p e = held-under-way r p e isAny ∙ go p e
+    where
+      go : (p : SuspendedProgram) (e : SuspendedErase) → anyLive isAny (addProgram bs p (addErase e)) ≡ (programSuspended p || eraseSuspended e)
+      go (program.Program l w) e = refl
+      go (program.Buffer l n d) e = refl
+      go program.Nothing erase.Nothing = refl
+      go program.Nothing (erase.Erase b n) = refl
+
+module _ (g : Geometry) (bs : List ℕ) where
+  under-way-erasing : (r : Running) (p : SuspendedProgram) (e : SuspendedErase) (b : ℕ) → held? (underWayOf bs r p e) (isEraseOf g b) ≡ erasing e b
+  under-way-erasing r p e b = held-under-way bs r p e (isEraseOf g b) ∙ go p e
+    where
+      go : (p : SuspendedProgram) (e : SuspendedErase) → anyLive (isEraseOf g b) (addProgram bs p (addErase e)) ≡ erasing e b
       go (program.Program l w) erase.Nothing = refl
       go (program.Program l w) (erase.Erase c n) = or-false (eqb c b)
+      go (program.Buffer l n d) erase.Nothing = refl
+      go (program.Buffer l n d) (erase.Erase c i) = or-false (eqb c b)
       go program.Nothing erase.Nothing = refl
       go program.Nothing (erase.Erase c n) = or-false (eqb c b)
 
-  -- ---- the view moves as the device does
+  -- ---- the stack moves as the device does
 
-  -- an erase that runs lacks a word
+  -- an erase or a buffer program that runs lacks a word
   abbrev pub Lacking : Running → Type 0
   Lacking running.Idle = Unit {0}
   Lacking (running.Program l w) = Unit {0}
   Lacking (running.Erase b n) = n < sizeOf g b
+  Lacking (running.Buffer l n d) = d < n
 
-  pub under-way-worked : (n : ℕ) (r : Running) (p : SuspendedProgram) (e : SuspendedErase) → Lacking r
-      → underWayOf (runningAfter g r (unitsDone g r n)) p e ≡ engine-after g (units n) (underWayOf r p e)
-  unfolding runningAfter unitsDone unitsLeft
-  under-way-worked n running.Idle p e h = refl
-  under-way-worked n (running.Program l w) p e h = go (ltb (min n 1) 1) refl
+  -- what runs after n units were offered
+  abbrev afterUnits : ℕ → Running → Running
+  afterUnits n r = runningAfter g r (unitsDone g r n)
+
+  pub under-way-worked : (n : ℕ) (r : Running) (p : SuspendedProgram) (e : SuspendedErase) → Lacking r → Together r p e
+      → underWayOf (bufferAfter r (afterUnits n r) bs) (afterUnits n r) p e ≡ engine-after g (units n) (underWayOf bs r p e)
+  unfolding runningAfter unitsDone unitsLeft bufferAfter keptIf
+  under-way-worked n running.Idle p e h i = refl
+  under-way-worked n (running.Program l w) p e h i = go (ltb (min n 1) 1) refl
     where
       go : (t : Bool) → ltb (min n 1) 1 ≡ t
-          → underWayOf (cond t (running.Program l w) running.Idle) p e ≡ engine-after g (units n) (underWayOf (running.Program l w) p e)
+          → underWayOf bs (cond t (running.Program l w) running.Idle) p e ≡ engine-after g (units n) (underWayOf bs (running.Program l w) p e)
       go false x = rw (eq-eqb (0 + min n (1 - 0)) 1 (omega (arith, ltb-false (min n 1) 1 x)))
       go true x =
           let z : 0 + min n (1 - 0) ≡ 0 = omega (arith, ltb-true (min n 1) 1 x) in
           rw (ne-eqb (0 + min n (1 - 0)) 1 (λ y. omega arith), z)
-  under-way-worked n (running.Erase b u) p e h = go (ltb (u + min n (sizeOf g b - u)) (sizeOf g b)) refl
+  under-way-worked n (running.Erase b u) p e h i = go (ltb (u + min n (sizeOf g b - u)) (sizeOf g b)) refl
     where
       m : ℕ
       m = u + min n (sizeOf g b - u)
 
       go : (t : Bool) → ltb m (sizeOf g b) ≡ t
-          → underWayOf (cond t (running.Erase b m) running.Idle) p e ≡ engine-after g (units n) (underWayOf (running.Erase b u) p e)
+          → underWayOf bs (cond t (running.Erase b m) running.Idle) p e ≡ engine-after g (units n) (underWayOf bs (running.Erase b u) p e)
       go false x = rw (eq-eqb m (sizeOf g b) (omega (arith, ltb-false m (sizeOf g b) x)))
       go true x = let y = ltb-true m (sizeOf g b) x in rw (ne-eqb m (sizeOf g b) (λ z. omega arith))
+  under-way-worked n (running.Buffer l k u) (program.Program c v) e h i = absurd i
+  under-way-worked n (running.Buffer l k u) (program.Buffer c v d) e h i = absurd i
+  under-way-worked n (running.Buffer l k u) program.Nothing e h i = rw (words-length bs k) (go (ltb m k) refl)
+    where
+      m : ℕ
+      m = u + min n (k - u)
+
+      go : (t : Bool) → ltb m k ≡ t
+          → underWayOf (cond (runs (cond t (running.Buffer l k m) running.Idle)) bs emptyBuffer) (cond t (running.Buffer l k m) running.Idle) program.Nothing e
+          ≡ cond (eqb m k) (engine false (addErase e)) (engine true (live (recorder.buffer l (wordsIn bs k)) m ∷ addErase e))
+      go false x = rw (eq-eqb m k (omega (arith, ltb-false m k x)))
+      go true x = let y = ltb-true m k x in rw (ne-eqb m k (λ z. omega arith))
 
   one-word : (l n L : ℕ) → (eqb L l && ltb 0 (min n 1)) ≡ within (l + 0) (min n (1 - 0)) L
   one-word l n L = go (eqb L l) refl (ltb 0 (min n 1)) refl
@@ -169,11 +198,16 @@ module _ (g : Geometry) where
 
   -- the words after work, as the recorder's event has them
   pub words-under-way : (n : ℕ) (r : Running) (p : SuspendedProgram) (e : SuspendedErase) (m : ℕ → ℕ) (L : ℕ)
-      → wordAfter g r (unitsDone g r n) L (m L) ≡ words-after g (units n) (underWayOf r p e) m L
+      → wordAfter g bs r (unitsDone g r n) L (m L) ≡ words-after g (units n) (underWayOf bs r p e) m L
   unfolding wordAfter unitsDone unitsLeft
   words-under-way n running.Idle p e m L = refl
   words-under-way n (running.Program l w) p e m L = ap (λ (t : Bool). cond t (bitAnd (m L) w) (m L)) (one-word l n L)
   words-under-way n (running.Erase b u) p e m L = refl
+  words-under-way n (running.Buffer l k u) p e m L = rw (words-length bs k) (go (within (l + u) (min n (k - u)) L) refl)
+    where
+      go : (t : Bool) → within (l + u) (min n (k - u)) L ≡ t → cond t (bitAnd (m L) (getD bs (L - l) 0xFFFF)) (m L) ≡ cond t (bitAnd (m L) (getD (wordsIn bs k) (L - l) 0xFFFF)) (m L)
+      go true e = ap (λ (x : ℕ). bitAnd (m L) x) (sym (words-word bs k (L - l) (omega (arith, within-true (l + u) (min n (k - u)) L e))))
+      go false e = refl
 
 -- ---- the commands
 
@@ -189,6 +223,7 @@ bears command.ClearStatus = recorder.other-command
 bears command.SetUpProgram = recorder.program-command
 bears command.SetUpErase = recorder.erase-command
 bears command.SetUpLock = recorder.lock-command
+bears command.SetUpBuffer = recorder.buffer-command
 bears command.Unknown = recorder.other-command
 
 module _ (c : ℕ) where
@@ -220,31 +255,32 @@ module _ (c : ℕ) where
                     where
                       t₅ : (b : Bool) → eqb c 0x50 ≡ b → Agree c
                       t₅ true e = agree-at 0x50 refl e
-                      t₅ false e₅ = rw (e₁, e₂, e₃, e₄, e₅) (rest (eqb c 0xB0) (eqb c 0xD0) (eqb c 0x10) (eqb c 0x40) (eqb c 0x60) (eqb c 0x20))
+                      t₅ false e₅ = rw (e₁, e₂, e₃, e₄, e₅) (rest (eqb c 0xB0) (eqb c 0xD0) (eqb c 0x10) (eqb c 0x40) (eqb c 0x60) (eqb c 0x20) (eqb c 0xE8))
                         where
-                          rest : (a b d e f h : Bool)
-                              → cond a recorder.suspend-command (cond b recorder.resume-command (cond (d || e) recorder.program-command (cond f recorder.lock-command (cond h recorder.erase-command recorder.other-command))))
-                              ≡ bears (cond a command.Suspend (cond b command.Resume (cond false command.ClearStatus (cond d command.SetUpProgram (cond e command.SetUpProgram (cond f command.SetUpLock (cond h command.SetUpErase command.Unknown)))))))
-                          rest true b d e f h = refl
-                          rest false true d e f h = refl
-                          rest false false true e f h = refl
-                          rest false false false true f h = refl
-                          rest false false false false true h = refl
-                          rest false false false false false true = refl
-                          rest false false false false false false = refl
+                          rest : (a b d e f h i : Bool)
+                              → cond a recorder.suspend-command (cond b recorder.resume-command (cond (d || e) recorder.program-command (cond f recorder.lock-command (cond h recorder.erase-command (cond i recorder.buffer-command recorder.other-command)))))
+                              ≡ bears (cond a command.Suspend (cond b command.Resume (cond false command.ClearStatus (cond d command.SetUpProgram (cond e command.SetUpProgram (cond f command.SetUpLock (cond h command.SetUpErase (cond i command.SetUpBuffer command.Unknown))))))))
+                          rest true b d e f h i = refl
+                          rest false true d e f h i = refl
+                          rest false false true e f h i = refl
+                          rest false false false true f h i = refl
+                          rest false false false false true h i = refl
+                          rest false false false false false true i = refl
+                          rest false false false false false false true = refl
+                          rest false false false false false false false = refl
 
 -- ---- each step is an event
 
 -- the event of a step, by the recorder's rule on the device as it would see it
 abbrev pub eventOf : Geometry → State → Step → Event
-eventOf g s x = rule g (conditions s) (busy (underWay (s .control .activity))) (held? (underWay (s .control .activity))) x
+eventOf g s x = rule g (conditions s) (busy (underWay s)) (held? (underWay s)) x
 
 module _ (g : Geometry) where
   -- the state t is, in what bears on the array, what the event v makes of the state s; and v changes no word
   abbrev pub Follows : Event → State → State → Type 0
   Follows v s t =
-      (conditions t ≡ conditions-after v (conditions s)) × (underWay (t .control .activity) ≡ engine-after g v (underWay (s .control .activity)))
-      × ((m : ℕ → ℕ) → words-after g v (underWay (s .control .activity)) m ≡ m)
+      (conditions t ≡ conditions-after v (conditions s)) × (underWay t ≡ engine-after g v (underWay s))
+      × ((m : ℕ → ℕ) → words-after g v (underWay s) m ≡ m)
 
   pub follows-cond : (b : Bool) (v u : Event) (s x y : State) → (b ≡ true → Follows v s x) → (b ≡ false → Follows u s y) → Follows (cond b v u) s (cond b x y)
   follows-cond true v u s x y f h = f refl
@@ -253,28 +289,34 @@ module _ (g : Geometry) where
   -- ---- at a place
 
   module _ (s : State) (p : Place) where
-    -- what the recorder would see of the state with this view at the place
-    abbrev seen : View → Conditions
-    seen x = record { supply = x .control .supply; unprotected = λ c. cond (eqb c (p .block)) (x .unprotected) (isUnprotected (s .unprotected) c); setup = setupOf (x .control .activity .setup) }
+    -- what the recorder would see of the state with this buffer, and this view at the place
+    abbrev seen : List ℕ → View → Conditions
+    seen bs x = record { supply = x .control .supply; unprotected = λ c. cond (eqb c (p .block)) (x .unprotected) (isUnprotected (s .unprotected) c); setup = setupOf bs (x .control .activity .setup) }
 
-    -- the same of a view: y is what the event v makes of x
+    -- the same of a view: y, with the buffer bs, is what the event v makes of x
+    abbrev FollowsTo : Event → View → View → List ℕ → Type 0
+    FollowsTo v x y bs =
+        (seen bs y ≡ conditions-after v (seen (s .buffer) x)) × (underWayIn bs (y .control .activity) ≡ engine-after g v (underWayIn (s .buffer) (x .control .activity)))
+        × ((m : ℕ → ℕ) → words-after g v (underWayIn (s .buffer) (x .control .activity)) m ≡ m)
+
+    -- the buffer stays
     abbrev FollowsAt : Event → View → View → Type 0
-    FollowsAt v x y = (seen y ≡ conditions-after v (seen x)) × (underWay (y .control .activity) ≡ engine-after g v (underWay (x .control .activity))) × ((m : ℕ → ℕ) → words-after g v (underWay (x .control .activity)) m ≡ m)
+    FollowsAt v x y = FollowsTo v x y (s .buffer)
 
-    seen-own : conditions s ≡ seen (viewAt s p)
-    seen-own = ap (λ (u : ℕ → Bool). record { supply = s .control .supply; unprotected = u; setup = setupOf (s .control .activity .setup) }) (fun-ext (λ c. go c (eqb c (p .block)) refl))
+    seen-own : conditions s ≡ seen (s .buffer) (viewAt s p)
+    seen-own = ap (λ (u : ℕ → Bool). record { supply = s .control .supply; unprotected = u; setup = setupOf (s .buffer) (s .control .activity .setup) }) (fun-ext (λ c. go c (eqb c (p .block)) refl))
       where
         go : (c : ℕ) (b : Bool) → eqb c (p .block) ≡ b → isUnprotected (s .unprotected) c ≡ cond b (isUnprotected (s .unprotected) (p .block)) (isUnprotected (s .unprotected) c)
         go c true e = ap (isUnprotected (s .unprotected)) (eqb-true c (p .block) e)
         go c false e = refl
 
-    seen-put : length (s .unprotected) ≡ 5 → p .block < 259 → (y : View) → conditions (withView s p y) ≡ seen y
-    seen-put h i y =
-        ap (λ (u : ℕ → Bool). record { supply = y .control .supply; unprotected = u; setup = setupOf (y .control .activity .setup) }) (fun-ext (λ c. protection.with-each (s .unprotected) (p .block) c (y .unprotected) h i))
+    seen-put : length (s .unprotected) ≡ 5 → p .block < 259 → (y : View) (bs : List ℕ) → conditions (withBuffer (withView s p y) bs) ≡ seen bs y
+    seen-put h i y bs =
+        ap (λ (u : ℕ → Bool). record { supply = y .control .supply; unprotected = u; setup = setupOf bs (y .control .activity .setup) }) (fun-ext (λ c. protection.with-each (s .unprotected) (p .block) c (y .unprotected) h i))
 
     -- what is put back at the place follows where the view does
-    follows-put : length (s .unprotected) ≡ 5 → p .block < 259 → (v : Event) (y : View) → FollowsAt v (viewAt s p) y → Follows v s (withView s p y)
-    follows-put h i v y f = (seen-put h i y ∙ f .0 ∙ ap (conditions-after v) (sym seen-own), f .1, f .2)
+    follows-put : length (s .unprotected) ≡ 5 → p .block < 259 → (v : Event) (y : View) (bs : List ℕ) → FollowsTo v (viewAt s p) y bs → Follows v s (withBuffer (withView s p y) bs)
+    follows-put h i v y bs f = (seen-put h i y bs ∙ f .0 ∙ ap (conditions-after v) (sym seen-own), f .1, f .2)
 
     -- a view with these under way: every view is one, by its own
     abbrev at : View → Setup → Running → SuspendedProgram → SuspendedErase → View
@@ -288,9 +330,14 @@ module _ (g : Geometry) where
     follows-suspend x (running.Erase b n) program.Nothing erase.Nothing m = (refl, refl, λ m. refl)
     follows-suspend x (running.Erase b n) program.Nothing (erase.Erase c k) m = absurd m
     follows-suspend x (running.Erase b n) (program.Program k v) e m = absurd m
+    follows-suspend x (running.Program l w) (program.Buffer k v d) e m = absurd m
+    follows-suspend x (running.Erase b n) (program.Buffer k v d) e m = absurd m
+    follows-suspend x (running.Buffer l n d) program.Nothing e m = (refl, refl, λ m. refl)
+    follows-suspend x (running.Buffer l n d) (program.Program k v) e m = absurd m
+    follows-suspend x (running.Buffer l n d) (program.Buffer k v i) e m = absurd m
 
     follows-resume : (x : View) (r : Running) (q : SuspendedProgram) (e : SuspendedErase)
-        → FollowsAt (cond (runs r) nothing (cond (held? (underWayOf r q e) isProgram) resume-program (cond (held? (underWayOf r q e) isErase) resume-erase nothing)))
+        → FollowsAt (cond (runs r) nothing (cond (held? (underWayOf (s .buffer) r q e) isProgram) resume-program (cond (held? (underWayOf (s .buffer) r q e) isErase) resume-erase nothing)))
         (at x setup.Nothing r q e) (withActivity x (resume (activity setup.Nothing r q e)))
     unfolding resume
     follows-resume x running.Idle (program.Program l w) e = (refl, refl, λ m. refl)
@@ -298,16 +345,18 @@ module _ (g : Geometry) where
     follows-resume x running.Idle program.Nothing (erase.Erase b n) = (refl, refl, λ m. refl)
     follows-resume x (running.Program l w) q e = (refl, refl, λ m. refl)
     follows-resume x (running.Erase b n) q e = (refl, refl, λ m. refl)
+    follows-resume x running.Idle (program.Buffer l n d) e = (refl, refl, λ m. refl)
+    follows-resume x (running.Buffer l n d) q e = (refl, refl, λ m. refl)
 
-    follows-clear : (x : View) (b : Bool) (y : View) → seen y ≡ seen x → underWay (y .control .activity) ≡ underWay (x .control .activity) → FollowsAt nothing x (cond b x y)
+    follows-clear : (x : View) (b : Bool) (y : View) → seen (s .buffer) y ≡ seen (s .buffer) x → underWayIn (s .buffer) (y .control .activity) ≡ underWayIn (s .buffer) (x .control .activity) → FollowsAt nothing x (cond b x y)
     follows-clear x true y h k = (refl, refl, λ m. refl)
     follows-clear x false y h k = (h, k, λ m. refl)
 
     -- a set-up is accepted by the device exactly where the recorder begins it
-    follows-setup : (x : View) (c : Setup) (d : recorder.Setup) → setupOf c ≡ d → (b : Bool) → accepts (x .control .activity) c ≡ not b → FollowsAt (cond b nothing (setup-is d)) x (setUp x c)
+    follows-setup : (x : View) (c : Setup) (d : recorder.Setup) → setupOf (s .buffer) c ≡ d → (b : Bool) → accepts (x .control .activity) c ≡ not b → FollowsAt (cond b nothing (setup-is d)) x (setUp x c)
     unfolding setUp
     follows-setup x c d z true e = rw e (refl, refl, λ m. refl)
-    follows-setup x c d z false e = rw e (ap (λ (i : recorder.Setup). record { supply = x .control .supply; unprotected = seen x .unprotected; setup = i }) z, refl, λ m. refl)
+    follows-setup x c d z false e = rw e (ap (λ (i : recorder.Setup). record { supply = x .control .supply; unprotected = seen (s .buffer) x .unprotected; setup = i }) z, refl, λ m. refl)
 
     not-or : (a b : Bool) → (not a && not b) ≡ not (a || b)
     not-or true b = refl
@@ -319,7 +368,7 @@ module _ (g : Geometry) where
     not-or₃ false false c = refl
 
     follows-first : (x : View) (d : Conditions) (r : Running) (q : SuspendedProgram) (e : SuspendedErase) → Together r q e → (c : Command)
-        → FollowsAt (first-cycle g d (runs r) (held? (underWayOf r q e)) (bears c)) (at x setup.Nothing r q e) (firstCycle (at x setup.Nothing r q e) c)
+        → FollowsAt (first-cycle g d (runs r) (held? (underWayOf (s .buffer) r q e)) (p .block) (bears c)) (at x setup.Nothing r q e) (firstCycle (at x setup.Nothing r q e) p c)
     unfolding firstCycle clearStatus accepts
     follows-first x d r q e m command.ReadArray = (refl, refl, λ m. refl)
     follows-first x d r q e m command.ReadStatus = (refl, refl, λ m. refl)
@@ -329,11 +378,14 @@ module _ (g : Geometry) where
     follows-first x d r q e m command.Resume = follows-resume x r q e
     follows-first x d r q e m command.ClearStatus = follows-clear (at x setup.Nothing r q e) (runs r) _ refl refl
     follows-first x d r q e m command.SetUpProgram =
-        rw (under-way-program r q e) (follows-setup (at x setup.Nothing r q e) setup.Program program-setup refl (runs r || programSuspended q) (not-or (runs r) (programSuspended q)))
+        rw (under-way-program (s .buffer) r q e) (follows-setup (at x setup.Nothing r q e) setup.Program program-setup refl (runs r || programSuspended q) (not-or (runs r) (programSuspended q)))
     follows-first x d r q e m command.SetUpLock =
-        rw (under-way-program r q e) (follows-setup (at x setup.Nothing r q e) setup.Lock lock-setup refl (runs r || programSuspended q) (not-or (runs r) (programSuspended q)))
+        rw (under-way-program (s .buffer) r q e) (follows-setup (at x setup.Nothing r q e) setup.Lock lock-setup refl (runs r || programSuspended q) (not-or (runs r) (programSuspended q)))
+    follows-first x d r q e m command.SetUpBuffer =
+        rw (under-way-program (s .buffer) r q e)
+        (follows-setup (at x setup.Nothing r q e) (setup.BufferCount (p .block)) (count-setup (p .block)) refl (runs r || programSuspended q) (not-or (runs r) (programSuspended q)))
     follows-first x d r q e m command.SetUpErase =
-        rw (under-way-any r q e)
+        rw (under-way-any (s .buffer) r q e)
         (follows-setup (at x setup.Nothing r q e) setup.Erase erase-setup refl (runs r || (programSuspended q || eraseSuspended e)) (not-or₃ (runs r) (programSuspended q) (eraseSuspended e)))
     follows-first x d r q e m command.Unknown = (refl, refl, λ m. refl)
 
@@ -341,7 +393,7 @@ module _ (g : Geometry) where
 
     follows-program : (x : View) (c : Setup) (q : SuspendedProgram) (e : SuspendedErase) (w : ℕ) (t u z : Bool) → x .control .supply ≡ t → x .unprotected ≡ u → erasing e (p .block) ≡ z
         → FollowsAt (cond (t && (u && not z)) (accept (recorder.program (p .location) w)) (setup-is no-setup)) (at x c running.Idle q e) (programCycle (settle (at x c running.Idle q e)) p w)
-    unfolding programCycle settle
+    unfolding programRuns settle
     follows-program x c q e w false u z ht hu hz = rw ht (refl, refl, λ m. refl)
     follows-program x c q e w true false z ht hu hz = rw (ht, hu) (refl, refl, λ m. refl)
     follows-program x c q e w true true true ht hu hz = rw (ht, hu, hz) (refl, refl, λ m. refl)
@@ -376,34 +428,127 @@ module _ (g : Geometry) where
     follows-lock x c r q e d false false true hh hk hz = rw (hh, hk, hz) (refl, refl, λ m. refl)
     follows-lock x c r q e d false false false hh hk hz = rw (hh, hk, hz) (refl, refl, λ m. refl)
 
-  -- a write, by the set-up that is pending
-  follows-cycle : (s : State) (c : Setup) (r : Running) (q : SuspendedProgram) (e : SuspendedErase) → Together r q e → Ready (setupOf c) (runs r) (held? (underWayOf r q e)) → (a w : ℕ)
-      → FollowsAt s (placeOf g a)
-      (cycle g (conditions (state.withActivity s (activity c r q e))) (runs r) (held? (underWayOf r q e)) (setupOf c) (location g a) (w % 256) w)
-      (withActivity (viewAt s (placeOf g a)) (activity c r q e)) (writing.cycle (withActivity (viewAt s (placeOf g a)) (activity c r q e)) c (placeOf g a) w)
-  unfolding writing.cycle
-  follows-cycle s setup.Nothing r q e m y a w =
-      rw (commands-agree (w % 256)) (follows-first s (placeOf g a) (viewAt s (placeOf g a)) (conditions (state.withActivity s (activity setup.Nothing r q e))) r q e m (commandOf (w % 256)))
-  follows-cycle s setup.Program running.Idle q e m y a w =
-      rw (under-way-erasing g running.Idle q e (blockOf g (location g a)))
-      (follows-program s (placeOf g a) (viewAt s (placeOf g a)) setup.Program q e w (s .control .supply) (isUnprotected (s .unprotected) (blockOf g (location g a))) (erasing e (blockOf g (location g a))) refl refl refl)
-  follows-cycle s setup.Program (running.Program l v) q e m y a w = absurd (true≢false (y .0))
-  follows-cycle s setup.Program (running.Erase b n) q e m y a w = absurd (true≢false (y .0))
-  follows-cycle s setup.Erase running.Idle program.Nothing erase.Nothing m y a w =
-      follows-erase s (placeOf g a) (viewAt s (placeOf g a)) setup.Erase (w % 256) (eqb (w % 256) 0xD0) (s .control .supply) (isUnprotected (s .unprotected) (blockOf g (location g a))) refl refl refl
-  follows-cycle s setup.Erase running.Idle program.Nothing (erase.Erase b n) m y a w = absurd (true≢false (y .1))
-  follows-cycle s setup.Erase running.Idle (program.Program l v) e m y a w = absurd (true≢false (y .1))
-  follows-cycle s setup.Erase (running.Program l v) q e m y a w = absurd (true≢false (y .0))
-  follows-cycle s setup.Erase (running.Erase b n) q e m y a w = absurd (true≢false (y .0))
-  follows-cycle s setup.Lock r q e m y a w =
-      follows-lock s (placeOf g a) (viewAt s (placeOf g a)) setup.Lock r q e (w % 256) (eqb (w % 256) 0x01) (eqb (w % 256) 0xD0) (eqb (w % 256) 0x03) refl refl refl
+    -- ---- the cycles of a load. Nothing else is under way but a suspended erase, so that the buffer is the load's alone
 
-  -- and of the state
-  pub follows-written : (s : State) → Together (s .control .activity .running) (s .control .activity .program) (s .control .activity .erase) → Ready (setupOf (s .control .activity .setup)) (runs (s .control .activity .running)) (held? (underWay (s .control .activity)))
-      → length (s .unprotected) ≡ 5 → (a w : ℕ) → blockOf g (location g a) < 259
-      → Follows (cycle g (conditions s) (runs (s .control .activity .running)) (held? (underWay (s .control .activity))) (setupOf (s .control .activity .setup)) (location g a) (w % 256) w) s (writtenAt s (placeOf g a) w)
-  unfolding writtenAt
-  follows-written s m y h a w k =
-      follows-put s (placeOf g a) h k (cycle g (conditions s) (runs (s .control .activity .running)) (held? (underWay (s .control .activity))) (setupOf (s .control .activity .setup)) (location g a) (w % 256) w)
-      (writing.cycle (viewAt s (placeOf g a)) (s .control .activity .setup) (placeOf g a) w)
-      (follows-cycle s (s .control .activity .setup) (s .control .activity .running) (s .control .activity .program) (s .control .activity .erase) m y a w)
+    abbrev loading : View → Setup → SuspendedErase → View
+    loading x c e = at x c running.Idle program.Nothing e
+
+    -- where the cycle is right, the load goes on, with the buffer f true
+    follows-loads : (x : View) (c : Setup) (e : SuspendedErase) (t : Setup) (d : recorder.Setup) (f : Bool → List ℕ) (b : Bool) → (b ≡ true → setupOf (f true) t ≡ d)
+        → FollowsTo (cond b (setup-is d) (setup-is no-setup)) (loading x c e) (loads b (loading x c e) t) (f b)
+    unfolding loads settle
+    follows-loads x c e t d f true z = (ap (λ (i : recorder.Setup). record { supply = x .control .supply; unprotected = seen (s .buffer) x .unprotected; setup = i }) (z refl), refl, λ m. refl)
+    follows-loads x c e t d f false z = (refl, refl, λ m. refl)
+
+    follows-first-word : (x : View) (b n : ℕ) (e : SuspendedErase) (w : ℕ) → 0 < n → n ≤ 32 → (o : Bool)
+        → FollowsTo (cond o (setup-is (words-setup (p .location) (set (replicate n 0xFFFF) 0 w) (n - 1))) (setup-is no-setup)) (loading x (setup.BufferFirst b n) e)
+        (loads o (loading x (setup.BufferFirst b n) e) (setup.BufferWords (p .location) n (n - 1))) (cond o (firstLoaded n w) (s .buffer))
+    follows-first-word x b n e w h k o =
+        follows-loads x (setup.BufferFirst b n) e (setup.BufferWords (p .location) n (n - 1)) (words-setup (p .location) (set (replicate n 0xFFFF) 0 w) (n - 1))
+        (λ o. cond o (firstLoaded n w) (s .buffer)) o (λ z. ap (λ (ws : List ℕ). words-setup (p .location) ws (n - 1)) (words-first n w h k))
+
+    follows-later-word : (x : View) (l n due : ℕ) (e : SuspendedErase) (w : ℕ) → length (s .buffer) ≡ 32 → n ≤ 32
+        → FollowsTo (cond (within l n (p .location)) (setup-is (words-setup l (set (wordsIn (s .buffer) n) (p .location - l) w) (due - 1))) (setup-is no-setup))
+        (loading x (setup.BufferWords l n due) e) (loads (laterRight l n p) (loading x (setup.BufferWords l n due) e) (setup.BufferWords l n (due - 1)))
+        (keptIf (laterRight l n p) (set (s .buffer) (p .location - l) w))
+    unfolding laterRight keptIf
+    follows-later-word x l n due e w h k =
+        follows-loads x (setup.BufferWords l n due) e (setup.BufferWords l n (due - 1)) (words-setup l (set (wordsIn (s .buffer) n) (p .location - l) w) (due - 1))
+        (λ o. cond o (set (s .buffer) (p .location - l) w) emptyBuffer) (within l n (p .location))
+        (λ z. ap (λ (ws : List ℕ). words-setup l ws (due - 1)) (words-later (s .buffer) n (p .location - l) w h k (omega (arith, within-true l n (p .location) z))))
+
+    follows-confirm : (x : View) (l n due : ℕ) (e : SuspendedErase) (w : ℕ) (o t u z : Bool) → confirmRight g l p w ≡ o → x .control .supply ≡ t → x .unprotected ≡ u → erasing e (p .block) ≡ z
+        → FollowsTo (cond (o && (t && (u && not z))) (accept (recorder.buffer l (wordsIn (s .buffer) n))) (setup-is no-setup)) (loading x (setup.BufferWords l n due) e)
+        (confirmCycle g (loading x (setup.BufferWords l n due) e) l n p w)
+        (keptIf (runs (confirmCycle g (loading x (setup.BufferWords l n due) e) l n p w .control .activity .running)) (s .buffer))
+    unfolding confirmCycle programRuns settle keptIf
+    follows-confirm x l n due e w false t u z ho ht hu hz = rw ho (refl, refl, λ m. refl)
+    follows-confirm x l n due e w true false u z ho ht hu hz = rw (ho, ht) (refl, refl, λ m. refl)
+    follows-confirm x l n due e w true true false z ho ht hu hz = rw (ho, ht, hu) (refl, refl, λ m. refl)
+    follows-confirm x l n due e w true true true true ho ht hu hz = rw (ho, ht, hu, hz) (refl, refl, λ m. refl)
+    follows-confirm x l n due e w true true true false ho ht hu hz = rw (ho, ht, hu, hz) (refl, refl, λ m. refl)
+
+  -- a write, by the set-up that is pending
+  module _ (s : State) (a w : ℕ) where
+    abbrev seenAs : Setup → Running → SuspendedProgram → SuspendedErase → View
+    seenAs c r q e = withActivity (viewAt s (placeOf g a)) (activity c r q e)
+
+    -- the recorder's event of the write, and the device's view and buffer after it
+    abbrev Goes : Setup → Running → SuspendedProgram → SuspendedErase → Type 0
+    Goes c r q e =
+        FollowsTo s (placeOf g a)
+        (cycle g (conditions (state.withActivity s (activity c r q e))) (runs r) (held? (underWayOf (s .buffer) r q e)) (setupOf (s .buffer) c) (location g a) (w % 256) w)
+        (seenAs c r q e) (writing.cycle g (seenAs c r q e) c (placeOf g a) w)
+        (loaded g c (placeOf g a) w (writing.cycle g (seenAs c r q e) c (placeOf g a) w .control .activity .running) (s .buffer))
+
+    abbrev ReadyAt : Setup → Running → SuspendedProgram → SuspendedErase → Type 0
+    ReadyAt c r q e = Ready g (setupOf (s .buffer) c) (runs r) (held? (underWayOf (s .buffer) r q e))
+
+    -- nothing runs and no program is suspended
+    lone : (c : Setup) (r : Running) (q : SuspendedProgram) (e : SuspendedErase) → runs r ≡ false → held? (underWayOf (s .buffer) r q e) isProgram ≡ false
+        → Goes c running.Idle program.Nothing e → Goes c r q e
+    lone c running.Idle program.Nothing e i k f = f
+    lone c running.Idle (program.Program l v) e i k f = absurd (true≢false k)
+    lone c running.Idle (program.Buffer l n d) e i k f = absurd (true≢false k)
+    lone c (running.Program l v) q e i k f = absurd (true≢false i)
+    lone c (running.Erase b n) q e i k f = absurd (true≢false i)
+    lone c (running.Buffer l n d) q e i k f = absurd (true≢false i)
+
+    goes-words : (l n due : ℕ) (e : SuspendedErase) → length (s .buffer) ≡ 32 → n ≤ 32 → Goes (setup.BufferWords l n due) running.Idle program.Nothing e
+    unfolding writing.cycle wordsCycle loaded wordsLoaded confirmRight
+    goes-words l n due e h k = rw (words-length (s .buffer) n) (go (eqb due 0))
+      where
+        go : (b : Bool) → FollowsTo s (placeOf g a)
+            (cond b (confirm-cycle g (conditions (state.withActivity s (activity (setup.BufferWords l n due) running.Idle program.Nothing e))) false (held? (underWayOf (s .buffer) running.Idle program.Nothing e)) l (wordsIn (s .buffer) n) (location g a) (w % 256))
+            (cond (within l n (location g a)) (setup-is (words-setup l (set (wordsIn (s .buffer) n) (location g a - l) w) (due - 1))) (setup-is no-setup)))
+            (seenAs (setup.BufferWords l n due) running.Idle program.Nothing e)
+            (cond b (confirmCycle g (seenAs (setup.BufferWords l n due) running.Idle program.Nothing e) l n (placeOf g a) w)
+            (loads (laterRight l n (placeOf g a)) (seenAs (setup.BufferWords l n due) running.Idle program.Nothing e) (setup.BufferWords l n (due - 1))))
+            (cond b (keptIf (runs ((cond b (confirmCycle g (seenAs (setup.BufferWords l n due) running.Idle program.Nothing e) l n (placeOf g a) w)
+            (loads (laterRight l n (placeOf g a)) (seenAs (setup.BufferWords l n due) running.Idle program.Nothing e) (setup.BufferWords l n (due - 1)))) .control .activity .running)) (s .buffer))
+            (keptIf (laterRight l n (placeOf g a)) (set (s .buffer) (location g a - l) w)))
+        go true =
+            rw (under-way-erasing g (s .buffer) running.Idle program.Nothing e (blockOf g (location g a)))
+            (follows-confirm s (placeOf g a) (viewAt s (placeOf g a)) l n due e w (eqb (w % 256) 0xD0 && eqb (blockOf g (location g a)) (blockOf g l)) (s .control .supply)
+            (isUnprotected (s .unprotected) (blockOf g (location g a))) (erasing e (blockOf g (location g a))) refl refl refl refl)
+        go false = follows-later-word s (placeOf g a) (viewAt s (placeOf g a)) l n due e w h k
+
+    follows-cycle : (c : Setup) (r : Running) (q : SuspendedProgram) (e : SuspendedErase) → Together r q e → ReadyAt c r q e → length (s .buffer) ≡ 32 → Goes c r q e
+    unfolding writing.cycle loaded countRight firstRight
+    follows-cycle setup.Nothing r q e m y h =
+        rw (commands-agree (w % 256)) (follows-first s (placeOf g a) (viewAt s (placeOf g a)) (conditions (state.withActivity s (activity setup.Nothing r q e))) r q e m (commandOf (w % 256)))
+    follows-cycle setup.Program running.Idle q e m y h =
+        rw (under-way-erasing g (s .buffer) running.Idle q e (blockOf g (location g a)))
+        (follows-program s (placeOf g a) (viewAt s (placeOf g a)) setup.Program q e w (s .control .supply) (isUnprotected (s .unprotected) (blockOf g (location g a))) (erasing e (blockOf g (location g a))) refl refl refl)
+    follows-cycle setup.Program (running.Program l v) q e m y h = absurd (true≢false (y .0))
+    follows-cycle setup.Program (running.Erase b n) q e m y h = absurd (true≢false (y .0))
+    follows-cycle setup.Program (running.Buffer l n d) q e m y h = absurd (true≢false (y .0))
+    follows-cycle setup.Erase running.Idle program.Nothing erase.Nothing m y h =
+        follows-erase s (placeOf g a) (viewAt s (placeOf g a)) setup.Erase (w % 256) (eqb (w % 256) 0xD0) (s .control .supply) (isUnprotected (s .unprotected) (blockOf g (location g a))) refl refl refl
+    follows-cycle setup.Erase running.Idle program.Nothing (erase.Erase b n) m y h = absurd (true≢false (y .1))
+    follows-cycle setup.Erase running.Idle (program.Program l v) e m y h = absurd (true≢false (y .1))
+    follows-cycle setup.Erase running.Idle (program.Buffer l n d) e m y h = absurd (true≢false (y .1))
+    follows-cycle setup.Erase (running.Program l v) q e m y h = absurd (true≢false (y .0))
+    follows-cycle setup.Erase (running.Erase b n) q e m y h = absurd (true≢false (y .0))
+    follows-cycle setup.Erase (running.Buffer l n d) q e m y h = absurd (true≢false (y .0))
+    follows-cycle setup.Lock r q e m y h =
+        follows-lock s (placeOf g a) (viewAt s (placeOf g a)) setup.Lock r q e (w % 256) (eqb (w % 256) 0x01) (eqb (w % 256) 0xD0) (eqb (w % 256) 0x03) refl refl refl
+    follows-cycle (setup.BufferCount b) r q e m y h = lone (setup.BufferCount b) r q e (y .0) (y .1)
+        (follows-loads s (placeOf g a) (viewAt s (placeOf g a)) (setup.BufferCount b) e (setup.BufferFirst b (w + 1)) (first-setup b (w + 1)) (λ o. s .buffer) (eqb (blockOf g (location g a)) b && leb w 31) (λ z. refl))
+    follows-cycle (setup.BufferFirst b n) r q e m y h = lone (setup.BufferFirst b n) r q e (y .0) (y .1)
+        (follows-first-word s (placeOf g a) (viewAt s (placeOf g a)) b n e w (y .3) (y .4) (eqb (blockOf g (location g a)) b && leb (location g a + n) (startOf g b + sizeOf g b)))
+    follows-cycle (setup.BufferWords l n due) r q e m y h = lone (setup.BufferWords l n due) r q e (y .0) (y .1) (goes-words l n due e h (omega (arith, y .3 .2, words-length (s .buffer) n)))
+
+-- and of the state
+pub follows-written : (s : State) → Together (s .control .activity .running) (s .control .activity .program) (s .control .activity .erase)
+    → Ready (state.geometry s) (setupOf (s .buffer) (s .control .activity .setup)) (runs (s .control .activity .running)) (held? (underWay s))
+    → length (s .unprotected) ≡ 5 → length (s .buffer) ≡ 32 → (a w : ℕ) → blockOf (state.geometry s) (location (state.geometry s) a) < 259
+    → Follows (state.geometry s)
+    (cycle (state.geometry s) (conditions s) (runs (s .control .activity .running)) (held? (underWay s)) (setupOf (s .buffer) (s .control .activity .setup)) (location (state.geometry s) a) (w % 256) w)
+    s (writtenAt s (placeOf (state.geometry s) a) w)
+unfolding writtenAt
+follows-written s m y h i a w k =
+    follows-put (state.geometry s) s (placeOf (state.geometry s) a) h k
+    (cycle (state.geometry s) (conditions s) (runs (s .control .activity .running)) (held? (underWay s)) (setupOf (s .buffer) (s .control .activity .setup)) (location (state.geometry s) a) (w % 256) w)
+    (cycleAt s (placeOf (state.geometry s) a) w) (loadedAt s (placeOf (state.geometry s) a) w (cycleAt s (placeOf (state.geometry s) a) w .control .activity .running))
+    (follows-cycle (state.geometry s) s a w (s .control .activity .setup) (s .control .activity .running) (s .control .activity .program) (s .control .activity .erase) m y i)

@@ -1,21 +1,23 @@
--- Cases beside document 01's twelve, computed as those are, for each rule of document 01 that the twelve leave open: a rule that is written down wrong makes a
+-- Cases beside document 01's twelve, computed as those are, for each rule of document 01 that the twelve leave open, and of document 02, item 1: a rule that is written down wrong makes a
 -- case fail, and the error stands at the `tt` of its list.
 -- Assumes nothing.
 use lib.Dec.{T}
 use Rattle.geometry.specs.Blocks.{mirror, blockFrom, blockOf, bankOf, sizeOf, startFrom, startOf, bankStart, blockOffset, bankOffset, bankOfBlock, lookupOf}
 use Rattle.protection.specs.Words.{bit, bitAt, isUnprotected, withUnprotected, spareZero, allProtected, count, least, unprotectedCount, lowestUnprotected, reportOf}
-use Rattle.semantics.specs.State.{powerUp}
-use Rattle.semantics.specs.WellFormed.{runningAlone, programAlone, eraseAlone, eraseFits, runningFits, programFits, suspendedEraseFits, allFit, runningApart, programApart, apart, activityFormed, wellFormed}
+use Rattle.semantics.specs.Tabulate.{tabulate}
+use Rattle.semantics.specs.State.{emptyBuffer, powerUp}
+use Rattle.semantics.specs.WellFormed.{runningAlone, programAlone, eraseAlone, eraseFits, wordsFit, bufferFits, setupFits, runningFits, programFits, suspendedEraseFits, allFit, runningApart, programApart, apart, activityFormed, setupPlaces, runningPlaces, programPlaces, placesUsed, zeroFrom, wellFormed}
 use Rattle.semantics.specs.Reading.{runsIn, statusWord, signatureWord, queryWord, shown, showsBy, readIn, readWord}
-use Rattle.semantics.specs.Writing.{commandOf, resume, accepts, setUp, clearStatus, firstCycle, programCycle, eraseCycle, lockCommandOf, lockCycle, settle, cycle, writtenAt, written}
-use Rattle.semantics.specs.Working.{unitsLeft, unitsDone, runningAfter, wordAfter, tabulate, arrayAfter, workedOn, worked, workedArray}
+use Rattle.semantics.specs.Writing.{commandOf, resume, accepts, setUp, clearStatus, firstCycle, programRuns, eraseCycle, lockCommandOf, lockCycle, settle, loads, countRight, firstRight, laterRight, confirmRight, confirmCycle, wordsCycle, cycle, keptIf, firstLoaded, wordsLoaded, loaded, writtenAt, written}
+use Rattle.semantics.specs.Working.{unitsLeft, unitsDone, runningAfter, wordAfter, arrayAfter, bufferAfter, workedOn, worked, workedArray}
 use Rattle.semantics.specs.Steps.{locationRefusal, addressRefusal, countRefusal, stepRefusal, stateRefusal, firstRefusal, refusalOf, accepted, acceptedArray, stepOf, arrayOf, reportedOf}
 use Rattle.semantics.specs.Cases.{every}
 use Rattle.semantics.specs.ReadingCases.{readingCases}
 use Rattle.semantics.specs.WritingCases.{writingCases}
 use Rattle.semantics.specs.OperationCases.{operationCases}
 use Rattle.semantics.specs.RefusalCases.{refusalCases}
+use Rattle.semantics.specs.BufferCases.{bufferCases}
 
-pub further-hold : T (every readingCases) × T (every writingCases) × T (every operationCases) × T (every refusalCases)
-unfolding mirror blockFrom blockOf bankOf sizeOf startFrom startOf bankStart blockOffset bankOffset bankOfBlock lookupOf bit bitAt isUnprotected withUnprotected spareZero allProtected count least unprotectedCount lowestUnprotected reportOf powerUp runningAlone programAlone eraseAlone eraseFits runningFits programFits suspendedEraseFits allFit runningApart programApart apart activityFormed wellFormed runsIn statusWord signatureWord queryWord shown showsBy readIn readWord commandOf resume accepts setUp clearStatus firstCycle programCycle eraseCycle lockCommandOf lockCycle settle cycle writtenAt written unitsLeft unitsDone runningAfter wordAfter tabulate arrayAfter workedOn worked workedArray locationRefusal addressRefusal countRefusal stepRefusal stateRefusal firstRefusal refusalOf accepted acceptedArray stepOf arrayOf reportedOf
-further-hold = (tt, tt, tt, tt)
+pub further-hold : T (every readingCases) × T (every writingCases) × T (every operationCases) × T (every refusalCases) × T (every bufferCases)
+unfolding mirror blockFrom blockOf bankOf sizeOf startFrom startOf bankStart blockOffset bankOffset bankOfBlock lookupOf bit bitAt isUnprotected withUnprotected spareZero allProtected count least unprotectedCount lowestUnprotected reportOf emptyBuffer powerUp runningAlone programAlone eraseAlone eraseFits wordsFit bufferFits setupFits runningFits programFits suspendedEraseFits allFit runningApart programApart apart activityFormed setupPlaces runningPlaces programPlaces placesUsed zeroFrom wellFormed runsIn statusWord signatureWord queryWord shown showsBy readIn readWord commandOf resume accepts setUp clearStatus firstCycle programRuns eraseCycle lockCommandOf lockCycle settle loads countRight firstRight laterRight confirmRight confirmCycle wordsCycle cycle keptIf firstLoaded wordsLoaded loaded writtenAt written unitsLeft unitsDone runningAfter wordAfter tabulate arrayAfter bufferAfter workedOn worked workedArray locationRefusal addressRefusal countRefusal stepRefusal stateRefusal firstRefusal refusalOf accepted acceptedArray stepOf arrayOf reportedOf
+further-hold = (tt, tt, tt, tt, tt)

@@ -20,11 +20,11 @@ use Rattle.semantics.specs.declared.Bank.{Bank}
 use Rattle.semantics.specs.declared.Place.{Place}
 use Rattle.semantics.specs.declared.View.{View}
 use Rattle.semantics.specs.declared.Worked.{Worked}
-use Rattle.semantics.specs.State.{geometry, withControl, withSupply, powerUp}
+use Rattle.semantics.specs.State.{geometry, withControl, withBuffer, withSupply, powerUp}
 use Rattle.semantics.specs.View.{placeOf, viewAt}
 use Rattle.semantics.specs.Reading.{readWord}
-use Rattle.semantics.specs.Writing.{cycle, writtenAt, written}
-use Rattle.semantics.specs.Working.{unitsDone, arrayAfter, workedOn, worked, workedArray}
+use Rattle.semantics.specs.Writing.{cycleAt, loadedAt, writtenAt, written}
+use Rattle.semantics.specs.Working.{unitsDone, arrayAfter, bufferAfter, workedOn, worked, workedArray}
 use Rattle.semantics.specs.WellFormed.{wellFormed}
 use Rattle.semantics.specs.Steps.{stateRefusal, stepRefusal, firstRefusal, refusalOf, next, accepted, acceptedArray, stepOf, arrayOf}
 use Rattle.semantics.specs.Invariant.{Kept, kept-step, length-kept, state-good}
@@ -35,6 +35,7 @@ pub record Held (a : ℕ) (s : State) (xs : List ℕ) : Type 0 where
   pub same : a ≡ stateRefusal s (length xs)
   pub sixteen : length (s .banks) ≡ 16
   pub five : length (s .unprotected) ≡ 5
+  pub thirty-two : length (s .buffer) ≡ 32
 
 both : (a b : Bool) → _≡_ {A = ℕ} (cond a (cond b 0 2) 1) 0 → (a ≡ true) × (b ≡ true)
 both true true h = (refl, refl)
@@ -45,12 +46,12 @@ good-both : (s : State) (n : ℕ) → stateRefusal s n ≡ 0 → (eqb n (words (
 unfolding stateRefusal
 good-both s n h = both (eqb n (words (geometry s))) (wellFormed s) h
 
-good-next : (s : State) (xs : List ℕ) (x : Step) → length (s .unprotected) ≡ 5 → stateRefusal s (length xs) ≡ 0 → stateRefusal (stepOf s xs x .state) (length (arrayOf s xs x)) ≡ 0
-good-next s xs x f h =
+good-next : (s : State) (xs : List ℕ) (x : Step) → length (s .unprotected) ≡ 5 → length (s .buffer) ≡ 32 → stateRefusal s (length xs) ≡ 0 → stateRefusal (stepOf s xs x .state) (length (arrayOf s xs x)) ≡ 0
+good-next s xs x f i h =
     let b = good-both s (length xs) h in
     let k : Kept s (stepOf s xs x .state) = kept-step s xs x f in
     state-good (stepOf s xs x .state) (length (arrayOf s xs x))
-    (length-kept s xs x ∙ eqb-true (length xs) (words (geometry s)) (b .0) ∙ ap (λ (p : Part). words (geometryOf p)) (sym (k .part))) (keeps s xs x f (b .1))
+    (length-kept s xs x ∙ eqb-true (length xs) (words (geometry s)) (b .0) ∙ ap (λ (p : Part). words (geometryOf p)) (sym (k .part))) (keeps s xs x f i (b .1))
 
 -- where the state or the array is refused, every step is, alike
 bad-next : (s : State) (xs : List ℕ) (x : Step) → eqb (stateRefusal s (length xs)) 0 ≡ false → (stepOf s xs x .state ≡ s) × (arrayOf s xs x ≡ xs)
@@ -61,10 +62,10 @@ bad-next s xs x h = (rw (h, h), rw (h, h))
 pub held-next : (a : ℕ) (s : State) (xs : List ℕ) (x : Step) → Held a s xs → Held a (stepOf s xs x .state) (arrayOf s xs x)
 held-next a s xs x r =
     let k : Kept s (stepOf s xs x .state) = kept-step s xs x (r .five) in
-    record { same = r .same ∙ sym (go (eqb (stateRefusal s (length xs)) 0) refl); sixteen = k .sixteen (r .sixteen); five = k .five ∙ r .five }
+    record { same = r .same ∙ sym (go (eqb (stateRefusal s (length xs)) 0) refl); sixteen = k .sixteen (r .sixteen); five = k .five ∙ r .five; thirty-two = k .thirty-two (r .thirty-two) }
   where
     go : (b : Bool) → eqb (stateRefusal s (length xs)) 0 ≡ b → stateRefusal (stepOf s xs x .state) (length (arrayOf s xs x)) ≡ stateRefusal s (length xs)
-    go true e = let z = eqb-true (stateRefusal s (length xs)) 0 e in good-next s xs x (r .five) z ∙ sym z
+    go true e = let z = eqb-true (stateRefusal s (length xs)) 0 e in good-next s xs x (r .five) (r .thirty-two) z ∙ sym z
     go false e = let q = bad-next s xs x e in rw (q .0, q .1)
 
 -- the state t, the answer a and the array ys are what the step x makes of the state and the array
@@ -89,17 +90,18 @@ module _ (c : ℕ) (s : State) (xs : List ℕ) (r : Held c s xs) (x : Step) (d e
   unfolding accepted acceptedArray
   does-read b w h q i j k l = done (Read b) h q (rw (j, k, i)) l
 
-  -- the view that is put back field by field: k is the bank with its mode, u the protection words with its protection
-  pub does-write : (b w : ℕ) (p : Place) (v : View) (k : Bank) (u : List ℕ) → e ≡ 0 → x ≡ Write b w → p ≡ placeOf (geometry s) b → v ≡ cycle (viewAt s p) (s .control .activity .setup) p w
-      → k ≡ record { mode = v .mode } → u ≡ withUnprotected (s .unprotected) (p .block) (v .unprotected)
-      → t ≡ record { part = s .part; banks = set (s .banks) (p .bank) k; unprotected = u; control = v .control } → a ≡ Done → ys ≡ xs → Does s xs x t a ys
+  -- the view that is put back field by field: k is the bank with its mode, u the protection words with its protection, c the buffer
+  pub does-write : (b w : ℕ) (p : Place) (v : View) (k : Bank) (u c : List ℕ) → e ≡ 0 → x ≡ Write b w → p ≡ placeOf (geometry s) b → v ≡ cycleAt s p w
+      → k ≡ record { mode = v .mode } → u ≡ withUnprotected (s .unprotected) (p .block) (v .unprotected) → c ≡ loadedAt s p w (v .control .activity .running)
+      → t ≡ record { part = s .part; banks = set (s .banks) (p .bank) k; unprotected = u; control = v .control; buffer = c } → a ≡ Done → ys ≡ xs → Does s xs x t a ys
   unfolding accepted acceptedArray written writtenAt
-  does-write b w p v k u h q i j m n l o r = done (Write b w) h q (rw (l, n, m, j, i, o)) r
+  does-write b w p v k u c h q i j m n y l o r = done (Write b w) h q (rw (l, y, n, m, j, i, o)) r
 
-  pub does-work : (n : ℕ) (o : Worked) → e ≡ 0 → x ≡ Work n → o ≡ workedOn (geometry s) (s .control) n → t ≡ withControl s (o .control) → a ≡ Units (o .units)
-      → ys ≡ arrayAfter (geometry s) (s .control .activity .running) (unitsDone (geometry s) (s .control .activity .running) n) xs → Does s xs x t a ys
+  pub does-work : (n : ℕ) (o : Worked) (c : List ℕ) → e ≡ 0 → x ≡ Work n → o ≡ workedOn (geometry s) (s .control) n → c ≡ bufferAfter (s .control .activity .running) (o .control .activity .running) (s .buffer)
+      → t ≡ withBuffer (withControl s (o .control)) c → a ≡ Units (o .units)
+      → ys ≡ arrayAfter (geometry s) (s .buffer) (s .control .activity .running) (unitsDone (geometry s) (s .control .activity .running) n) xs → Does s xs x t a ys
   unfolding accepted acceptedArray workedOn worked workedArray
-  does-work n o h q i j k l = done (Work n) h q (rw (j, k, i)) l
+  does-work n o c h q i y j k l = done (Work n) h q (rw (j, y, k, i)) l
 
   pub does-supply : (on : Bool) → e ≡ 0 → x ≡ Supply on → t ≡ withSupply s on → a ≡ Done → ys ≡ xs → Does s xs x t a ys
   unfolding accepted acceptedArray

@@ -3,7 +3,7 @@
 -- Assumes nothing.
 use mathlib.Core.Path.{_≡_, refl, sym, ap, _∙_, subst, subst₂, fun-ext}
 use mathlib.Core.List.{List, [], _∷_, foldl, reverse, reverseAux}
-use mathlib.Core.Bool.{Bool, true, false, cond, not, _&&_}
+use mathlib.Core.Bool.{Bool, true, false, cond, not, _&&_, true≢false}
 use mathlib.Core.Logic.{_⊎_, inl, inr}
 use Prim.Native.Nat.{ℕ, zero, suc, _+_, _-_, _≤_, _<_, _%_, min}
 use native.Mathlib.Omega.{arith}
@@ -18,7 +18,10 @@ use Rattle.geometry.specs.Laws as laws
 use Rattle.protection.specs.Words.{spareZero}
 use Rattle.protection.specs.Laws as protection
 use Rattle.semantics.specs.declared.Activity.{Activity}
+use Rattle.semantics.specs.declared.Setup.{Setup}
+use Rattle.semantics.specs.declared.Setup.the-variants as setup
 use Rattle.semantics.specs.declared.Running.{Running}
+use Rattle.semantics.specs.declared.Running.the-variants as running
 use Rattle.semantics.specs.declared.State.{State}
 use Rattle.semantics.specs.declared.Step.{Step}
 use Rattle.semantics.specs.declared.Step.the-variants.{Read, Write, Work, Supply, Reset}
@@ -27,11 +30,11 @@ use Rattle.semantics.specs.declared.Answer.the-variants.{Word, Units, Do
 use Rattle.semantics.specs.declared.Next.{Next}
 use Rattle.semantics.specs.declared.Place.{Place}
 use Rattle.semantics.specs.declared.View.{View}
-use Rattle.semantics.specs.State.{geometry, withSupply, powerUp}
+use Rattle.semantics.specs.State.{geometry, withSupply, withBuffer, powerUp, runs}
 use Rattle.semantics.specs.View.{placeOf, withView}
-use Rattle.semantics.specs.WellFormed.{wellFormed, activityFormed}
-use Rattle.semantics.specs.Writing.{written, writtenAt}
-use Rattle.semantics.specs.Working.{unitsDone, workedOn, worked, workedArray}
+use Rattle.semantics.specs.WellFormed.{wellFormed, activityFormed, placesUsed, zeroFrom}
+use Rattle.semantics.specs.Writing.{cycleAt, written, writtenAt}
+use Rattle.semantics.specs.Working.{unitsDone, runningAfter, bufferAfter, workedOn, worked, workedArray}
 use Rattle.semantics.specs.Arrays.{array-length, array-word}
 use Rattle.semantics.specs.Steps.{locationRefusal, addressRefusal, countRefusal, stepRefusal, stateRefusal, firstRefusal, refusalOf, next, accepted, acceptedArray, stepOf, arrayOf, Machine, after, afterAll, fresh}
 use Rattle.semantics.specs.Entries as entries
@@ -41,6 +44,8 @@ use Rattle.semantics.specs.Recorder.{Operation, Event, nothing, supplied
 use Rattle.semantics.specs.Engine.{Engine, busy, stack, held?, engine-after, words-after, Ready, Ok, rule-ok, Sim, sim-do, words-after-ok, rules-agree, Matches, After}
 use Rattle.semantics.specs.Follows.{conditions, underWay, underWayOf, setupOf, eventOf, Together, Lacking, Follows, follows-written, under-way-worked, words-under-way}
 use Rattle.semantics.specs.Formed.{together, lacking, formed}
+use Rattle.semantics.specs.Buffer.{zero-empty}
+use Rattle.semantics.specs.Spare.{Spared, length-empty, length-loaded, length-after, spared-written, spared-worked}
 
 -- ---- refusals
 
@@ -92,7 +97,7 @@ pub length-accepted : (s : State) (xs : List ℕ) (x : Step) → length (accepte
 unfolding acceptedArray workedArray
 length-accepted s xs (Read a) = refl
 length-accepted s xs (Write a w) = refl
-length-accepted s xs (Work n) = array-length _ _ _ xs
+length-accepted s xs (Work n) = array-length _ _ _ _ xs
 length-accepted s xs (Supply on) = refl
 length-accepted s xs Reset = refl
 
@@ -113,8 +118,8 @@ wordsOf xs L = getD xs L 0
 -- what a step makes of a state and an array is what the event v makes of them
 abbrev pub Steps : Event → State → List ℕ → State → List ℕ → Type 0
 Steps v s xs t ys =
-    (conditions t ≡ conditions-after v (conditions s)) × (underWay (t .control .activity) ≡ engine-after (geometry s) v (underWay (s .control .activity)))
-    × ((L : ℕ) → L < length xs → wordsOf ys L ≡ words-after (geometry s) v (underWay (s .control .activity)) (wordsOf xs) L)
+    (conditions t ≡ conditions-after v (conditions s)) × (underWay t ≡ engine-after (geometry s) v (underWay s))
+    × ((L : ℕ) → L < length xs → wordsOf ys L ≡ words-after (geometry s) v (underWay s) (wordsOf xs) L)
 
 abbrev Steps-of : Event → State → List ℕ → Step → Type 0
 Steps-of v s xs x = Steps v s xs (stepOf s xs x .state) (arrayOf s xs x)
@@ -122,9 +127,24 @@ Steps-of v s xs x = Steps v s xs (stepOf s xs x .state) (arrayOf s xs x)
 -- the pieces of the invariant that a step asks for
 pub record Fit (s : State) : Type 0 where
   pub alone : Together (s .control .activity .running) (s .control .activity .program) (s .control .activity .erase)
-  pub lacks : Lacking (geometry s) (s .control .activity .running)
-  pub ready : Ready (setupOf (s .control .activity .setup)) (busy (underWay (s .control .activity))) (held? (underWay (s .control .activity)))
+  pub lacks : Lacking (geometry s) (s .buffer) (s .control .activity .running)
+  pub ready : Ready (geometry s) (setupOf (s .buffer) (s .control .activity .setup)) (busy (underWay s)) (held? (underWay s))
   pub five : length (s .unprotected) ≡ 5
+  pub thirty-two : length (s .buffer) ≡ 32
+
+-- a load has the buffer to itself: where something runs, none stands, and where nothing runs, work leaves the buffer
+setup-stays : (g : Geometry) (c : Setup) (r t : Running) (bs : List ℕ) (h : (Operation → Bool) → Bool) → Ready g (setupOf bs c) (runs r) h → setupOf (bufferAfter r t bs) c ≡ setupOf bs c
+unfolding bufferAfter
+setup-stays g c running.Idle t bs h y = refl
+setup-stays g c (running.Program l w) t bs h y = refl
+setup-stays g c (running.Erase b n) t bs h y = refl
+setup-stays g setup.Nothing (running.Buffer l n d) t bs h y = refl
+setup-stays g setup.Program (running.Buffer l n d) t bs h y = refl
+setup-stays g setup.Erase (running.Buffer l n d) t bs h y = refl
+setup-stays g setup.Lock (running.Buffer l n d) t bs h y = refl
+setup-stays g (setup.BufferCount b) (running.Buffer l n d) t bs h y = refl
+setup-stays g (setup.BufferFirst b i) (running.Buffer l n d) t bs h y = refl
+setup-stays g (setup.BufferWords a i k) (running.Buffer l n d) t bs h y = absurd (true≢false (y .0))
 
 no-conditions-yet : (s : State) → conditions (withSupply (powerUp (s .part)) (s .control .supply)) ≡ conditions-after was-reset (conditions s)
 unfolding powerUp
@@ -149,8 +169,8 @@ module _ (s : State) (xs : List ℕ) (good : stateRefusal s (length xs) ≡ 0) (
   steps-write a w (inl h) =
       let k : blockOf (geometry s) (location (geometry s) a) < 259 = laws.part-block-lt (s .part) (location (geometry s) a) (laws.location-lt (geometry s) sound a) in
       rw (lt-ltb a 16777216 h)
-      (quiet (recorder.cycle (geometry s) (conditions s) (busy (underWay (s .control .activity))) (held? (underWay (s .control .activity))) (setupOf (s .control .activity .setup)) (location (geometry s) a) (w % 256) w) (Write a w)
-      (written s a w) (address-good (geometry s) sound a h) refl refl (follows-written (geometry s) s (fit .alone) (fit .ready) (fit .five) a w k))
+      (quiet (recorder.cycle (geometry s) (conditions s) (busy (underWay s)) (held? (underWay s)) (setupOf (s .buffer) (s .control .activity .setup)) (location (geometry s) a) (w % 256) w) (Write a w)
+      (written s a w) (address-good (geometry s) sound a h) refl refl (follows-written s (fit .alone) (fit .ready) (fit .five) (fit .thirty-two) a w k))
   steps-write a w (inr h) = rw (le-ltb a 16777216 h) (refused-nothing (Write a w) 2 (address-bad (geometry s) a h))
 
   steps-read : (a : ℕ) → (a < 16777216) ⊎ (16777216 ≤ a) → Steps-of nothing s xs (Read a)
@@ -163,9 +183,11 @@ module _ (s : State) (xs : List ℕ) (good : stateRefusal s (length xs) ≡ 0) (
   steps-work n (inl h) = rw (lt-leb n 65535 h) (refused-nothing (Work n) 3 (count-bad n h))
   steps-work n (inr h) =
       rw (le-leb n 65535 h, step-done s xs good (Work n) (count-good n h), array-done s xs good (Work n) (count-good n h)) (
-        refl,
-        under-way-worked (geometry s) n (s .control .activity .running) (s .control .activity .program) (s .control .activity .erase) (fit .lacks),
-        λ L k. array-word _ _ _ xs L k ∙ words-under-way (geometry s) n (s .control .activity .running) (s .control .activity .program) (s .control .activity .erase) (wordsOf xs) L,
+        ap (λ (c : recorder.Setup). record { supply = s .control .supply; unprotected = conditions s .unprotected; setup = c })
+            (setup-stays (geometry s) (s .control .activity .setup) (s .control .activity .running) (runningAfter (geometry s) (s .control .activity .running) (unitsDone (geometry s) (s .control .activity .running) n)) (s .buffer)
+            (held? (underWay s)) (fit .ready)),
+        under-way-worked (geometry s) (s .buffer) n (s .control .activity .running) (s .control .activity .program) (s .control .activity .erase) (fit .lacks) (fit .alone),
+        λ L k. array-word _ _ _ _ xs L k ∙ words-under-way (geometry s) (s .buffer) n (s .control .activity .running) (s .control .activity .program) (s .control .activity .erase) (wordsOf xs) L,
       )
 
   -- every step is the event that the recorder's rule makes of it
@@ -177,28 +199,56 @@ module _ (s : State) (xs : List ℕ) (good : stateRefusal s (length xs) ≡ 0) (
   steps (Supply on) = quiet (supplied on) (Supply on) (withSupply s on) refl refl refl (refl, refl, λ m. refl)
   steps Reset = quiet was-reset Reset (withSupply (powerUp (s .part)) (s .control .supply)) refl refl refl (no-conditions-yet s, refl, λ m. refl)
 
+  -- and leaves no word in a place of the buffer that is not in use
+  spared-accepted : (x : Step) → Spared (s .control .activity) (s .buffer) → Spared (accepted s xs x .state .control .activity) (accepted s xs x .state .buffer)
+  unfolding accepted written workedOn worked powerUp
+  spared-accepted (Read a) h = h
+  spared-accepted (Write a w) h = spared-written s (fit .alone) (fit .ready) (placeOf (geometry s) a) w h
+  spared-accepted (Work n) h =
+      spared-worked (geometry s) (s .control .activity .setup) (s .control .activity .running) (s .control .activity .program) (s .control .activity .erase)
+      (unitsDone (geometry s) (s .control .activity .running) n) (s .buffer) h
+  spared-accepted (Supply on) h = h
+  spared-accepted Reset h = zero-empty _
+
+  pub spared-step : (x : Step) → Spared (s .control .activity) (s .buffer) → Spared (stepOf s xs x .state .control .activity) (stepOf s xs x .state .buffer)
+  unfolding stepOf
+  spared-step x h = go (eqb (refusalOf s (length xs) x) 0)
+    where
+      go : (b : Bool) → Spared ((cond b (accepted s xs x) (next s (Refused (refusalOf s (length xs) x)))) .state .control .activity) ((cond b (accepted s xs x) (next s (Refused (refusalOf s (length xs) x)))) .state .buffer)
+      go true = spared-accepted x h
+      go false = h
+
 -- ---- what no step changes
 
--- the part, the banks' number and the protection words' number, and their spare bits where these are zero
+-- the part, the banks' number, the protection words' number, and their spare bits where these are zero, and the buffer's length
 pub record Kept (s t : State) : Type 0 where
   pub part : t .part ≡ s .part
   pub sixteen : length (s .banks) ≡ 16 → length (t .banks) ≡ 16
   pub five : length (t .unprotected) ≡ length (s .unprotected)
   pub spare : spareZero (s .unprotected) ≡ true → spareZero (t .unprotected) ≡ true
+  pub thirty-two : length (s .buffer) ≡ 32 → length (t .buffer) ≡ 32
 
-kept : (s t : State) → t .part ≡ s .part → t .banks ≡ s .banks → t .unprotected ≡ s .unprotected → Kept s t
-kept s t p b u = record { part = p; sixteen = λ h. ap length b ∙ h; five = ap length u; spare = λ h. ap spareZero u ∙ h }
+kept : (s t : State) → t .part ≡ s .part → t .banks ≡ s .banks → t .unprotected ≡ s .unprotected → (length (s .buffer) ≡ 32 → length (t .buffer) ≡ 32) → Kept s t
+kept s t p b u c = record { part = p; sixteen = λ h. ap length b ∙ h; five = ap length u; spare = λ h. ap spareZero u ∙ h; thirty-two = c }
 
-kept-view : (s : State) (p : Place) (v : View) → Kept s (withView s p v)
-kept-view s p v = record { part = refl; sixteen = λ h. length-set (s .banks) (p .bank) (record { mode = v .mode }) ∙ h; five = protection.with-length (s .unprotected) (p .block) (v .unprotected); spare = protection.with-spare (s .unprotected) (p .block) (v .unprotected) }
+kept-view : (s : State) (p : Place) (v : View) (bs : List ℕ) → (length (s .buffer) ≡ 32 → length bs ≡ 32) → Kept s (withBuffer (withView s p v) bs)
+kept-view s p v bs c = record {
+  part = refl;
+  sixteen = λ h. length-set (s .banks) (p .bank) (record { mode = v .mode }) ∙ h;
+  five = protection.with-length (s .unprotected) (p .block) (v .unprotected);
+  spare = protection.with-spare (s .unprotected) (p .block) (v .unprotected);
+  thirty-two = c;
+}
 
 kept-accepted : (s : State) (xs : List ℕ) (x : Step) → length (s .unprotected) ≡ 5 → Kept s (accepted s xs x .state)
 unfolding accepted written writtenAt workedOn worked powerUp
-kept-accepted s xs (Read a) h = kept s _ refl refl refl
-kept-accepted s xs (Write a w) h = kept-view s (placeOf (geometry s) a) _
-kept-accepted s xs (Work n) h = kept s _ refl refl refl
-kept-accepted s xs (Supply on) h = kept s _ refl refl refl
-kept-accepted s xs Reset h = record { part = refl; sixteen = λ z. refl; five = protection.all-length ∙ sym h; spare = λ z. protection.all-spare }
+kept-accepted s xs (Read a) h = kept s s refl refl refl (λ z. z)
+kept-accepted s xs (Write a w) h =
+    kept-view s (placeOf (geometry s) a) (cycleAt s (placeOf (geometry s) a) w) (writtenAt s (placeOf (geometry s) a) w .buffer)
+    (length-loaded (geometry s) (s .control .activity .setup) (placeOf (geometry s) a) w (cycleAt s (placeOf (geometry s) a) w .control .activity .running) (s .buffer))
+kept-accepted s xs (Work n) h = kept s (worked s n) refl refl refl (length-after (s .control .activity .running) (worked s n .control .activity .running) (s .buffer))
+kept-accepted s xs (Supply on) h = kept s (withSupply s on) refl refl refl (λ z. z)
+kept-accepted s xs Reset h = record { part = refl; sixteen = λ z. refl; five = protection.all-length ∙ sym h; spare = λ z. protection.all-spare; thirty-two = λ z. length-empty }
 
 pub kept-step : (s : State) (xs : List ℕ) (x : Step) → length (s .unprotected) ≡ 5 → Kept s (stepOf s xs x .state)
 unfolding stepOf
@@ -206,7 +256,7 @@ kept-step s xs x h = go (eqb (refusalOf s (length xs) x) 0)
   where
     go : (b : Bool) → Kept s ((cond b (accepted s xs x) (next s (Refused (refusalOf s (length xs) x)))) .state)
     go true = kept-accepted s xs x h
-    go false = kept s _ refl refl refl
+    go false = kept s s refl refl refl (λ z. z)
 
 -- ---- the invariant: the device and the recorder agree, and the words are the journal's
 
@@ -215,8 +265,10 @@ pub record Agree (p : Part) (xs₀ : List ℕ) (m : Machine) (c : Recorder) : Ty
   pub size : length (m .array) ≡ words (geometryOf p)
   pub five : length (m .state .unprotected) ≡ 5
   pub spare : spareZero (m .state .unprotected) ≡ true
+  pub thirty-two : length (m .state .buffer) ≡ 32
+  pub spared : Spared (m .state .control .activity) (m .state .buffer)
   pub same : conditions (m .state) ≡ c .conditions
-  pub sim : Sim (geometryOf p) (conditions (m .state)) (underWay (m .state .control .activity)) (c .journal)
+  pub sim : Sim (geometryOf p) (conditions (m .state)) (underWay (m .state)) (c .journal)
   pub word : (L : ℕ) → L < words (geometryOf p) → wordsOf (m .array) L ≡ After (geometryOf p) (c .journal) L (wordsOf xs₀ L)
 
 -- a state that agrees is well formed, so that 1 and 2 do not come
@@ -225,9 +277,9 @@ unfolding wellFormed
 agree-formed p xs₀ m c a =
     let s : State = m .state in
     let f : activityFormed (geometryOf p) (s .control .activity) ≡ true =
-    formed (geometryOf p) (laws.sound p) (conditions s) (s .control .activity .setup) (s .control .activity .running) (s .control .activity .program) (s .control .activity .erase) (c .journal) refl (a .sim)
+    formed (geometryOf p) (s .buffer) (laws.sound p) (conditions s) (s .control .activity .setup) (s .control .activity .running) (s .control .activity .program) (s .control .activity .erase) (c .journal) refl (a .sim)
     in
-    rw (a .part, f, a .spare)
+    rw (a .part, f, a .spare, a .spared)
 
 agree-good : (p : Part) (xs₀ : List ℕ) (m : Machine) (c : Recorder) → Agree p xs₀ m c → stateRefusal (m .state) (length (m .array)) ≡ 0
 agree-good p xs₀ m c a = state-good (m .state) (length (m .array)) (a .size ∙ ap (λ (q : Part). words (geometryOf q)) (sym (a .part))) (agree-formed p xs₀ m c a)
@@ -237,12 +289,13 @@ agree-own : (p : Part) (xs₀ : List ℕ) (m : Machine) (c : Recorder) → Agree
 agree-own p xs₀ m c a = subst (λ (q : Part). Agree q xs₀ m c) (sym (a .part)) a
 
 -- what a step asks for, from the agreement
-pub agree-fit : (s : State) (d : Conditions) (j : List (Entry Operation)) → length (s .unprotected) ≡ 5 → Sim (geometry s) (conditions s) (underWay (s .control .activity)) j → Fit s
-agree-fit s d j h sim = record {
-  alone = together (geometry s) (s .control .activity .running) (s .control .activity .program) (s .control .activity .erase) (sim .order);
-  lacks = lacking (geometry s) (s .control .activity .running) (s .control .activity .program) (s .control .activity .erase) j (sim .match);
+pub agree-fit : (s : State) (d : Conditions) (j : List (Entry Operation)) → length (s .unprotected) ≡ 5 → length (s .buffer) ≡ 32 → Sim (geometry s) (conditions s) (underWay s) j → Fit s
+agree-fit s d j h i sim = record {
+  alone = together (geometry s) (s .buffer) (s .control .activity .running) (s .control .activity .program) (s .control .activity .erase) (sim .order);
+  lacks = lacking (geometry s) (s .buffer) (s .control .activity .running) (s .control .activity .program) (s .control .activity .erase) j (sim .match);
   ready = sim .ready;
   five = h;
+  thirty-two = i;
 }
 
 -- one step keeps the agreement
@@ -254,9 +307,11 @@ agree-step xs₀ m c x a =
       size = length-kept s xs x ∙ a .size;
       five = k .five ∙ a .five;
       spare = k .spare (a .spare);
+      thirty-two = k .thirty-two (a .thirty-two);
+      spared = spared-step s xs (agree-good (s .part) xs₀ m c a) i x (a .spared);
       same = f .0 ∙ ap (λ (d : Conditions). conditions-after v d) (a .same);
-      sim = subst₂ (λ d e. Sim g d e (journal-after g v (c .journal))) (sym (f .0)) (sym (f .1)) (sim-do g (laws.sound (s .part)) (conditions s) (underWay (s .control .activity)) (c .journal) v o (a .sim));
-      word = λ L h. f .2 L (omega (arith, a .size)) ∙ words-after-ok g v (conditions s) (underWay (s .control .activity)) (c .journal) (wordsOf xs) L (wordsOf xs₀ L) (a .sim) (a .word L h);
+      sim = subst₂ (λ d e. Sim g d e (journal-after g v (c .journal))) (sym (f .0)) (sym (f .1)) (sim-do g (laws.sound (s .part)) (conditions s) (underWay s) (c .journal) v o (a .sim));
+      word = λ L h. f .2 L (omega (arith, a .size)) ∙ words-after-ok g v (conditions s) (underWay s) (c .journal) (wordsOf xs) L (wordsOf xs₀ L) (a .sim) (a .word L h);
     })
   where
     s : State
@@ -271,11 +326,14 @@ agree-step xs₀ m c x a =
     v : Event
     v = eventOf (geometry (m .state)) (m .state) x
 
-    o : Ok (geometry (m .state)) (setupOf (m .state .control .activity .setup)) (busy (underWay (m .state .control .activity))) (held? (underWay (m .state .control .activity))) v
-    o = rule-ok (geometry (m .state)) (laws.sound (m .state .part)) (conditions (m .state)) (busy (underWay (m .state .control .activity))) (held? (underWay (m .state .control .activity))) (a .sim .ready) x
+    o : Ok (geometry (m .state)) (setupOf (m .state .buffer) (m .state .control .activity .setup)) (busy (underWay (m .state))) (held? (underWay (m .state))) v
+    o = rule-ok (geometry (m .state)) (laws.sound (m .state .part)) (conditions (m .state)) (busy (underWay (m .state))) (held? (underWay (m .state))) (a .sim .ready) x
+
+    i : Fit (m .state)
+    i = agree-fit (m .state) (c .conditions) (c .journal) (a .five) (a .thirty-two) (a .sim)
 
     f : Steps-of v (m .state) (m .array) x
-    f = steps (m .state) (m .array) (agree-good (m .state .part) xs₀ m c a) (agree-fit (m .state) (c .conditions) (c .journal) (a .five) (a .sim)) x
+    f = steps (m .state) (m .array) (agree-good (m .state .part) xs₀ m c a) i x
 
     k : Kept (m .state) (stepOf (m .state) (m .array) x .state)
     k = kept-step (m .state) (m .array) x (a .five)
@@ -283,7 +341,7 @@ agree-step xs₀ m c x a =
     q : event (geometry (m .state)) x c ≡ v
     q =
         ap (λ (d : Conditions). event (geometry (m .state)) x (record { conditions = d; journal = c .journal })) (sym (a .same))
-        ∙ rules-agree (geometry (m .state)) x (conditions (m .state)) (underWay (m .state .control .activity)) (c .journal) (a .sim)
+        ∙ rules-agree (geometry (m .state)) x (conditions (m .state)) (underWay (m .state)) (c .journal) (a .sim)
 
 pub agree-after : (p : Part) (xs₀ : List ℕ) (m : Machine) (c : Recorder) (x : Step) → Agree p xs₀ m c → Agree p xs₀ (after m x) (recorded (geometryOf p) c x)
 agree-after p xs₀ m c x a =
@@ -301,7 +359,9 @@ agree-fresh p xs h = record {
   size = h;
   five = protection.all-length;
   spare = protection.all-spare;
+  thirty-two = length-empty;
+  spared = zero-empty _;
   same = ap (λ (u : ℕ → Bool). record { supply = false; unprotected = u; setup = recorder.no-setup }) (fun-ext (λ b. protection.all-none b));
-  sim = record { match = entries.start; order = tt; inside = tt; ready = tt };
+  sim = record { match = entries.start; order = tt; inside = tt; lying = tt; ready = tt };
   word = λ L k. refl;
 }

@@ -14,26 +14,32 @@ use Rattle.protection.specs.Words.{spareZero}
 use Rattle.semantics.specs.declared.State.{State}
 use Rattle.semantics.specs.declared.Step.{Step}
 use Rattle.semantics.specs.State.{geometry}
-use Rattle.semantics.specs.WellFormed.{wellFormed, activityFormed}
+use Rattle.semantics.specs.WellFormed.{wellFormed, activityFormed, placesUsed, zeroFrom}
 use Rattle.semantics.specs.Steps.{stateRefusal, firstRefusal, refusalOf, stepRefusal, next, stepOf, arrayOf}
 use Rattle.semantics.specs.Entries.{Entry}
 use Rattle.semantics.specs.Recorder.{Operation, Event, journal-after}
 use Rattle.semantics.specs.Engine.{busy, held?, Sim, rule-ok, sim-do, and-true-l, and-true-r}
 use Rattle.semantics.specs.Follows.{conditions, underWay, eventOf}
 use Rattle.semantics.specs.Formed.{formed, own, formed-own}
-use Rattle.semantics.specs.Invariant.{Steps, Kept, steps, state-good, kept-step, agree-fit}
+use Rattle.semantics.specs.Invariant.{Steps, Fit, Kept, steps, spared-step, state-good, kept-step, agree-fit}
 
 -- on an array of the part's length
-keeps-good : (s : State) (xs : List ℕ) (x : Step) → length (s .unprotected) ≡ 5 → length xs ≡ words (geometry s) → wellFormed s ≡ true → wellFormed (stepOf s xs x .state) ≡ true
+keeps-good : (s : State) (xs : List ℕ) (x : Step) → length (s .unprotected) ≡ 5 → length (s .buffer) ≡ 32 → length xs ≡ words (geometry s) → wellFormed s ≡ true → wellFormed (stepOf s xs x .state) ≡ true
 unfolding wellFormed
-keeps-good s xs x h n w = rw (q, z, k .spare (and-true-r (activityFormed (geometry s) (s .control .activity)) _ w))
+keeps-good s xs x h b n w = rw (q, z, k .spare (and-true-l (spareZero (s .unprotected)) _ rest), spared-step s xs (state-good s (length xs) n w) fit x (and-true-r (spareZero (s .unprotected)) _ rest))
   where
-    j : List (Entry Operation)
-    j = own (geometry s) (s .control .activity .running) (s .control .activity .program) (s .control .activity .erase)
+    rest : (spareZero (s .unprotected) && zeroFrom (placesUsed (s .control .activity)) (s .buffer)) ≡ true
+    rest = and-true-r (activityFormed (geometry s) (s .control .activity)) _ w
 
-    i : Sim (geometry s) (conditions s) (underWay (s .control .activity)) j
-    i = formed-own (geometry s) (laws.sound (s .part)) (conditions s) (s .control .activity .setup) (s .control .activity .running) (s .control .activity .program) (s .control .activity .erase) refl
+    j : List (Entry Operation)
+    j = own (geometry s) (s .buffer) (s .control .activity .running) (s .control .activity .program) (s .control .activity .erase)
+
+    i : Sim (geometry s) (conditions s) (underWay s) j
+    i = formed-own (geometry s) (s .buffer) (laws.sound (s .part)) (conditions s) (s .control .activity .setup) (s .control .activity .running) (s .control .activity .program) (s .control .activity .erase) refl
         (and-true-l (activityFormed (geometry s) (s .control .activity)) _ w)
+
+    fit : Fit s
+    fit = agree-fit s (conditions s) j h b i
 
     v : Event
     v = eventOf (geometry s) s x
@@ -42,7 +48,7 @@ keeps-good s xs x h n w = rw (q, z, k .spare (and-true-r (activityFormed (geomet
     t = stepOf s xs x .state
 
     f : Steps v s xs t (arrayOf s xs x)
-    f = steps s xs (state-good s (length xs) n w) (agree-fit s (conditions s) j h i) x
+    f = steps s xs (state-good s (length xs) n w) fit x
 
     k : Kept s t
     k = kept-step s xs x h
@@ -50,22 +56,22 @@ keeps-good s xs x h n w = rw (q, z, k .spare (and-true-r (activityFormed (geomet
     q : geometry t ≡ geometry s
     q = ap geometryOf (k .part)
 
-    y : Sim (geometry s) (conditions t) (underWay (t .control .activity)) (journal-after (geometry s) v j)
+    y : Sim (geometry s) (conditions t) (underWay t) (journal-after (geometry s) v j)
     y = subst₂ (λ d e. Sim (geometry s) d e (journal-after (geometry s) v j)) (sym (f .0)) (sym (f .1))
-        (sim-do (geometry s) (laws.sound (s .part)) (conditions s) (underWay (s .control .activity)) j v
-        (rule-ok (geometry s) (laws.sound (s .part)) (conditions s) (busy (underWay (s .control .activity))) (held? (underWay (s .control .activity))) (i .ready) x) i)
+        (sim-do (geometry s) (laws.sound (s .part)) (conditions s) (underWay s) j v
+        (rule-ok (geometry s) (laws.sound (s .part)) (conditions s) (busy (underWay s)) (held? (underWay s)) (i .ready) x) i)
 
     z : activityFormed (geometry s) (t .control .activity) ≡ true
-    z = formed (geometry s) (laws.sound (s .part)) (conditions t) (t .control .activity .setup) (t .control .activity .running) (t .control .activity .program) (t .control .activity .erase) (journal-after (geometry s) v j) refl y
+    z = formed (geometry s) (t .buffer) (laws.sound (s .part)) (conditions t) (t .control .activity .setup) (t .control .activity .running) (t .control .activity .program) (t .control .activity .erase) (journal-after (geometry s) v j) refl y
 
 refused-back : (s : State) (xs : List ℕ) (x : Step) → eqb (length xs) (words (geometry s)) ≡ false → stepOf s xs x .state ≡ s
 unfolding stepOf refusalOf firstRefusal stateRefusal
 refused-back s xs x e = rw e
 
 -- on any array: one of another length is refused, and the state given back
-pub keeps : (s : State) (xs : List ℕ) (x : Step) → length (s .unprotected) ≡ 5 → wellFormed s ≡ true → wellFormed (stepOf s xs x .state) ≡ true
-keeps s xs x h w = go (eqb (length xs) (words (geometry s))) refl
+pub keeps : (s : State) (xs : List ℕ) (x : Step) → length (s .unprotected) ≡ 5 → length (s .buffer) ≡ 32 → wellFormed s ≡ true → wellFormed (stepOf s xs x .state) ≡ true
+keeps s xs x h i w = go (eqb (length xs) (words (geometry s))) refl
   where
     go : (b : Bool) → eqb (length xs) (words (geometry s)) ≡ b → wellFormed (stepOf s xs x .state) ≡ true
-    go true e = keeps-good s xs x h (eqb-true (length xs) (words (geometry s)) e) w
+    go true e = keeps-good s xs x h i (eqb-true (length xs) (words (geometry s)) e) w
     go false e = ap wellFormed (refused-back s xs x e) ∙ w

@@ -12,6 +12,7 @@ use Rattle.semantics.specs.declared.State.{State}
 use Rattle.semantics.specs.declared.Step.{Step}
 use Rattle.semantics.specs.declared.Step.the-variants.{Read, Write, Work, Supply, Reset}
 use Rattle.semantics.specs.declared.Answer.the-variants.{Refused}
+use Rattle.semantics.specs.declared.Place.{Place}
 use Rattle.semantics.specs.declared.View.{View}
 use Rattle.semantics.specs.State.{withProtection, withSupply}
 use Rattle.semantics.specs.View as view
@@ -59,8 +60,8 @@ unfolding workedArray workedOn worked accepted
 work-looks-at-neither s on ws n xs = (refl, refl, refl, refl)
 
 -- "Protecting a block whose erase is suspended does not stop that erase when resumed.": nor does supply off
-pub resume-looks-at-neither : (v : View) (on u : Bool)
-    → (firstCycle (view.withSupply v on) command.Resume ≡ view.withSupply (firstCycle v command.Resume) on)
-    × (firstCycle (view.withProtection v u) command.Resume ≡ view.withProtection (firstCycle v command.Resume) u)
+pub resume-looks-at-neither : (v : View) (p : Place) (on u : Bool)
+    → (firstCycle (view.withSupply v on) p command.Resume ≡ view.withSupply (firstCycle v p command.Resume) on)
+    × (firstCycle (view.withProtection v u) p command.Resume ≡ view.withProtection (firstCycle v p command.Resume) u)
 unfolding firstCycle
-resume-looks-at-neither v on u = (refl, refl)
+resume-looks-at-neither v p on u = (refl, refl)

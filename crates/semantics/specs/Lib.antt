@@ -1,4 +1,5 @@
 pub mod Numbers
+pub mod Tabulate
 pub mod State
 pub mod View
 pub mod WellFormed
@@ -12,6 +13,7 @@ pub mod ReadingCases
 pub mod WritingCases
 pub mod OperationCases
 pub mod RefusalCases
+pub mod BufferCases
 pub mod FurtherCases
 pub mod Encoding
 pub mod Entries
@@ -19,8 +21,10 @@ pub mod Recorder
 pub mod Demand
 pub mod Layout
 pub mod Engine
+pub mod Buffer
 pub mod Follows
 pub mod Formed
+pub mod Spare
 pub mod Invariant
 pub mod Theorem
 pub mod Standing

@@ -37,7 +37,7 @@ modes-stay s xs a w k n = go (eqb (refusalOf s (length xs) (Write a w)) 0)
     go true = ap (λ (b : Bank). b .mode) (getD-set-other (s .banks) (bankOf (geometry s) (location (geometry s) a)) k _ (record { mode = Array }) n)
     go false = refl
 
--- the first cycles that change a mode: FFh, 70h, 90h, 98h, and a set-up that is accepted
+-- the first cycles that change a mode: FFh, 70h, 90h, 98h, and a set-up that is accepted; "E8h is taken when 40h is"
 abbrev pub ChangesMode : Activity → Command → Type 0
 ChangesMode x command.ReadArray = Unit {0}
 ChangesMode x command.ReadStatus = Unit {0}
@@ -49,6 +49,7 @@ ChangesMode x command.ClearStatus = ⊥
 ChangesMode x command.SetUpProgram = accepts x setup.Program ≡ true
 ChangesMode x command.SetUpErase = accepts x setup.Erase ≡ true
 ChangesMode x command.SetUpLock = accepts x setup.Lock ≡ true
+ChangesMode x command.SetUpBuffer = accepts x setup.Program ≡ true
 ChangesMode x command.Unknown = ⊥
 
 mode-cond : (b : Bool) (m : Mode) (x y : View) → x .mode ≡ m → y .mode ≡ m → (cond b x y) .mode ≡ m
@@ -63,19 +64,20 @@ mode-setup v c n = go (accepts (v .control .activity) c) refl
     go true e = absurd (n e)
     go false e = refl
 
-mode-first : (v : View) (c : Command) → (ChangesMode (v .control .activity) c → ⊥) → firstCycle v c .mode ≡ v .mode
-unfolding firstCycle clearStatus
-mode-first v command.ReadArray n = absurd (n tt)
-mode-first v command.ReadStatus n = absurd (n tt)
-mode-first v command.ReadSignature n = absurd (n tt)
-mode-first v command.ReadQuery n = absurd (n tt)
-mode-first v command.Suspend n = refl
-mode-first v command.Resume n = refl
-mode-first v command.ClearStatus n = mode-cond (runs (v .control .activity .running)) _ _ _ refl refl
-mode-first v command.SetUpProgram n = mode-setup v setup.Program n
-mode-first v command.SetUpErase n = mode-setup v setup.Erase n
-mode-first v command.SetUpLock n = mode-setup v setup.Lock n
-mode-first v command.Unknown n = refl
+mode-first : (v : View) (p : Place) (c : Command) → (ChangesMode (v .control .activity) c → ⊥) → firstCycle v p c .mode ≡ v .mode
+unfolding firstCycle clearStatus accepts
+mode-first v p command.ReadArray n = absurd (n tt)
+mode-first v p command.ReadStatus n = absurd (n tt)
+mode-first v p command.ReadSignature n = absurd (n tt)
+mode-first v p command.ReadQuery n = absurd (n tt)
+mode-first v p command.Suspend n = refl
+mode-first v p command.Resume n = refl
+mode-first v p command.ClearStatus n = mode-cond (runs (v .control .activity .running)) _ _ _ refl refl
+mode-first v p command.SetUpProgram n = mode-setup v setup.Program n
+mode-first v p command.SetUpErase n = mode-setup v setup.Erase n
+mode-first v p command.SetUpLock n = mode-setup v setup.Lock n
+mode-first v p command.SetUpBuffer n = mode-setup v (setup.BufferCount (p .block)) n
+mode-first v p command.Unknown n = refl
 
 -- a bank that is given the mode that it has
 bank-same : (l : List Bank) (k : ℕ) → set l k (record { mode = modeIn l k }) ≡ l
@@ -98,6 +100,6 @@ modes-all-stay s xs a w e n = go (eqb (refusalOf s (length xs) (Write a w)) 0)
 
     go : (b : Bool) → (cond b (accepted s xs (Write a w)) (next s (Refused (refusalOf s (length xs) (Write a w))))) .state .banks ≡ s .banks
     go true =
-        ap (λ (m : Mode). set (s .banks) (p .bank) (record { mode = m })) (ap (λ (c : Setup). cycle (viewAt s p) c p w .mode) e ∙ mode-first (viewAt s p) (commandOf (w % 256)) n)
+        ap (λ (m : Mode). set (s .banks) (p .bank) (record { mode = m })) (ap (λ (c : Setup). cycle (geometry s) (viewAt s p) c p w .mode) e ∙ mode-first (viewAt s p) p (commandOf (w % 256)) n)
         ∙ bank-same (s .banks) (p .bank)
     go false = refl

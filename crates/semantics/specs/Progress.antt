@@ -28,7 +28,7 @@ use Rattle.semantics.specs.declared.Place.{Place}
 use Rattle.semantics.specs.declared.View.{View}
 use Rattle.semantics.specs.State.{geometry, runs}
 use Rattle.semantics.specs.View.{placeOf, viewAt}
-use Rattle.semantics.specs.WellFormed.{pending, runningAlone, programAlone, eraseAlone, eraseFits, runningFits, allFit, activityFormed, wellFormed}
+use Rattle.semantics.specs.WellFormed.{pending, runningAlone, programAlone, eraseAlone, eraseFits, wordsFit, bufferFits, setupFits, runningFits, allFit, activityFormed, wellFormed}
 use Rattle.semantics.specs.Writing.{commandOf, resume, accepts, setUp, clearStatus, firstCycle, cycle, writtenAt, written}
 use Rattle.semantics.specs.Working.{unitsLeft, unitsDone, runningAfter, workedOn, worked}
 use Rattle.semantics.specs.Steps.{stepRefusal, stateRefusal, refusalOf, next, accepted, stepOf, Machine, after, afterAll, fresh}
@@ -39,11 +39,12 @@ use Rattle.semantics.specs.Kept.{keeps}
 use Rattle.semantics.specs.Leaves.{read-changes-nothing}
 use Rattle.semantics.specs.Flags.{toldBy}
 
--- an erase that runs has a word left
+-- an erase or a buffer program that runs has a word left
 abbrev Whole : Geometry → Running → Type 0
 Whole g running.Idle = Unit {0}
 Whole g (running.Program l w) = Unit {0}
 Whole g (running.Erase b n) = n < sizeOf g b
+Whole g (running.Buffer l n d) = d < n
 
 module _ (g : Geometry) where
   -- n units leave n fewer to do, and an operation with none left has ended
@@ -63,6 +64,14 @@ module _ (g : Geometry) where
       go : (t : Bool) → ltb m (sizeOf g b) ≡ t → unitsLeft g (cond t (running.Erase b m) running.Idle) ≡ sizeOf g b - k - n
       go true e = omega (arith, ltb-true m (sizeOf g b) e)
       go false e = omega (arith, ltb-false m (sizeOf g b) e)
+  left-after (running.Buffer l c k) n h = go (ltb (k + min n (c - k)) c) refl
+    where
+      m : ℕ
+      m = k + min n (c - k)
+
+      go : (t : Bool) → ltb m c ≡ t → unitsLeft g (cond t (running.Buffer l c m) running.Idle) ≡ c - k - n
+      go true e = omega (arith, ltb-true m c e)
+      go false e = omega (arith, ltb-false m c e)
 
   -- something runs exactly where units are left
   runs-left : (r : Running) → Whole g r → runs r ≡ ltb 0 (unitsLeft g r)
@@ -70,6 +79,7 @@ module _ (g : Geometry) where
   runs-left running.Idle h = refl
   runs-left (running.Program l w) h = refl
   runs-left (running.Erase b k) h = sym (lt-ltb 0 (sizeOf g b - k) (omega arith))
+  runs-left (running.Buffer l n k) h = sym (lt-ltb 0 (n - k) (omega arith))
 
   idle-units : (r : Running) → Whole g r → runningAfter g r (unitsDone g r 0) ≡ r
   unfolding runningAfter unitsDone unitsLeft
@@ -78,6 +88,9 @@ module _ (g : Geometry) where
   idle-units (running.Erase b k) h =
       let z : k + min 0 (sizeOf g b - k) ≡ k = omega arith in
       rw (z, lt-ltb k (sizeOf g b) h)
+  idle-units (running.Buffer l n k) h =
+      let z : k + min 0 (n - k) ≡ k = omega arith in
+      rw (z, lt-ltb k n h)
 
 -- the steps that leave what runs running: work, reads and supply; and, while something runs, every write but B0h
 abbrev pub Leaves : State → Step → Type 0
@@ -113,13 +126,14 @@ toldAll m (x ∷ l) = toldBy (stepOf (m .state) (m .array) x .answer) + toldAll 
 pub record Good (m : Machine) : Type 0 where
   pub size : length (m .array) ≡ words (geometry (m .state))
   pub five : length (m .state .unprotected) ≡ 5
+  pub thirty-two : length (m .state .buffer) ≡ 32
   pub formed : wellFormed (m .state) ≡ true
 
 -- whatever is reached from power-up is such
 pub reached-good : (p : Part) (l : List Step) (xs : List ℕ) → length xs ≡ words (geometryOf p) → Good (afterAll (fresh p xs) l)
 reached-good p l xs h =
     let a = reached p l xs h in
-    record { size = a .size ∙ ap (λ (q : Part). words (geometryOf q)) (sym (a .part)); five = a .five; formed = reached-formed p l xs h }
+    record { size = a .size ∙ ap (λ (q : Part). words (geometryOf q)) (sym (a .part)); five = a .five; thirty-two = a .thirty-two; formed = reached-formed p l xs h }
 
 -- and stays such
 pub good-after : (m : Machine) (x : Step) → Good m → Good (after m x)
@@ -128,7 +142,8 @@ good-after m x o =
     record {
       size = length-kept (m .state) (m .array) x ∙ o .size ∙ ap (λ (p : Part). words (geometryOf p)) (sym (k .part));
       five = k .five ∙ o .five;
-      formed = keeps (m .state) (m .array) x (o .five) (o .formed);
+      thirty-two = k .thirty-two (o .thirty-two);
+      formed = keeps (m .state) (m .array) x (o .five) (o .thirty-two) (o .formed);
     }
 
 -- what is well formed, by the two parts that are used here
@@ -140,12 +155,13 @@ formed-fits : (s : State) → wellFormed s ≡ true → runningFits (geometry s)
 unfolding wellFormed activityFormed allFit
 formed-fits s f =
     and-true-l (runningFits (geometry s) (s .control .activity .running)) _
-    (and-true-l (allFit (geometry s) (s .control .activity)) _
-    (and-true-r (eraseAlone (s .control .activity)) _ (and-true-r (programAlone (s .control .activity)) _ (and-true-r (runningAlone (s .control .activity)) _ (and-true-l (activityFormed (geometry s) (s .control .activity)) _ f)))))
+    (and-true-r (setupFits (geometry s) (s .control .activity .setup)) _ (and-true-l (allFit (geometry s) (s .control .activity)) _
+    (and-true-r (eraseAlone (s .control .activity)) _ (and-true-r (programAlone (s .control .activity)) _ (and-true-r (runningAlone (s .control .activity)) _ (and-true-l (activityFormed (geometry s) (s .control .activity)) _ f))))))
 
 fits-whole : (g : Geometry) (r : Running) → runningFits g r ≡ true → Whole g r
-unfolding runningFits eraseFits
+unfolding runningFits eraseFits bufferFits
 fits-whole g running.Idle h = tt
+fits-whole g (running.Buffer l n d) h = ltb-true d n (and-true-r (wordsFit g l n) _ h)
 fits-whole g (running.Program l w) h = tt
 fits-whole g (running.Erase b n) h = ltb-true n (sizeOf g b) (and-true-r (ltb b (blocks g)) _ h)
 
@@ -162,6 +178,9 @@ no-setup a h r = none (a .setup) (not-true _ (and-true-l (not (pending (a .setup
     none setup.Program e = absurd (true≢false e)
     none setup.Erase e = absurd (true≢false e)
     none setup.Lock e = absurd (true≢false e)
+    none (setup.BufferCount b) e = absurd (true≢false e)
+    none (setup.BufferFirst b n) e = absurd (true≢false e)
+    none (setup.BufferWords l n due) e = absurd (true≢false e)
 
 -- ---- a write while something runs
 
@@ -176,6 +195,7 @@ isSuspend command.ClearStatus = false
 isSuspend command.SetUpProgram = false
 isSuspend command.SetUpErase = false
 isSuspend command.SetUpLock = false
+isSuspend command.SetUpBuffer = false
 isSuspend command.Unknown = false
 
 either-not : (b : Bool) (x y : Command) → isSuspend x ≡ false → isSuspend y ≡ false → isSuspend (cond b x y) ≡ false
@@ -188,7 +208,7 @@ only-B0 c n =
     rw (ne-eqb c 0xB0 n)
     (either-not (eqb c 0xFF) _ _ refl (either-not (eqb c 0x70) _ _ refl (either-not (eqb c 0x90) _ _ refl (either-not (eqb c 0x98) _ _ refl
     (either-not (eqb c 0xD0) _ _ refl (either-not (eqb c 0x50) _ _ refl (either-not (eqb c 0x10) _ _ refl (either-not (eqb c 0x40) _ _ refl
-    (either-not (eqb c 0x60) _ _ refl (either-not (eqb c 0x20) _ _ refl refl))))))))))
+    (either-not (eqb c 0x60) _ _ refl (either-not (eqb c 0x20) _ _ refl (either-not (eqb c 0xE8) _ _ refl refl)))))))))))
 
 running-cond : (b : Bool) (r : Running) (x y : View) → x .control .activity .running ≡ r → y .control .activity .running ≡ r → (cond b x y) .control .activity .running ≡ r
 running-cond true r x y p q = p
@@ -199,26 +219,27 @@ unfolding setUp
 running-setup v c = running-cond (accepts (v .control .activity) c) _ _ _ refl refl
 
 -- while something runs, every command but B0h leaves it running
-running-first : (v : View) (c : Command) → isSuspend c ≡ false → runs (v .control .activity .running) ≡ true → firstCycle v c .control .activity .running ≡ v .control .activity .running
+running-first : (v : View) (p : Place) (c : Command) → isSuspend c ≡ false → runs (v .control .activity .running) ≡ true → firstCycle v p c .control .activity .running ≡ v .control .activity .running
 unfolding firstCycle clearStatus resume
-running-first v command.ReadArray n r = refl
-running-first v command.ReadStatus n r = refl
-running-first v command.ReadSignature n r = refl
-running-first v command.ReadQuery n r = refl
-running-first v command.Suspend n r = absurd (true≢false n)
-running-first v command.Resume n r = rw r
-running-first v command.ClearStatus n r = running-cond (runs (v .control .activity .running)) _ _ _ refl refl
-running-first v command.SetUpProgram n r = running-setup v setup.Program
-running-first v command.SetUpErase n r = running-setup v setup.Erase
-running-first v command.SetUpLock n r = running-setup v setup.Lock
-running-first v command.Unknown n r = refl
+running-first v p command.ReadArray n r = refl
+running-first v p command.ReadStatus n r = refl
+running-first v p command.ReadSignature n r = refl
+running-first v p command.ReadQuery n r = refl
+running-first v p command.Suspend n r = absurd (true≢false n)
+running-first v p command.Resume n r = rw r
+running-first v p command.ClearStatus n r = running-cond (runs (v .control .activity .running)) _ _ _ refl refl
+running-first v p command.SetUpProgram n r = running-setup v setup.Program
+running-first v p command.SetUpErase n r = running-setup v setup.Erase
+running-first v p command.SetUpLock n r = running-setup v setup.Lock
+running-first v p command.SetUpBuffer n r = running-setup v (setup.BufferCount (p .block))
+running-first v p command.Unknown n r = refl
 
 running-written : (s : State) (a w : ℕ) → wellFormed s ≡ true → runs (s .control .activity .running) ≡ true → (w % 256 ≡ 0xB0 → ⊥) → written s a w .control .activity .running ≡ s .control .activity .running
 unfolding written writtenAt cycle
 running-written s a w f r n =
     let p : Place = placeOf (geometry s) a in
-    ap (λ (c : Setup). cycle (viewAt s p) c p w .control .activity .running) (no-setup (s .control .activity) (formed-alone s f) r)
-    ∙ running-first (viewAt s p) (commandOf (w % 256)) (only-B0 (w % 256) n) r
+    ap (λ (c : Setup). cycle (geometry s) (viewAt s p) c p w .control .activity .running) (no-setup (s .control .activity) (formed-alone s f) r)
+    ∙ running-first (viewAt s p) p (commandOf (w % 256)) (only-B0 (w % 256) n) r
 
 -- ---- one step, and a list of them
 
@@ -300,7 +321,7 @@ left-step m x h o =
     let v = good-moves m x h o in
     rw (k .part, v .runs-on) (left-after (geometry (m .state)) (m .state .control .activity .running) (offered x) (good-whole m o))
 
--- "Left running, a program ends at 1 unit and an erase at the size of its block, counted over all work steps.": after steps that leave it running, the units that
+-- "Left running, a program ends at 1 unit and an erase at the size of its block, counted over all work steps.", a buffer program at the number of its words: after steps that leave it running, the units that
 -- were told come to what was offered, or to what was left where that is less; and it runs on exactly where less was offered than was left. By reached-good this
 -- holds of whatever is reached from power-up
 pub progress : (l : List Step) (m : Machine) → LeavesAll m l → Good m

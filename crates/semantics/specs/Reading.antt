@@ -19,11 +19,12 @@ use Rattle.semantics.specs.declared.View.{View}
 use Rattle.semantics.specs.State.{geometry, runs, programSuspended, eraseSuspended}
 use Rattle.semantics.specs.View.{placeOf, viewAt}
 
--- what runs is in bank k: a program in the bank of its location, an erase in that of its block
+-- what runs is in bank k: a program in the bank of its location, a buffer program in that of its words, an erase in that of its block
 unfoldable pub runsIn : Geometry → Running → ℕ → Bool
 runsIn g running.Idle k = false
 runsIn g (running.Program l w) k = eqb (bankOf g l) k
 runsIn g (running.Erase b n) k = eqb (bankOfBlock g b) k
+runsIn g (running.Buffer l n d) k = eqb (bankOf g l) k
 
 -- n where b holds, and else 0
 abbrev pub bitIf : Bool → ℕ → ℕ

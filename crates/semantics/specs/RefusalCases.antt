@@ -45,10 +45,10 @@ eraseWaits b n = underWay BenchBottom setup.Nothing running.Idle suspended-progr
 
 -- ---- a state that is not well formed, by the refusal of a step on it; and one that is
 
-abbrev bad : State → Case
+abbrev pub bad : State → Case
 bad s = starts s (bench 0) ((Reset ⟶ Refused 2) ∷ [])
 
-abbrev good : State → Case
+abbrev pub good : State → Case
 good s = starts s (bench 0) ((Supply true ⟶ Done) ∷ [])
 
 -- every step refused r, whatever its own numbers

@@ -5,7 +5,7 @@ use mathlib.Core.Path.{_≡_, refl, sym, ap, _∙_, subst}
 use mathlib.Core.List.{List, [], _∷_, _++_, map}
 use mathlib.Core.Bool.{Bool, true, false, cond, _&&_, _||_, true≢false, false≢true}
 use mathlib.Core.Logic.{_⊎_, inl, inr}
-use Prim.Native.Nat.{ℕ, suc, _-_, _≤_, _<_, _%_, _/_, _^_}
+use Prim.Native.Nat.{ℕ, suc, _+_, _-_, _≤_, _<_, _%_, _/_, _^_}
 use native.Mathlib.Omega.{arith}
 use lib.Dec.{ltb, leb, eqb}
 use lib.Bits.{bitAnd, and-shr, and-step}
@@ -17,17 +17,17 @@ use Rattle.geometry.specs.Blocks.{Sound, geometryOf, words, location, blockOf, 
 use Rattle.geometry.specs.Laws as laws
 use Rattle.semantics.specs.declared.Step.{Step}
 use Rattle.semantics.specs.declared.Step.the-variants.{Read, Write, Work, Supply, Reset}
-use Rattle.semantics.specs.Numbers.{within, within-true}
+use Rattle.semantics.specs.Numbers.{within, within-true, within-out}
 use Rattle.semantics.specs.Layout.{only}
 use Rattle.semantics.specs.Steps.{afterAll, fresh}
 use Rattle.semantics.specs.Entries as entries
 use Rattle.semantics.specs.Entries.{Entry, entry, Phase, running, suspended, finished, broken-off, Live, worked, paused, resumed, abandoned, anyRuns, anySuspended}
-use Rattle.semantics.specs.Recorder.{Operation, program, erase, Setup, no-setup, program-setup, erase-setup, lock-setup, Event, nothing, supplied, was-reset, units, suspend, resume-program, resume-erase, setup-is, unprotected-is, accept}
-use Rattle.semantics.specs.Recorder.{Conditions, conditions-after, rule, len, kinds, isProgram, isErase, isAny, blockIn, Recorder, beginning, recorded, recordedAll, journalOf, event, journal-after, first-cycle, cycle, acceptable, reading, applied}
-use Rattle.semantics.specs.Recorder.{Command, commandOf, suspend-command, resume-command, program-command, lock-command, erase-command, other-command}
+use Rattle.semantics.specs.Recorder.{Operation, program, erase, buffer, Setup, no-setup, program-setup, erase-setup, lock-setup, count-setup, first-setup, words-setup, Event, nothing, supplied, was-reset, units, suspend, resume-program, resume-erase, setup-is, unprotected-is, accept}
+use Rattle.semantics.specs.Recorder.{Conditions, conditions-after, rule, base, len, put, kinds, isProgram, isErase, isAny, blockIn, Recorder, beginning, recorded, recordedAll, journalOf, event, journal-after, first-cycle, confirm-cycle, cycle, acceptable}
+use Rattle.semantics.specs.Recorder.{Command, commandOf, suspend-command, resume-command, program-command, lock-command, erase-command, buffer-command, other-command}
 use Rattle.semantics.specs.Demand.{NoSupply, SupplyOn, protectionCode, ProtectionCommand, SecondCycle, operation-of, Holds, Undisturbed, LastUnprotected, at-this, at-later, Stands, Demand3}
-use Rattle.semantics.specs.Engine.{and-true-l, and-true-r, Matches, After}
-use Rattle.semantics.specs.Theorem.{readings, readings-applied, demand-3, reached, reached-length}
+use Rattle.semantics.specs.Engine.{and-true-l, and-true-r, Lies, InK, buffer-in, Lying, Matches, After}
+use Rattle.semantics.specs.Theorem.{demand-3, reached, reached-length}
 
 -- bit i of a word
 abbrev pub bit : ℕ → ℕ → ℕ
@@ -68,16 +68,33 @@ module _ (g : Geometry) where
     which true f g = f refl
     which false f g = g refl
 
-    why-first : (s : Step) (c : Command) → Why d s (first-cycle g d r h c)
-    why-first s suspend-command = which r (λ e. quiet _ tt) (λ e. quiet _ tt)
-    why-first s resume-command = which r (λ e. quiet _ tt) (λ e. which (h isProgram) (λ e. quiet _ tt) (λ e. which (h isErase) (λ e. quiet _ tt) (λ e. quiet _ tt)))
-    why-first s program-command = which (r || h isProgram) (λ e. quiet _ tt) (λ e. quiet _ tt)
-    why-first s lock-command = which (r || h isProgram) (λ e. quiet _ tt) (λ e. quiet _ tt)
-    why-first s erase-command = which (r || h isAny) (λ e. quiet _ tt) (λ e. quiet _ tt)
-    why-first s other-command = quiet _ tt
+    why-first : (s : Step) (b : ℕ) (c : Command) → Why d s (first-cycle g d r h b c)
+    why-first s b suspend-command = which r (λ e. quiet _ tt) (λ e. quiet _ tt)
+    why-first s b resume-command = which r (λ e. quiet _ tt) (λ e. which (h isProgram) (λ e. quiet _ tt) (λ e. which (h isErase) (λ e. quiet _ tt) (λ e. quiet _ tt)))
+    why-first s b program-command = which (r || h isProgram) (λ e. quiet _ tt) (λ e. quiet _ tt)
+    why-first s b lock-command = which (r || h isProgram) (λ e. quiet _ tt) (λ e. quiet _ tt)
+    why-first s b erase-command = which (r || h isAny) (λ e. quiet _ tt) (λ e. quiet _ tt)
+    why-first s b buffer-command = which (r || h isProgram) (λ e. quiet _ tt) (λ e. quiet _ tt)
+    why-first s b other-command = quiet _ tt
+
+    why-confirm : (l : ℕ) (ws : List ℕ) (a w : ℕ) → a < 16777216 → d .setup ≡ words-setup l ws 0 → Why d (Write a w) (confirm-cycle g d r h l ws (location g a) (w % 256))
+    why-confirm l ws a w i q =
+        let b : ℕ = blockOf g (location g a) in
+        which ((eqb (w % 256) 0xD0 && eqb b (blockOf g l)) && acceptable g d r h b)
+        (λ e. let x = and-true-r (eqb (w % 256) 0xD0 && eqb b (blockOf g l)) _ e in
+        let y = and-true-l (eqb (w % 256) 0xD0 && eqb b (blockOf g l)) _ e in
+        let z = eqb-true b (blockOf g l) (and-true-r (eqb (w % 256) 0xD0) _ y) in
+        because (buffer l ws) (and-true-l (d .supply) _ x) (ap (d .unprotected) (sym z) ∙ and-true-l (d .unprotected b) _ (and-true-r (d .supply) _ x))
+        (i, q, eqb-true (w % 256) 0xD0 (and-true-l (eqb (w % 256) 0xD0) _ y), z))
+        (λ e. quiet _ tt)
 
     why-second : (p : Setup) → d .setup ≡ p → (a w : ℕ) → a < 16777216 → Why d (Write a w) (cycle g d r h p (location g a) (w % 256) w)
-    why-second no-setup q a w i = why-first (Write a w) (commandOf (w % 256))
+    why-second no-setup q a w i = why-first (Write a w) (blockOf g (location g a)) (commandOf (w % 256))
+    why-second (count-setup b) q a w i = which (eqb (blockOf g (location g a)) b && leb w 31) (λ e. quiet _ tt) (λ e. quiet _ tt)
+    why-second (first-setup b n) q a w i = which (eqb (blockOf g (location g a)) b && leb (location g a + n) (startOf g b + sizeOf g b)) (λ e. quiet _ tt) (λ e. quiet _ tt)
+    why-second (words-setup l ws due) q a w i =
+        which (eqb due 0) (λ z. why-confirm l ws a w i (q ∙ ap (λ (n : ℕ). words-setup l ws n) (eqb-true due 0 z)))
+        (λ z. which (within l (length ws) (location g a)) (λ e. quiet _ tt) (λ e. quiet _ tt))
     why-second lock-setup q a w i =
         which (eqb (w % 256) 0xD0) (λ e. protection (blockOf g (location g a)) true (i, q, eqb-true (w % 256) 0xD0 e, refl))
         (λ x. which (eqb (w % 256) 0x01) (λ e. protection (blockOf g (location g a)) false (i, q, eqb-true (w % 256) 0x01 e, refl)) (λ e. quiet _ tt))
@@ -227,27 +244,24 @@ module _ (g : Geometry) where
   never-accepted b k m c l h n (later _ s i a) z =
       never-accepted b k m (recorded g c s) i (protected-after (event g s c) (c .conditions) b h (λ e. n .0 (event-protection b true c s e))) (n .1) a z
 
-  off : (w v : ℕ) (t : Bool) → (t ≡ true → ⊥) → cond t v w ≡ w
-  off w v true h = absurd (h refl)
-  off w v false h = refl
+  -- an operation that lies in the array covers words of its block alone
+  lies-in : Sound g → (k : Operation) → Lies g k → (L : ℕ) → InK g k L → blockOf g L ≡ blockIn g k
+  lies-in sound (program l d) x L i = ap (λ (z : ℕ). blockOf g z) (omega arith)
+  lies-in sound (erase b) x L i = only g sound b L (i .0) (i .1)
+  lies-in sound (buffer l ws) x L i = buffer-in g sound l ws x L i
 
-  free : (e : Entry Operation) (L w : ℕ) → (blockIn g (operation-of g e) ≡ blockOf g L → ⊥) → reading g e L w ≡ w
-  free (entry (program l d) u finished) L w h = off w (bitAnd w d) (eqb L l) (λ e. h (ap (λ (i : ℕ). blockOf g i) (sym (eqb-true L l e))))
-  free (entry (program l d) u running) L w h = refl
-  free (entry (program l d) u suspended) L w h = refl
-  free (entry (program l d) u broken-off) L w h = refl
-  free (entry (erase b) u finished) L w h = off w 65535 (eqb (blockOf g L) b) (λ e. h (sym (eqb-true (blockOf g L) b e)))
-  free (entry (erase b) u running) L w h = off w 65535 (eqb (blockOf g L) b && ltb (L - startOf g b) u) (λ e. h (sym (eqb-true (blockOf g L) b (and-true-l _ _ e))))
-  free (entry (erase b) u suspended) L w h = off w 65535 (eqb (blockOf g L) b && ltb (L - startOf g b) u) (λ e. h (sym (eqb-true (blockOf g L) b (and-true-l _ _ e))))
-  free (entry (erase b) u broken-off) L w h = off w 65535 (eqb (blockOf g L) b && ltb (L - startOf g b) u) (λ e. h (sym (eqb-true (blockOf g L) b (and-true-l _ _ e))))
+  module _ (sound : Sound g) (L w : ℕ) where
+    -- an entry of another block leaves the word
+    free : (k : Operation) (u : ℕ) (t : Phase) (j : List (Entry Operation)) → u ≤ len g k → Lies g k → (blockIn g k ≡ blockOf g L → ⊥) → After g j L w ≡ w → After g (entry k u t ∷ j) L w ≡ w
+    free k u t j h x n e =
+        ap (λ (b : Bool). cond b (put g k (L - base g k) (After g j L w)) (After g j L w)) (within-out (base g k) u L (λ y z. n (sym (lies-in sound k x L (y, omega arith))))) ∙ e
 
-  free-all : (j : List (Entry Operation)) (L w : ℕ) → ((k : Operation) (n : ℕ) → Holds g k n j → blockIn g k ≡ blockOf g L → ⊥) → readings g j L w ≡ w
-  free-all [] L w h = refl
-  free-all (e ∷ j) L w h = free e L (readings g j L w) (h (operation-of g e) (length j) (inl (refl, refl))) ∙ free-all j L w (λ k n x. h k n (inr x))
-
-  -- where no step unprotects its block, the journal leaves a word as it is
-  never-read : (l : List Step) (L x : ℕ) → NeverUnprotected (blockOf g L) l beginning → readings g (journalOf g l) L x ≡ x
-  never-read l L x n = free-all (journalOf g l) L x (λ k m h. never-accepted (blockOf g L) k m beginning l refl n (stands₀ k m l h))
+    free-all : {r : Bool} {s : List (Live Operation)} {j : List (Entry Operation)} → Matches g r s j → Lying g j → ((k : Operation) (n : ℕ) → Holds g k n j → blockIn g k ≡ blockOf g L → ⊥) → After g j L w ≡ w
+    free-all entries.start x h = refl
+    free-all (entries.done {j = j} k u e a m) x h = free k u finished j (omega arith) (x .0) (h k (length j) (inl (refl, refl))) (free-all m (x .1) (λ i n y. h i n (inr y)))
+    free-all (entries.lost {j = j} k u e a m) x h = free k u broken-off j (omega arith) (x .0) (h k (length j) (inl (refl, refl))) (free-all m (x .1) (λ i n y. h i n (inr y)))
+    free-all (entries.runs {j = j} k u e a m) x h = free k u running j (omega arith) (x .0) (h k (length j) (inl (refl, refl))) (free-all m (x .1) (λ i n y. h i n (inr y)))
+    free-all (entries.waits {j = j} k u e a m) x h = free k u suspended j (omega arith) (x .0) (h k (length j) (inl (refl, refl))) (free-all m (x .1) (λ i n y. h i n (inr y)))
 
   -- ---- single bits
 
@@ -258,12 +272,14 @@ module _ (g : Geometry) where
   abbrev pub Erased : List (Entry Operation) → ℕ → Type 0
   Erased [] L = ⊥
   Erased (entry (program l d) u t ∷ j) L = Erased j L
+  Erased (entry (buffer l ws) u t ∷ j) L = Erased j L
   Erased (entry (erase b) u t ∷ j) L = ((b ≡ blockOf g L) × (L - startOf g b < u)) ⊎ Erased j L
 
   -- the same by the run of words that an erase has reached
   abbrev Reached : List (Entry Operation) → ℕ → Type 0
   Reached [] L = ⊥
   Reached (entry (program l d) u t ∷ j) L = Reached j L
+  Reached (entry (buffer l ws) u t ∷ j) L = Reached j L
   Reached (entry (erase b) u t ∷ j) L = (within (startOf g b) u L ≡ true) ⊎ Reached j L
 
   reached-word : Sound g → (b u L : ℕ) → u ≤ sizeOf g b → within (startOf g b) u L ≡ true → (b ≡ blockOf g L) × (L - startOf g b < u)
@@ -272,6 +288,7 @@ module _ (g : Geometry) where
   module _ (sound : Sound g) (L : ℕ) where
     reached-more : (k : Operation) (u : ℕ) (t : Phase) (j : List (Entry Operation)) → u ≤ len g k → (Reached j L → Erased j L) → Reached (entry k u t ∷ j) L → Erased (entry k u t ∷ j) L
     reached-more (program l d) u t j h f x = f x
+    reached-more (buffer l ws) u t j h f x = f x
     reached-more (erase b) u t j h f (inl x) = inl (reached-word sound b u L h x)
     reached-more (erase b) u t j h f (inr x) = inr (f x)
 
@@ -295,6 +312,7 @@ module _ (g : Geometry) where
   zero-to-one : (j : List (Entry Operation)) (L w i : ℕ) → bit w i < bit (After g j L w) i → Reached j L
   zero-to-one [] L w i h = omega arith
   zero-to-one (entry (program l d) u t ∷ j) L w i h = zero-to-one j L w i (omega (arith, prog-bit (within l u L) (After g j L w) d i))
+  zero-to-one (entry (buffer l ws) u t ∷ j) L w i h = zero-to-one j L w i (omega (arith, prog-bit (within l u L) (After g j L w) (getD ws (L - l) 0xFFFF) i))
   zero-to-one (entry (erase b) u t ∷ j) L w i h =
       eras-bit (within (startOf g b) u L) (After g j L w) w i (Reached j L) h (λ x. zero-to-one j L w i x)
 
@@ -538,7 +556,10 @@ demand-3-whole p l xs h = record {
 pub protected-keeps : (p : Part) (l : List Step) (xs : List ℕ) → length xs ≡ words (geometryOf p) → (L : ℕ) → L < words (geometryOf p)
     → NeverUnprotected (geometryOf p) (blockOf (geometryOf p) L) l beginning → getD (afterAll (fresh p xs) l .array) L 0 ≡ getD xs L 0
 protected-keeps p l xs h L k n =
-    demand-3 p l xs h L k ∙ readings-applied (geometryOf p) (laws.sound p) (journalOf (geometryOf p) l) L (getD xs L 0) ∙ never-read (geometryOf p) l L (getD xs L 0) n
+    let a = reached p l xs h in
+    a .word L k
+    ∙ free-all (geometryOf p) (laws.sound p) L (getD xs L 0) (a .sim .match) (a .sim .lying)
+    (λ i m x. never-accepted (geometryOf p) (blockOf (geometryOf p) L) i m beginning l refl n (stands₀ (geometryOf p) i m l x))
 
 -- a bit goes from 0 to 1 only by an erase of the word's block that has reached the word
 pub only-erases-set : (p : Part) (l : List Step) (xs : List ℕ) → length xs ≡ words (geometryOf p) → (L i : ℕ) → L < words (geometryOf p)

@@ -8,6 +8,7 @@ use Rattle.geometry.specs.declared.Part.{Part}
 use Rattle.geometry.specs.declared.Geometry.{Geometry}
 use Rattle.geometry.specs.Blocks.{geometryOf}
 use Rattle.protection.specs.Words.{allProtected}
+use Rattle.semantics.specs.Tabulate.{tabulate}
 use Rattle.semantics.specs.declared.Mode.{Mode}
 use Rattle.semantics.specs.declared.Mode.the-variants.{Array}
 use Rattle.semantics.specs.declared.Bank.{Bank}
@@ -43,10 +44,13 @@ abbrev pub setSupply : Control → Bool → Control
 setSupply c x = record { activity = c .activity; flags = c .flags; configuration = c .configuration; supply = x }
 
 abbrev pub withControl : State → Control → State
-withControl s x = record { part = s .part; banks = s .banks; unprotected = s .unprotected; control = x }
+withControl s x = record { part = s .part; banks = s .banks; unprotected = s .unprotected; control = x; buffer = s .buffer }
 
 abbrev pub withProtection : State → List ℕ → State
-withProtection s x = record { part = s .part; banks = s .banks; unprotected = x; control = s .control }
+withProtection s x = record { part = s .part; banks = s .banks; unprotected = x; control = s .control; buffer = s .buffer }
+
+abbrev pub withBuffer : State → List ℕ → State
+withBuffer s x = record { part = s .part; banks = s .banks; unprotected = s .unprotected; control = s .control; buffer = x }
 
 abbrev pub withActivity : State → Activity → State
 withActivity s x = withControl s (setActivity (s .control) x)
@@ -80,15 +84,27 @@ abbrev pub runs : Running → Bool
 runs running.Idle = false
 runs (running.Program l w) = true
 runs (running.Erase b n) = true
+runs (running.Buffer l n d) = true
 
--- a program, and an erase, is suspended
+-- a program, of one word or of a buffer, and an erase, is suspended
 abbrev pub programSuspended : SuspendedProgram → Bool
 programSuspended program.Nothing = false
 programSuspended (program.Program l w) = true
+programSuspended (program.Buffer l n d) = true
 
 abbrev pub eraseSuspended : SuspendedErase → Bool
 eraseSuspended erase.Nothing = false
 eraseSuspended (erase.Erase b n) = true
+
+-- ---- the buffer
+
+-- nothing in it
+unfoldable pub emptyBuffer : List ℕ
+emptyBuffer = replicate 32 0
+
+-- the first n of its words
+unfoldable pub wordsIn : List ℕ → ℕ → List ℕ
+wordsIn bs n = tabulate n (λ i. getD bs i 0xFFFF)
 
 -- ---- flags
 
@@ -104,11 +120,12 @@ joined f g = flagsOf (f .sr5 || g .sr5) (f .sr4 || g .sr4) (f .sr3 || g .sr3) (f
 
 -- ---- power-up
 
--- "supply off, every bank in array mode, nothing pending, running or suspended, flags clear, all blocks protected, configuration register FFFFh"
+-- "supply off, every bank in array mode, nothing pending, running or suspended, flags clear, all blocks protected, configuration register FFFFh"; and the buffer empty
 unfoldable pub powerUp : Part → State
 powerUp p = record {
   part = p;
   banks = replicate 16 (record { mode = Array });
   unprotected = allProtected;
   control = record { activity = activity setup.Nothing running.Idle program.Nothing erase.Nothing; flags = noFlags; configuration = 0xFFFF; supply = false };
+  buffer = emptyBuffer;
 }

@@ -21,7 +21,7 @@ use Rattle.semantics.specs.WellFormed.{wellFormed}
 use Rattle.semantics.specs.Steps.{Machine, after, afterAll, fresh}
 use Rattle.semantics.specs.Entries as entries
 use Rattle.semantics.specs.Entries.{Entry, entry, running, suspended, finished, broken-off, Live}
-use Rattle.semantics.specs.Recorder.{Operation, program, erase, Recorder, beginning, recordedAll, journalOf, reading, applied, base, len, put, kinds}
+use Rattle.semantics.specs.Recorder.{Operation, program, erase, buffer, Recorder, beginning, recordedAll, journalOf, reading, applied, base, len, put, kinds}
 use Rattle.semantics.specs.Engine.{Matches, After}
 use Rattle.semantics.specs.Invariant.{wordsOf, Agree, agree-fresh, agree-all, agree-formed}
 
@@ -79,6 +79,10 @@ module _ (g : Geometry) (sound : Sound g) where
   reading-applied (entry (erase b) u running) s L w q = ap (λ (t : Bool). cond t 65535 w) (lowest-words b u L q s)
   reading-applied (entry (erase b) u suspended) s L w q = ap (λ (t : Bool). cond t 65535 w) (lowest-words b u L q s)
   reading-applied (entry (erase b) u broken-off) s L w q = ap (λ (t : Bool). cond t 65535 w) (lowest-words b u L q s)
+  reading-applied (entry (buffer l ws) u finished) s L w q = rw s
+  reading-applied (entry (buffer l ws) u running) s L w q = refl
+  reading-applied (entry (buffer l ws) u suspended) s L w q = refl
+  reading-applied (entry (buffer l ws) u broken-off) s L w q = refl
 
   readings-after : (r : Bool) (s : List (Live Operation)) (j : List (Entry Operation)) → Matches g r s j → (L w : ℕ) → L < words g → readings g j L w ≡ After g j L w
   readings-after r s j entries.start L w q = refl

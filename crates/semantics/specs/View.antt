@@ -1,5 +1,5 @@
 -- What an address names, and what a read or a write there sees of a state. Of the modes and the protection a write changes
--- those there and no others.
+-- those there and no others. What a write makes of the buffer is said apart (Writing, `loaded`).
 -- Assumes nothing.
 use Prim.Native.Nat.{ℕ}
 use mathlib.Core.Bool.{Bool}
@@ -20,7 +20,7 @@ use Rattle.semantics.specs.State.{modeOf, joined, setActivity, setFlags,
 abbrev pub placeOf : Geometry → ℕ → Place
 placeOf g a = record { address = a; location = location g a; bank = bankOf g (location g a); block = blockOf g (location g a) }
 
--- of the modes that of the addressed bank, of the protection that of the addressed block, and all else but the part
+-- of the modes that of the addressed bank, of the protection that of the addressed block, and all else but the part and the buffer
 abbrev pub viewAt : State → Place → View
 viewAt s p = record { mode = modeOf s (p .bank); unprotected = isUnprotected (s .unprotected) (p .block); control = s .control }
 
@@ -31,6 +31,7 @@ withView s p v = record {
   banks = set (s .banks) (p .bank) (record { mode = v .mode });
   unprotected = withUnprotected (s .unprotected) (p .block) (v .unprotected);
   control = v .control;
+  buffer = s .buffer;
 }
 
 -- ---- one field changed

@@ -16,7 +16,7 @@ codes a c (suc n) = write a c ++ codes a (suc c) n
 abbrev unknown : ℕ → List Exchange
 unknown a =
     codes a 0x00 16 ++ codes a 0x11 15 ++ codes a 0x21 31 ++ codes a 0x41 15 ++ codes a 0x51 15 ++ codes a 0x61 15 ++ codes a 0x71 31 ++ codes a 0x91 7 ++ codes a 0x99 23
-    ++ codes a 0xB1 31 ++ codes a 0xD1 46
+    ++ codes a 0xB1 31 ++ codes a 0xD1 23 ++ codes a 0xE9 22
 
 -- all four flags: an erase refused for supply, then a program refused for protection
 abbrev allFlags : List Exchange

@@ -14,24 +14,32 @@ pub struct Bank {
     pub mode: Mode,
 }
 
-// The pending set-up: the first cycle of a command that has two.
+// The pending set-up: of a command that has two cycles the first; of a buffer program (document 02, item 1) its load, as far as it has come. Of the load its count is
+// due, with the block that was addressed; or its first data cycle, with the number of its words; or so many further data cycles, and where `due` is 0 the
+// confirming cycle, with the location that the words start at.
 pub enum Setup {
     Nothing,
     Program,
     Erase,
     Lock,
+    BufferCount { block: u32 },
+    BufferFirst { block: u32, words: u32 },
+    BufferWords { start: u32, words: u32, due: u32 },
 }
 
-// The operation that runs: a program with its location and data, or an erase with its block and the words that it has done.
+// The operation that runs: a program with its location and data, an erase with its block and the words that it has done, or a buffer program with the
+// location that its words start at, their number, and how many it has done. The words themselves stand in the buffer.
 pub enum Running {
     Idle,
     Program { location: u32, word: u16 },
     Erase { block: u32, done: u32 },
+    Buffer { start: u32, words: u32, done: u32 },
 }
 
 pub enum SuspendedProgram {
     Nothing,
     Program { location: u32, word: u16 },
+    Buffer { start: u32, words: u32, done: u32 },
 }
 
 pub enum SuspendedErase {
@@ -63,12 +71,14 @@ pub struct Control {
     pub supply: bool,
 }
 
-// `unprotected`: bit b % 64 of word b / 64 is 1 where block b is unprotected (document 01: open).
+// `unprotected`: bit b % 64 of word b / 64 is 1 where block b is unprotected (document 01: open). `buffer`: the words of a load, or of a buffer program, from the
+// lowest location up; a place that is not in use is 0.
 pub struct State {
     pub part: Part,
     pub banks: [Bank; 16],
     pub unprotected: [u64; 5],
     pub control: Control,
+    pub buffer: [u16; 32],
 }
 
 // What an address names: its location, and the bank and the block that this lies in.
@@ -135,6 +145,7 @@ pub enum Command {
     SetUpProgram,
     SetUpErase,
     SetUpLock,
+    SetUpBuffer,
     Unknown,
 }
 
