@@ -9,7 +9,7 @@ ghost use mathlib.Core.Path.{_≡_};
 ghost use Prim.Native.Nat.{_-_, _≤_};
 ghost use Rattle.geometry.specs.Blocks.{geometryOf};
 ghost use Rattle.semantics.specs.State.{withSetup, withRunning, runs, programSuspended, eraseSuspended};
-ghost use Rattle.semantics.specs.WellFormed.{pending, isEraseSetup, isErase, erasing, runningAlone, programAlone, eraseAlone, eraseFits, runningFits, programFits, suspendedEraseFits, allFit, runningApart, programApart, apart, activityFormed};
+ghost use Rattle.semantics.specs.WellFormed.{pending, isEraseSetup, isErase, erasing, runningAlone, programAlone, eraseAlone, eraseFits, wordsFit, bufferFits, setupFits, runningFits, programFits, suspendedEraseFits, allFit, runningApart, programApart, apart, activityFormed, setupPlaces, runningPlaces, programPlaces, placesUsed};
 ghost use Rattle.semantics.specs.Reading.{runsIn};
 ghost use Rattle.semantics.specs.Writing.{suspended, resumedErase, resumed, resume, accepts};
 ghost use Rattle.semantics.specs.Working.{unitsLeft, unitsDone, runningAfter};
@@ -24,6 +24,7 @@ pub fn runs(r: Running) -> bool
         Running::Idle => false,
         Running::Program { .. } => true,
         Running::Erase { .. } => true,
+        Running::Buffer { .. } => true,
     }
 }
 
@@ -33,6 +34,7 @@ pub fn program_suspended(p: SuspendedProgram) -> bool
     match p {
         SuspendedProgram::Nothing => false,
         SuspendedProgram::Program { .. } => true,
+        SuspendedProgram::Buffer { .. } => true,
     }
 }
 
@@ -54,6 +56,9 @@ pub fn pending(s: Setup) -> bool
         Setup::Program => true,
         Setup::Erase => true,
         Setup::Lock => true,
+        Setup::BufferCount { .. } => true,
+        Setup::BufferFirst { .. } => true,
+        Setup::BufferWords { .. } => true,
     }
 }
 
@@ -65,6 +70,9 @@ pub fn is_erase_setup(s: Setup) -> bool
         Setup::Program => false,
         Setup::Erase => true,
         Setup::Lock => false,
+        Setup::BufferCount { .. } => false,
+        Setup::BufferFirst { .. } => false,
+        Setup::BufferWords { .. } => false,
     }
 }
 
@@ -75,6 +83,7 @@ pub fn is_erase(r: Running) -> bool
         Running::Idle => false,
         Running::Program { .. } => false,
         Running::Erase { .. } => true,
+        Running::Buffer { .. } => false,
     }
 }
 
@@ -140,6 +149,12 @@ pub fn suspended(a: Activity) -> Activity
             program,
             erase: SuspendedErase::Erase { block, done },
         },
+        Running::Buffer { start, words, done } => Activity {
+            setup,
+            running: Running::Idle,
+            program: SuspendedProgram::Buffer { start, words, done },
+            erase,
+        },
     }
 }
 
@@ -176,6 +191,12 @@ fn resumed(a: Activity) -> Activity
             program: SuspendedProgram::Nothing,
             erase,
         },
+        SuspendedProgram::Buffer { start, words, done } => Activity {
+            setup,
+            running: Running::Buffer { start, words, done },
+            program: SuspendedProgram::Nothing,
+            erase,
+        },
     }
 }
 
@@ -202,6 +223,9 @@ pub fn accepts(a: Activity, s: Setup) -> bool
         Setup::Program => !runs(running) & !program_suspended(program),
         Setup::Erase => { !runs(running) & (!program_suspended(program) & !erase_suspended(erase)) }
         Setup::Lock => !runs(running) & !program_suspended(program),
+        Setup::BufferCount { .. } => !runs(running) & !program_suspended(program),
+        Setup::BufferFirst { .. } => false,
+        Setup::BufferWords { .. } => false,
     }
 }
 
@@ -242,6 +266,41 @@ fn erase_fits(part: Part, block: u32, done: u32) -> bool
     (block < count) & (done < size)
 }
 
+// Words from a location on: they lie in one block of the part, and the buffer holds so many. Compared in 64 bits: the sum may not fit.
+pub fn words_fit(part: Part, start: u32, words: u32) -> bool
+    ensures { λ r. ⌜ r ≡ wordsFit (geometryOf part) start words ⌝ }
+{
+    let block = geometry::block_of(part, start);
+    let first = geometry::block_start(part, block) as u64;
+    let end = first + geometry::block_size(part, block) as u64;
+    let length = geometry::length_of(part);
+    (start < length) & ((start as u64 + words as u64 <= end) & (words <= 32))
+}
+
+// The same, and the words are more than are done.
+fn buffer_fits(part: Part, start: u32, words: u32, done: u32) -> bool
+    ensures { λ r. ⌜ r ≡ bufferFits (geometryOf part) start words done ⌝ }
+{
+    words_fit(part, start, words) & (done < words)
+}
+
+// A load: before its first word its words need not fit the block.
+fn setup_fits(part: Part, s: Setup) -> bool
+    ensures { λ r. ⌜ r ≡ setupFits (geometryOf part) s ⌝ }
+{
+    match s {
+        Setup::Nothing => true,
+        Setup::Program => true,
+        Setup::Erase => true,
+        Setup::Lock => true,
+        Setup::BufferCount { block } => block < geometry::block_count(part),
+        Setup::BufferFirst { block, words } => {
+            (block < geometry::block_count(part)) & ((0 < words) & (words <= 32))
+        }
+        Setup::BufferWords { start, words, due } => buffer_fits(part, start, words, due),
+    }
+}
+
 fn running_fits(part: Part, r: Running) -> bool
     ensures { λ x. ⌜ x ≡ runningFits (geometryOf part) r ⌝ }
 {
@@ -249,6 +308,7 @@ fn running_fits(part: Part, r: Running) -> bool
         Running::Idle => true,
         Running::Program { location, word: _ } => location < geometry::length_of(part),
         Running::Erase { block, done } => erase_fits(part, block, done),
+        Running::Buffer { start, words, done } => buffer_fits(part, start, words, done),
     }
 }
 
@@ -258,6 +318,7 @@ fn program_fits(part: Part, p: SuspendedProgram) -> bool
     match p {
         SuspendedProgram::Nothing => true,
         SuspendedProgram::Program { location, word: _ } => location < geometry::length_of(part),
+        SuspendedProgram::Buffer { start, words, done } => buffer_fits(part, start, words, done),
     }
 }
 
@@ -274,10 +335,13 @@ fn suspended_erase_fits(part: Part, e: SuspendedErase) -> bool
 fn all_fit(part: Part, a: Activity) -> bool
     ensures { λ r. ⌜ r ≡ allFit (geometryOf part) a ⌝ }
 {
+    let setup = a.setup;
     let running = a.running;
     let program = a.program;
     let erase = a.erase;
-    running_fits(part, running) & (program_fits(part, program) & suspended_erase_fits(part, erase))
+    setup_fits(part, setup)
+        & (running_fits(part, running)
+            & (program_fits(part, program) & suspended_erase_fits(part, erase)))
 }
 
 fn running_apart(part: Part, e: SuspendedErase, r: Running) -> bool
@@ -287,6 +351,11 @@ fn running_apart(part: Part, e: SuspendedErase, r: Running) -> bool
         Running::Idle => true,
         Running::Program { location, word: _ } => !erasing(e, geometry::block_of(part, location)),
         Running::Erase { .. } => true,
+        Running::Buffer {
+            start,
+            words: _,
+            done: _,
+        } => !erasing(e, geometry::block_of(part, start)),
     }
 }
 
@@ -298,6 +367,11 @@ fn program_apart(part: Part, e: SuspendedErase, p: SuspendedProgram) -> bool
         SuspendedProgram::Program { location, word: _ } => {
             !erasing(e, geometry::block_of(part, location))
         }
+        SuspendedProgram::Buffer {
+            start,
+            words: _,
+            done: _,
+        } => !erasing(e, geometry::block_of(part, start)),
     }
 }
 
@@ -317,6 +391,65 @@ pub fn activity_formed(part: Part, a: Activity) -> bool
     running_alone(a) & (program_alone(a) & (erase_alone(a) & (all_fit(part, a) & apart(part, a))))
 }
 
+// ---- the places of the buffer that it uses
+
+fn setup_places(s: Setup) -> u32
+    ensures { λ r. ⌜ r ≡ setupPlaces s ⌝ }
+{
+    match s {
+        Setup::Nothing => 0,
+        Setup::Program => 0,
+        Setup::Erase => 0,
+        Setup::Lock => 0,
+        Setup::BufferCount { .. } => 0,
+        Setup::BufferFirst { .. } => 0,
+        Setup::BufferWords {
+            start: _,
+            words,
+            due: _,
+        } => words,
+    }
+}
+
+fn running_places(r: Running) -> u32
+    ensures { λ x. ⌜ x ≡ runningPlaces r ⌝ }
+{
+    match r {
+        Running::Idle => 0,
+        Running::Program { .. } => 0,
+        Running::Erase { .. } => 0,
+        Running::Buffer {
+            start: _,
+            words,
+            done: _,
+        } => words,
+    }
+}
+
+fn program_places(p: SuspendedProgram) -> u32
+    ensures { λ r. ⌜ r ≡ programPlaces p ⌝ }
+{
+    match p {
+        SuspendedProgram::Nothing => 0,
+        SuspendedProgram::Program { .. } => 0,
+        SuspendedProgram::Buffer {
+            start: _,
+            words,
+            done: _,
+        } => words,
+    }
+}
+
+// The sum of the three in 64 bits: it may not fit 32.
+pub fn places_used(a: Activity) -> u64
+    ensures { λ r. ⌜ r ≡ placesUsed a ⌝ }
+{
+    let setup = a.setup;
+    let running = a.running;
+    let program = a.program;
+    setup_places(setup) as u64 + (running_places(running) as u64 + program_places(program) as u64)
+}
+
 // ---- where it runs, and its units
 
 // What runs is in this bank.
@@ -327,6 +460,11 @@ pub fn runs_in(part: Part, r: Running, bank: u32) -> bool
         Running::Idle => false,
         Running::Program { location, word: _ } => geometry::bank_of(part, location) == bank,
         Running::Erase { block, done: _ } => geometry::bank_of_block(part, block) == bank,
+        Running::Buffer {
+            start,
+            words: _,
+            done: _,
+        } => geometry::bank_of(part, start) == bank,
     }
 }
 
@@ -345,6 +483,11 @@ fn units_left(part: Part, r: Running) -> u32
         Running::Idle => 0,
         Running::Program { .. } => 1,
         Running::Erase { block, done } => less(geometry::block_size(part, block), done),
+        Running::Buffer {
+            start: _,
+            words,
+            done,
+        } => less(words, done),
     }
 }
 
@@ -369,6 +512,17 @@ pub fn running_after(part: Part, r: Running, m: u32) -> Running
             if m < less(geometry::block_size(part, block), done) {
                 Running::Erase {
                     block,
+                    done: done + m,
+                }
+            } else {
+                Running::Idle
+            }
+        }
+        Running::Buffer { start, words, done } => {
+            if m < less(words, done) {
+                Running::Buffer {
+                    start,
+                    words,
                     done: done + m,
                 }
             } else {

@@ -37,6 +37,21 @@ runs-requires-3 c κs = search needs
 program-suspended-requires-3 : tie.Need-program-suspended-requires-3
 program-suspended-requires-3 c κs = search needs
 
+enum-told-5 : tie.Need-enum-told-5
+enum-told-5 c = search needs
+
+runs-requires-4 : tie.Need-runs-requires-4
+runs-requires-4 c κs = search needs
+
+program-suspended-requires-4 : tie.Need-program-suspended-requires-4
+program-suspended-requires-4 c κs = search needs
+
+enum-told-6 : tie.Need-enum-told-6
+enum-told-6 c = search needs
+
+enum-told-7 : tie.Need-enum-told-7
+enum-told-7 c = search needs
+
 returns : tie.Need-returns
 unfolding accepts
 returns c = simp (c .enum-told .given .1)
@@ -53,6 +68,18 @@ returns-4 : tie.Need-returns-4
 unfolding accepts
 returns-4 c = simp (c .program-suspended3 .ensures, c .before .runs3 .ensures, c .before .before .enum-told4 .given .1)
 
+returns-5 : tie.Need-returns-5
+unfolding accepts
+returns-5 c = simp (c .program-suspended4 .ensures, c .before .runs4 .ensures, c .before .before .enum-told5 .given .1)
+
+returns-6 : tie.Need-returns-6
+unfolding accepts
+returns-6 c = simp (c .enum-told6 .given .1)
+
+returns-7 : tie.Need-returns-7
+unfolding accepts
+returns-7 c = simp (c .enum-told7 .given .1)
+
 pub accepts-spec : {M : Type 1} → statement M
 accepts-spec =
     tie.close
@@ -68,7 +95,15 @@ accepts-spec =
     enum-told-4
     runs-requires-3
     program-suspended-requires-3
+    enum-told-5
+    runs-requires-4
+    program-suspended-requires-4
+    enum-told-6
+    enum-told-7
     returns
     returns-2
     returns-3
-    returns-4)
+    returns-4
+    returns-5
+    returns-6
+    returns-7)

@@ -1,8 +1,11 @@
--- `operation::all_fit` meets its contract: from what each of its three tests ensures. Assumes nothing.
+-- `operation::all_fit` meets its contract: from what each of its four tests ensures. Assumes nothing.
 use borrow.Author.Needs.{needs}
 use Rattle.semantics.specs.WellFormed.{allFit}
 use Rattle.operation.proofs.all_fit.Statement.{statement}
 use Rattle.operation.proofs.all_fit.Tie as tie
+
+setup-fits-requires : tie.Need-setup-fits-requires
+setup-fits-requires c κs = search needs
 
 running-fits-requires : tie.Need-running-fits-requires
 running-fits-requires c κs = search needs
@@ -15,9 +18,14 @@ suspended-erase-fits-requires c κs = search needs
 
 returns : tie.Need-returns
 unfolding allFit
-returns c = simp (c .suspended-erase-fits .ensures, c .before .program-fits .ensures, c .before .before .running-fits .ensures)
+returns c = simp (c .suspended-erase-fits .ensures, c .before .program-fits .ensures, c .before .before .running-fits .ensures, c .before .before .before .setup-fits .ensures)
 
 pub all-fit-spec : {M : Type 1} → statement M
 all-fit-spec =
     tie.close
-    (tie.spec running-fits-requires program-fits-requires suspended-erase-fits-requires returns)
+    (tie.spec
+    setup-fits-requires
+    running-fits-requires
+    program-fits-requires
+    suspended-erase-fits-requires
+    returns)

@@ -19,6 +19,15 @@ erasing-requires c κs = search needs
 enum-told-2 : tie.Need-enum-told-2
 enum-told-2 c = search needs
 
+enum-known-r-2 : tie.Need-enum-known-r-2
+enum-known-r-2 c = search needs
+
+block-of-requires-2 : tie.Need-block-of-requires-2
+block-of-requires-2 c κs = search needs
+
+erasing-requires-2 : tie.Need-erasing-requires-2
+erasing-requires-2 c κs = search needs
+
 returns : tie.Need-returns
 unfolding runningApart
 returns c = simp (c .enum-told .given .1)
@@ -31,6 +40,10 @@ returns-3 : tie.Need-returns-3
 unfolding runningApart
 returns-3 c = simp (c .enum-told2 .given .1)
 
+returns-4 : tie.Need-returns-4
+unfolding runningApart
+returns-4 c = simp (c .erasing2 .ensures, c .before .block-of2 .ensures .0, c .before .before .before .r2 .given .1)
+
 pub running-apart-spec : {M : Type 1} → statement M
 running-apart-spec =
     tie.close
@@ -40,6 +53,10 @@ running-apart-spec =
     block-of-requires
     erasing-requires
     enum-told-2
+    enum-known-r-2
+    block-of-requires-2
+    erasing-requires-2
     returns
     returns-2
-    returns-3)
+    returns-3
+    returns-4)

@@ -19,6 +19,12 @@ enum-known-r-2 c = search needs
 erase-fits-requires : tie.Need-erase-fits-requires
 erase-fits-requires c κs = search needs
 
+enum-known-r-3 : tie.Need-enum-known-r-3
+enum-known-r-3 c = search needs
+
+buffer-fits-requires : tie.Need-buffer-fits-requires
+buffer-fits-requires c κs = search needs
+
 returns : tie.Need-returns
 unfolding runningFits
 returns c = simp (c .enum-told .given .1)
@@ -31,6 +37,10 @@ returns-3 : tie.Need-returns-3
 unfolding runningFits
 returns-3 c = simp (c .erase-fits .ensures, c .before .before .r2 .given .1)
 
+returns-4 : tie.Need-returns-4
+unfolding runningFits
+returns-4 c = simp (c .buffer-fits .ensures, c .before .before .r3 .given .1)
+
 pub running-fits-spec : {M : Type 1} → statement M
 running-fits-spec =
     tie.close
@@ -40,6 +50,9 @@ running-fits-spec =
     length-of-requires
     enum-known-r-2
     erase-fits-requires
+    enum-known-r-3
+    buffer-fits-requires
     returns
     returns-2
-    returns-3)
+    returns-3
+    returns-4)

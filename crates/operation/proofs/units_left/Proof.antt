@@ -19,6 +19,12 @@ block-size-requires c κs = search needs
 less-requires : tie.Need-less-requires
 less-requires c κs = search needs
 
+enum-known-r-2 : tie.Need-enum-known-r-2
+enum-known-r-2 c = search needs
+
+less-requires-2 : tie.Need-less-requires-2
+less-requires-2 c κs = search needs
+
 returns : tie.Need-returns
 unfolding unitsLeft
 returns c = simp (c .enum-told .given .1)
@@ -31,6 +37,10 @@ returns-3 : tie.Need-returns-3
 unfolding unitsLeft
 returns-3 c = simp (c .less .ensures, c .before .block-size .ensures .0, c .before .before .before .r .given .1)
 
+returns-4 : tie.Need-returns-4
+unfolding unitsLeft
+returns-4 c = simp (c .less2 .ensures, c .before .before .r2 .given .1)
+
 pub units-left-spec : {M : Type 1} → statement M
 units-left-spec =
     tie.close
@@ -40,6 +50,9 @@ units-left-spec =
     enum-known-r
     block-size-requires
     less-requires
+    enum-known-r-2
+    less-requires-2
     returns
     returns-2
-    returns-3)
+    returns-3
+    returns-4)
