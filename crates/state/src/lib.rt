@@ -17,7 +17,7 @@ use semantics::View;
 ghost use mathlib.Core.Path.{_≡_};
 ghost use Prim.Native.Nat.{_<_};
 ghost use Rattle.geometry.specs.Blocks.{geometryOf};
-ghost use Rattle.semantics.specs.State.{withControl, withProtection, withSupply, modeIn, flagsOf, noFlags, joined, powerUp};
+ghost use Rattle.semantics.specs.State.{withControl, withProtection, withBuffer, withSupply, modeIn, flagsOf, noFlags, joined, powerUp};
 ghost use Rattle.semantics.specs.View.{placeOf, viewAt, withView};
 ghost use Rattle.semantics.specs.WellFormed.{wellFormed};
 ghost use Rattle.semantics.specs.Steps.{stateRefusal, addressRefusal, countRefusal, stepRefusal, firstRefusal};
@@ -35,6 +35,13 @@ pub fn with_protection(mut s: State, x: [u64; 5]) -> State
     ensures { λ r. ⌜ r ≡ withProtection s x ⌝ }
 {
     s.unprotected = x;
+    s
+}
+
+pub fn with_buffer(mut s: State, x: [u16; 32]) -> State
+    ensures { λ r. ⌜ r ≡ withBuffer s x ⌝ }
+{
+    s.buffer = x;
     s
 }
 
@@ -154,6 +161,7 @@ pub fn power_up(part: Part) -> State
             configuration: 0xffff,
             supply: false,
         },
+        buffer: buffer::empty(),
     }
 }
 
@@ -175,7 +183,9 @@ pub fn well_formed(s: State) -> bool
     let part = s.part;
     let a = s.control.activity;
     let words = s.unprotected;
-    operation::activity_formed(part, a) & protection::spare_zero(words)
+    let buffer = s.buffer;
+    operation::activity_formed(part, a)
+        & (protection::spare_zero(words) & buffer::zero_from(buffer, operation::places_used(a)))
 }
 
 // The refusal of a state beside an array of n words, 0 where there is none: 1 for the length, or else 2 for the state.
