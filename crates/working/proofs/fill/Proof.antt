@@ -4,7 +4,7 @@ use mathlib.Core.Path.{_≡_, refl, _∙_}
 use native.Mathlib.Omega.{arith}
 use lib.ListN.{length, length-set}
 use borrow.Author.Needs.{needs}
-use Rattle.working.specs.Array.{filled, filled-none, filled-more, filled-end}
+use Rattle.working.specs.Array.{filled, changed-none, changed-more, changed-end}
 use Rattle.working.proofs.fill.Statement.{statement}
 use Rattle.working.proofs.fill.Tie as tie
 
@@ -18,7 +18,7 @@ least-requires : tie.Need-least-requires Inv-loop μ-loop
 least-requires c κs = search needs
 
 loop-holds : tie.Need-loop-holds Inv-loop μ-loop
-loop-holds c = (search needs, search needs, refl, filled-none _ _)
+loop-holds c = (search needs, search needs, refl, changed-none _ _ _)
 
 mul-array : tie.Need-mul-array Inv-loop μ-loop
 mul-array c = search needs
@@ -33,13 +33,13 @@ loop-less : tie.Need-loop-less Inv-loop μ-loop
 loop-less c = search needs
 
 loop-again : tie.Need-loop-again Inv-loop μ-loop
-loop-again c = let inv = c .before .loop .inv in (search needs, search needs, rw length-set (inv .2), rw (inv .3) (filled-more _ _ _ (inv .0) (omega arith)))
+loop-again c = let inv = c .before .loop .inv in (search needs, search needs, rw length-set (inv .2), rw (inv .3) (changed-more _ _ _ _ (inv .0) (omega arith)))
 
 same-length : tie.Need-same-length Inv-loop μ-loop
 same-length c = search needs
 
 returns : tie.Need-returns Inv-loop μ-loop
-returns c = let inv = c .before .loop .inv in inv .3 ∙ filled-end _ _ _ _ (omega arith) (omega arith)
+returns c = let inv = c .before .loop .inv in inv .3 ∙ changed-end _ _ _ _ _ (omega arith) (omega arith)
 
 pub fill-spec : {M : Type 1} → statement M
 fill-spec =
