@@ -86,7 +86,15 @@ uint32_t m58_lookup_bank(uint32_t part, uint32_t address);
  * except that any number of calls of m58_report may read the same state words
  * at once, and any number of calls of m58_run the same steps.
  */
-#define M58_STATE_WORDS 38
+#define M58_STATE_WORDS 51 /* 38 before the write buffer: build anew with this header */
+
+/*
+ * THE WRITE BUFFER. A load is a row of writes: E8h to the block; the number of
+ * words less one, at most M58_BUFFER_WORDS - 1, to the same block; so many
+ * data, the first at the lowest location; D0h to the block. Then each unit of
+ * work puts in one word, from the lowest up.
+ */
+#define M58_BUFFER_WORDS UINT32_C(32)
 
 /*
  * The steps, as constant expressions where the arguments are. An address or a
