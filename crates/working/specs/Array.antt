@@ -140,14 +140,18 @@ module _ (xs : List ℕ) (l : ℕ) (bs : List ℕ) (from : ℕ) where
     where
       f : ℕ → ℕ
       f = bufferWord xs l bs
+
       ys : List ℕ
       ys = changed xs f (l + from) (l + i)
+
       len : length ys ≡ length xs
       len = changed-length xs f (l + from) (l + i)
+
       word : l + i < length xs → bitAnd (getD ys (l + i) 0) (getD bs i 0) ≡ f (l + i)
       word k =
           let e : l + i - l ≡ i = omega arith in
           rw (changed-past xs f (l + from) (l + i) (omega arith) k, getD-any bs i 0 0xFFFF h, e)
+
       go : (l + i < length xs) ⊎ (length xs ≤ l + i) → anded ys (l + i) (getD bs i 0) ≡ changed xs f (l + from) (l + (i + 1))
       go (inl k) =
           let e : l + i + 1 ≡ l + (i + 1) = omega arith in
@@ -164,8 +168,10 @@ module _ (xs : List ℕ) (l : ℕ) (bs : List ℕ) (from : ℕ) where
     where
       f : ℕ → ℕ
       f = bufferWord xs l bs
+
       past : (L : ℕ) → l + length bs ≤ L → f L ≡ getD xs L 0
       past L h = rw (List·getD-eq-default bs 0xFFFF {n = L - l} (omega arith)) (and-all (getD xs L 0) (small L))
+
       go : (L : ℕ) → (L < l + length bs) ⊎ (l + length bs ≤ L) → changedWord xs f (l + from) (l + i) L ≡ changedWord xs f (l + from) (l + to) L
       go L (inl h) = ap (λ (t : Bool). cond t (f L) (getD xs L 0)) (run-same (l + from) (l + i) (l + to) L (λ x y. omega arith) (λ x y. omega arith))
       go L (inr h) =

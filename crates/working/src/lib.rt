@@ -64,16 +64,21 @@ pub fn apply(part: Part, r: Running, buffer: &[u16; 32], m: u32, array: &mut [u1
             let from = first + done as usize;
             fill(array, from, from + m as usize);
         }
-        Running::Buffer { start, words: _, done } => {
+        Running::Buffer {
+            start,
+            words: _,
+            done,
+        } => {
             let from = done as usize;
             and_run(array, start, buffer, from, from + m as usize);
         }
     }
 }
 
-// Up to n units of what runs.
-pub fn work(part: Part, mut c: Control, buffer: &[u16; 32], array: &mut [u16], n: u32) -> Worked
+// Up to n units of what runs; the buffer is released where a buffer program ends.
+pub fn work(part: Part, mut c: Control, buffer: &mut [u16; 32], array: &mut [u16], n: u32) -> Worked
     ensures worked { λ r. ⌜ r ≡ workedOn (geometryOf part) c n ⌝ }
+    ensures buffer { λ r. ⌜ now (buffer .exit) ≡ bufferAfter (c .activity .running) (r .control .activity .running) (now (buffer .entry)) ⌝ }
     ensures array { λ r. ⌜ now (array .exit) ≡ arrayAfter (geometryOf part) (now (buffer .entry)) (c .activity .running) (unitsDone (geometryOf part) (c .activity .running) n) (now (array .entry)) ⌝ }
 {
     let a = c.activity;
@@ -81,12 +86,13 @@ pub fn work(part: Part, mut c: Control, buffer: &[u16; 32], array: &mut [u16], n
     let units = operation::units_done(part, running, n);
     apply(part, running, buffer, units, array);
     let after = operation::running_after(part, running, units);
+    release(buffer, running, after);
     c.activity = operation::with_running(a, after);
     Worked { control: c, units }
 }
 
 // The buffer after work on what ran: a buffer program's words are wanted as long as it runs.
-pub fn release(buffer: &mut [u16; 32], before: Running, after: Running)
+fn release(buffer: &mut [u16; 32], before: Running, after: Running)
     ensures { λ _. ⌜ now (buffer .exit) ≡ bufferAfter before after (now (buffer .entry)) ⌝ }
 {
     match before {

@@ -16,12 +16,19 @@ running-after-requires c κs = search needs
 with-running-requires : tie.Need-with-running-requires
 with-running-requires c κs = search needs
 
+release-requires : tie.Need-release-requires
+release-requires c κs = search needs
+
 same-length : tie.Need-same-length
 same-length c = search needs
 
 returns : tie.Need-returns
 unfolding workedOn
-returns c = (rw (c .with-running .ensures, c .before .running-after .ensures, c .before .before .before .before .before .before .units-done .ensures .0), rw (← c .before .before .before .before .before .before .units-done .ensures .0) (c .before .before .before .before .apply .ensures))
+returns c =
+    let u = c .before .before .before .before .before .before .before .before .before .units-done .ensures .0 in (
+      rw (c .with-running .ensures, c .before .before .before .running-after .ensures, u),
+      (rw (c .with-running .ensures) (c .before .release .ensures), rw (← u) (c .before .before .before .before .before .before .apply .ensures)),
+    )
 
 pub work-spec : {M : Type 1} → statement M
 work-spec =
@@ -30,6 +37,7 @@ work-spec =
     units-done-requires
     apply-requires
     running-after-requires
+    release-requires
     with-running-requires
     same-length
     returns)
