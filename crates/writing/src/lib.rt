@@ -1,5 +1,6 @@
-// What a write makes of what it sees of a state: the first and the second cycles of the commands (document 01, "Write, address, data."). The array is not touched.
-// Each function takes every view and number.
+// What a write makes of what it sees of a state: the first and the second cycles of the commands (document 01, "Write, address, data."), and the cycles of a buffer
+// program's load (document 02, item 1), with what they make of the buffer. The array is not touched. Each function takes every view and number.
+use geometry::Part;
 use semantics::Activity;
 use semantics::Command;
 use semantics::Flags;
@@ -11,8 +12,10 @@ use semantics::Setup;
 use semantics::State;
 use semantics::View;
 ghost use mathlib.Core.Path.{_≡_};
-ghost use Rattle.semantics.specs.View.{viewAt, withActivity, withMode, raise};
-ghost use Rattle.semantics.specs.Writing.{commandOf, setUp, clearStatus, firstCycle, programCycle, eraseCycle, lockCommandOf, lockCycle, settle, cycle, written};
+ghost use Prim.Native.Nat.{_-_};
+ghost use Rattle.geometry.specs.Blocks.{geometryOf};
+ghost use Rattle.semantics.specs.View.{withActivity, withMode, raise};
+ghost use Rattle.semantics.specs.Writing.{commandOf, pend, setUp, clearStatus, firstCycle, programRuns, eraseCycle, lockCommandOf, lockCycle, settle, loads, countRight, firstRight, laterRight, confirmRight, confirmCycle, wordsCycle, cycle, wordsLoaded, loaded, cycleAt, written};
 
 // ---- a view changed
 
@@ -65,8 +68,17 @@ fn command_of(c: u16) -> Command
         0x40 => Command::SetUpProgram,
         0x60 => Command::SetUpLock,
         0x20 => Command::SetUpErase,
+        0xe8 => Command::SetUpBuffer,
         _ => Command::Unknown,
     }
+}
+
+// This set-up is pending from here on, with the bank of the cycle's own address in status mode.
+fn pend(v: View, x: Setup) -> View
+    ensures { λ r. ⌜ r ≡ pend v x ⌝ }
+{
+    let a = v.control.activity;
+    with_mode(with_activity(v, operation::with_setup(a, x)), Mode::Status)
 }
 
 // A set-up cycle; one that is not accepted is ignored.
@@ -75,7 +87,7 @@ fn set_up(v: View, x: Setup) -> View
 {
     let a = v.control.activity;
     if operation::accepts(a, x) {
-        return with_mode(with_activity(v, operation::with_setup(a, x)), Mode::Status);
+        return pend(v, x);
     }
     v
 }
@@ -94,8 +106,9 @@ fn clear_status(mut v: View) -> View
     v
 }
 
-fn first_cycle(v: View, c: Command) -> View
-    ensures { λ r. ⌜ r ≡ firstCycle v c ⌝ }
+// The first cycle at a place: a load is of the block there.
+fn first_cycle(v: View, p: Place, c: Command) -> View
+    ensures { λ r. ⌜ r ≡ firstCycle v p c ⌝ }
 {
     let a = v.control.activity;
     match c {
@@ -109,15 +122,16 @@ fn first_cycle(v: View, c: Command) -> View
         Command::SetUpProgram => set_up(v, Setup::Program),
         Command::SetUpErase => set_up(v, Setup::Erase),
         Command::SetUpLock => set_up(v, Setup::Lock),
+        Command::SetUpBuffer => set_up(v, Setup::BufferCount { block: p.block }),
         Command::Unknown => v,
     }
 }
 
 // ---- the second cycle
 
-// After a program set-up: the word is programmed at the place, or flags say why not.
-fn program_cycle(v: View, p: Place, word: u16) -> View
-    ensures { λ r. ⌜ r ≡ programCycle v p word ⌝ }
+// A program at the place runs, or flags say why not.
+fn program_runs(v: View, p: Place, r: Running) -> View
+    ensures { λ x. ⌜ x ≡ programRuns v p r ⌝ }
 {
     let a = v.control.activity;
     let erase = a.erase;
@@ -130,11 +144,7 @@ fn program_cycle(v: View, p: Place, word: u16) -> View
     if operation::erasing(erase, p.block) {
         return with_raised(v, state::flags_of(false, true, false, false));
     }
-    let running = Running::Program {
-        location: p.location,
-        word,
-    };
-    with_activity(v, operation::with_running(a, running))
+    with_activity(v, operation::with_running(a, r))
 }
 
 // After an erase set-up: the block is erased where the command confirms it, or flags say why not.
@@ -192,39 +202,190 @@ fn lock_cycle(mut v: View, p: Place, c: LockCommand) -> View
     }
 }
 
-// The end of the set-up, with the bank of the second cycle in status mode.
+// The end of the set-up, with the bank of the cycle's own address in status mode.
 fn settle(v: View) -> View
     ensures { λ r. ⌜ r ≡ settle v ⌝ }
 {
-    let a = v.control.activity;
-    with_mode(
-        with_activity(v, operation::with_setup(a, Setup::Nothing)),
-        Mode::Status,
-    )
+    pend(v, Setup::Nothing)
+}
+
+// ---- the cycles of a load
+
+// One less, and 0 of 0.
+fn one_less(n: u32) -> u32
+    ensures { λ r. ⌜ r ≡ n - 1 ⌝ }
+{
+    if n == 0 { 0 } else { n - 1 }
+}
+
+// The load goes on as x where the cycle is right, and else ends with SR5 and SR4.
+fn loads(right: bool, v: View, x: Setup) -> View
+    ensures { λ r. ⌜ r ≡ loads right v x ⌝ }
+{
+    if right {
+        return pend(v, x);
+    }
+    with_raised(settle(v), state::flags_of(true, true, false, false))
+}
+
+// The count is the whole word.
+fn count_right(block: u32, p: Place, word: u16) -> bool
+    ensures { λ r. ⌜ r ≡ countRight block p word ⌝ }
+{
+    (p.block == block) & (word <= 31)
+}
+
+// So many words from the place on stay in the block. Compared in 64 bits: the sum may not fit.
+fn first_right(part: Part, block: u32, words: u32, p: Place) -> bool
+    ensures { λ r. ⌜ r ≡ firstRight (geometryOf part) block words p ⌝ }
+{
+    let start = geometry::block_start(part, block) as u64;
+    let end = start + geometry::block_size(part, block) as u64;
+    (p.block == block) & (p.location as u64 + words as u64 <= end)
+}
+
+// The place is one of the words.
+fn later_right(start: u32, words: u32, p: Place) -> bool
+    ensures { λ r. ⌜ r ≡ laterRight start words p ⌝ }
+{
+    let end = start as u64 + words as u64;
+    (start <= p.location) & ((p.location as u64) < end)
+}
+
+// D0h, in the block of the words.
+fn confirm_right(part: Part, start: u32, p: Place, word: u16) -> bool
+    ensures { λ r. ⌜ r ≡ confirmRight (geometryOf part) start p word ⌝ }
+{
+    (word % 256 == 0xd0) & (p.block == geometry::block_of(part, start))
+}
+
+// Where the load is confirmed, its words are programmed, or flags say why not.
+fn confirm_cycle(part: Part, v: View, start: u32, words: u32, p: Place, word: u16) -> View
+    ensures { λ r. ⌜ r ≡ confirmCycle (geometryOf part) v start words p word ⌝ }
+{
+    if confirm_right(part, start, p, word) {
+        let running = Running::Buffer {
+            start,
+            words,
+            done: 0,
+        };
+        return program_runs(settle(v), p, running);
+    }
+    with_raised(settle(v), state::flags_of(true, true, false, false))
+}
+
+// A cycle after the first data cycle: the confirming one where no data cycle is due.
+fn words_cycle(part: Part, v: View, start: u32, words: u32, due: u32, p: Place, word: u16) -> View
+    ensures { λ r. ⌜ r ≡ wordsCycle (geometryOf part) v start words due p word ⌝ }
+{
+    if due == 0 {
+        return confirm_cycle(part, v, start, words, p, word);
+    }
+    let next = Setup::BufferWords {
+        start,
+        words,
+        due: due - 1,
+    };
+    loads(later_right(start, words, p), v, next)
 }
 
 // ---- a write
 
-// The cycle at a place, by the set-up that is pending. A program takes the whole word, any other its low byte.
-fn cycle(v: View, p: Place, word: u16) -> View
-    ensures { λ r. ⌜ r ≡ cycle v (v .control .activity .setup) p word ⌝ }
+// The cycle at a place, by the set-up that is pending. A program and a load take the whole word, any other its low byte.
+fn cycle(part: Part, v: View, p: Place, word: u16) -> View
+    ensures { λ r. ⌜ r ≡ cycle (geometryOf part) v (v .control .activity .setup) p word ⌝ }
 {
     let a = v.control.activity;
     let setup = a.setup;
     let c = word % 256;
     match setup {
-        Setup::Nothing => first_cycle(v, command_of(c)),
-        Setup::Program => program_cycle(settle(v), p, word),
+        Setup::Nothing => first_cycle(v, p, command_of(c)),
+        Setup::Program => {
+            let location = p.location;
+            program_runs(settle(v), p, Running::Program { location, word })
+        }
         Setup::Erase => erase_cycle(settle(v), p, c),
         Setup::Lock => lock_cycle(settle(v), p, lock_command_of(c)),
+        Setup::BufferCount { block } => {
+            let words = word as u32 + 1;
+            loads(
+                count_right(block, p, word),
+                v,
+                Setup::BufferFirst { block, words },
+            )
+        }
+        Setup::BufferFirst { block, words } => {
+            let next = Setup::BufferWords {
+                start: p.location,
+                words,
+                due: one_less(words),
+            };
+            loads(first_right(part, block, words, p), v, next)
+        }
+        Setup::BufferWords { start, words, due } => {
+            words_cycle(part, v, start, words, due, p, word)
+        }
     }
 }
 
 // What a write of a word makes of what it sees of the state at a place.
 pub fn view_after(s: State, p: Place, word: u16) -> View
-    ensures { λ r. ⌜ r ≡ cycle (viewAt s p) (s .control .activity .setup) p word ⌝ }
+    ensures { λ r. ⌜ r ≡ cycleAt s p word ⌝ }
 {
-    cycle(state::view_at(s, p), p, word)
+    let part = s.part;
+    cycle(part, state::view_at(s, p), p, word)
+}
+
+// What a cycle after the first data cycle makes of the buffer.
+fn load_words(
+    start: u32,
+    words: u32,
+    due: u32,
+    p: Place,
+    word: u16,
+    running: Running,
+    buffer: &mut [u16; 32],
+)
+    ensures { λ _. ⌜ now (buffer .exit) ≡ wordsLoaded start words due p word running (now (buffer .entry)) ⌝ }
+{
+    if due == 0 {
+        buffer::keep_if(buffer, operation::runs(running));
+    } else {
+        if later_right(start, words, p) {
+            buffer::load(buffer, p.location - start, word);
+        } else {
+            buffer::keep_if(buffer, false);
+        }
+    }
+}
+
+// What a cycle at a place makes of the buffer, by the set-up that was pending, where `running` runs after it. The buffer stands where it is: a cycle that is no load's
+// does not copy it.
+pub fn load_buffer(
+    part: Part,
+    setup: Setup,
+    p: Place,
+    word: u16,
+    running: Running,
+    buffer: &mut [u16; 32],
+)
+    ensures { λ _. ⌜ now (buffer .exit) ≡ loaded (geometryOf part) setup p word running (now (buffer .entry)) ⌝ }
+{
+    match setup {
+        Setup::Nothing => {}
+        Setup::Program => {}
+        Setup::Erase => {}
+        Setup::Lock => {}
+        Setup::BufferCount { .. } => {}
+        Setup::BufferFirst { block, words } => {
+            if first_right(part, block, words, p) {
+                *buffer = buffer::first_loaded(words, word);
+            }
+        }
+        Setup::BufferWords { start, words, due } => {
+            load_words(start, words, due, p, word, running, buffer);
+        }
+    }
 }
 
 // The state after a write of a word to an address.
@@ -232,6 +393,13 @@ pub fn written(s: State, address: u32, word: u16) -> State
     ensures { λ r. ⌜ r ≡ written s address word ⌝ }
 {
     let part = s.part;
+    let before = s.control.activity;
+    let setup = before.setup;
     let p = state::place_of(part, address);
-    state::with_view(s, p, view_after(s, p, word))
+    let v = view_after(s, p, word);
+    let after = v.control.activity;
+    let running = after.running;
+    let mut next = state::with_view(s, p, v);
+    load_buffer(part, setup, p, word, running, &mut next.buffer);
+    next
 }

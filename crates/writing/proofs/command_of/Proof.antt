@@ -50,7 +50,11 @@ returns-11 c = simp (c .match .keys11)
 
 returns-12 : tie.Need-returns-12
 unfolding commandOf
-returns-12 c =
+returns-12 c = simp (c .match .keys12)
+
+returns-13 : tie.Need-returns-13
+unfolding commandOf
+returns-13 c =
     simp (
       ne-eqb _ _ (c .match .rest .1),
       ne-eqb _ _ (c .match .rest .0 .1),
@@ -63,6 +67,7 @@ returns-12 c =
       ne-eqb _ _ (c .match .rest .0 .0 .0 .0 .0 .0 .0 .0 .1),
       ne-eqb _ _ (c .match .rest .0 .0 .0 .0 .0 .0 .0 .0 .0 .1),
       ne-eqb _ _ (c .match .rest .0 .0 .0 .0 .0 .0 .0 .0 .0 .0 .1),
+      ne-eqb _ _ (c .match .rest .0 .0 .0 .0 .0 .0 .0 .0 .0 .0 .0 .1),
     )
 
 pub command-of-spec : {M : Type 1} → statement M
@@ -80,4 +85,5 @@ command-of-spec =
     returns-9
     returns-10
     returns-11
-    returns-12)
+    returns-12
+    returns-13)

@@ -73,6 +73,12 @@ set-up-requires-3 c κs = search needs
 enum-told-11 : tie.Need-enum-told-11
 enum-told-11 c = search needs
 
+set-up-requires-4 : tie.Need-set-up-requires-4
+set-up-requires-4 c κs = search needs
+
+enum-told-12 : tie.Need-enum-told-12
+enum-told-12 c = search needs
+
 returns : tie.Need-returns
 unfolding firstCycle
 returns c = rw (c .before .enum-told .given .1) (c .with-mode .ensures)
@@ -115,7 +121,11 @@ returns-10 c = rw (c .before .enum-told10 .given .1) (c .set-up3 .ensures)
 
 returns-11 : tie.Need-returns-11
 unfolding firstCycle
-returns-11 c = rw (c .enum-told11 .given .1)
+returns-11 c = rw (c .before .enum-told11 .given .1) (c .set-up4 .ensures)
+
+returns-12 : tie.Need-returns-12
+unfolding firstCycle
+returns-12 c = rw (c .enum-told12 .given .1)
 
 pub first-cycle-spec : {M : Type 1} → statement M
 first-cycle-spec =
@@ -144,6 +154,8 @@ first-cycle-spec =
     enum-told-10
     set-up-requires-3
     enum-told-11
+    set-up-requires-4
+    enum-told-12
     returns
     returns-2
     returns-3
@@ -154,4 +166,5 @@ first-cycle-spec =
     returns-8
     returns-9
     returns-10
-    returns-11)
+    returns-11
+    returns-12)

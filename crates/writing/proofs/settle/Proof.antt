@@ -4,19 +4,12 @@ use borrow.Author.Needs.{needs}
 use Rattle.writing.proofs.settle.Statement.{statement}
 use Rattle.writing.proofs.settle.Tie as tie
 
-with-setup-requires : tie.Need-with-setup-requires
-with-setup-requires c κs = search needs
-
-with-activity-requires : tie.Need-with-activity-requires
-with-activity-requires c κs = search needs
-
-with-mode-requires : tie.Need-with-mode-requires
-with-mode-requires c κs = search needs
+pend-requires : tie.Need-pend-requires
+pend-requires c κs = search needs
 
 returns : tie.Need-returns
 unfolding settle
-returns c = simp (c .with-mode .ensures, c .before .with-activity .ensures, c .before .before .with-setup .ensures)
+returns c = c .pend .ensures
 
 pub settle-spec : {M : Type 1} → statement M
-settle-spec =
-    tie.close (tie.spec with-setup-requires with-activity-requires with-mode-requires returns)
+settle-spec = tie.close (tie.spec pend-requires returns)

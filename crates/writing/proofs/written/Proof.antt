@@ -1,4 +1,4 @@
--- `writing::written` meets its contract: what the write makes of the view at the place is put back there. Assumes nothing.
+-- `writing::written` meets its contract: what the write makes of the view at the place is put back there, and of the buffer where it stands. Assumes nothing.
 use Rattle.semantics.specs.Writing.{writtenAt, written}
 use borrow.Author.Needs.{needs}
 use Rattle.writing.proofs.written.Statement.{statement}
@@ -13,10 +13,19 @@ view-after-requires c κs = search needs
 with-view-requires : tie.Need-with-view-requires
 with-view-requires c κs = search needs
 
+load-buffer-requires : tie.Need-load-buffer-requires
+load-buffer-requires c κs = search needs
+
 returns : tie.Need-returns
 unfolding written writtenAt
-returns c = simp (c .with-view .ensures, c .before .view-after .ensures, c .before .before .place-of .ensures .0)
+returns c = rw (c .load-buffer .ensures, c .before .before .with-view .ensures, c .before .before .before .before .view-after .ensures, c .before .before .before .before .before .place-of .ensures .0)
 
 pub written-spec : {M : Type 1} → statement M
 written-spec =
-    tie.close (tie.spec place-of-requires view-after-requires with-view-requires returns)
+    tie.close
+    (tie.spec
+    place-of-requires
+    view-after-requires
+    with-view-requires
+    load-buffer-requires
+    returns)
