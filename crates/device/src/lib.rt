@@ -90,9 +90,10 @@ impl Device {
             state::count_refusal(count),
         );
         if e == 0 {
-            let o = working::work(part, c, array, count);
+            let mut next = s;
+            let o = working::work(part, c, &mut next.buffer, array, count);
             let after = o.control;
-            let next = state::with_control(s, after);
+            next.control = after;
             return Outcome {
                 device: Device { state: next },
                 answer: Answer::Units(o.units),

@@ -2,7 +2,10 @@
 use device::Device;
 use semantics::Answer;
 use semantics::Bank;
+use semantics::Control;
 use semantics::Decoded;
+use semantics::Running;
+use semantics::Setup;
 use semantics::State;
 use semantics::Step;
 use semantics::View;
@@ -81,6 +84,22 @@ fn bank_in(v: View) -> Bank
     Bank { mode }
 }
 
+// The set-up that is pending.
+fn setup_in(c: Control) -> Setup
+    ensures { λ r. ⌜ r ≡ c .activity .setup ⌝ }
+{
+    let a = c.activity;
+    a.setup
+}
+
+// What runs after a write.
+fn running_in(v: View) -> Running
+    ensures { λ r. ⌜ r ≡ v .control .activity .running ⌝ }
+{
+    let a = v.control.activity;
+    a.running
+}
+
 // The end of a list.
 fn ended(played: usize, state: State) -> RunEnd
     ensures { λ r. ⌜ r ≡ record { played = played; device = record { state = state } } ⌝ }
@@ -113,16 +132,16 @@ pub fn run(device: Device, steps: &[u64], answers: &mut [u64], array: &mut [u16]
                 Step::Read(address) => answer = Answer::Word(reading::read_word(s, array, address)),
                 Step::Write(address, word) => {
                     let p = state::place_of(part, address);
+                    let setup = setup_in(s.control);
                     let v = writing::view_after(s, p, word);
-                    let control = v.control;
-                    s.control = control;
+                    s.control = v.control;
                     s.banks[p.bank as usize] = bank_in(v);
                     protection::set_block(&mut s.unprotected, p.block, v.unprotected);
+                    writing::load_buffer(part, setup, p, word, running_in(v), &mut s.buffer);
                 }
                 Step::Work(count) => {
-                    let o = working::work(part, s.control, array, count);
-                    let after = o.control;
-                    s.control = after;
+                    let o = working::work(part, s.control, &mut s.buffer, array, count);
+                    s.control = o.control;
                     answer = Answer::Units(o.units);
                 }
                 Step::Supply(on) => s.control.supply = on,

@@ -21,15 +21,20 @@ first-refusal-requires c κs = search needs
 work-requires : tie.Need-work-requires
 work-requires c κs = search needs
 
-with-control-requires : tie.Need-with-control-requires
-with-control-requires c κs = search needs
-
 same-length : tie.Need-same-length
 same-length c = search needs
 
 returns : tie.Need-returns
 unfolding accepted acceptedArray workedOn worked workedArray stepRefusal
-returns c = (rw (c .with-control .ensures, c .before .before .before .before .work .ensures .0) (sym (ap outcomeOf (step-accepted _ _ (Work _) _ _ _ (c .before .before .before .before .before .before .before .before .before .state-refusal .ensures) (c .before .before .before .before .before .before .before .before .count-refusal .ensures) (c .before .before .before .before .before .before .before .first-refusal .ensures) (c .before .before .before .before .before .before .if1 .taken)))), c .before .before .before .before .work .ensures .1 ∙ sym (array-accepted _ _ (Work _) _ _ _ (c .before .before .before .before .before .before .before .before .before .state-refusal .ensures) (c .before .before .before .before .before .before .before .before .count-refusal .ensures) (c .before .before .before .before .before .before .before .first-refusal .ensures) (c .before .before .before .before .before .before .if1 .taken)))
+returns c =
+    let w = c .before .before .before .work .ensures in
+    let s = c .before .before .before .before .before .before .before .before .before .state-refusal .ensures in
+    let n = c .before .before .before .before .before .before .before .before .count-refusal .ensures in
+    let e = c .before .before .before .before .before .before .before .first-refusal .ensures in
+    let t = c .before .before .before .before .before .before .if1 .taken in (
+      rw (w .1 .0, w .0) (sym (ap outcomeOf (step-accepted _ _ (Work _) _ _ _ s n e t))),
+      w .1 .1 ∙ sym (array-accepted _ _ (Work _) _ _ _ s n e t),
+    )
 
 returns-2 : tie.Need-returns-2
 unfolding stepRefusal
@@ -43,7 +48,6 @@ work-spec =
     count-refusal-requires
     first-refusal-requires
     work-requires
-    with-control-requires
     same-length
     returns
     returns-2)
