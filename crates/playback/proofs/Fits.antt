@@ -14,3 +14,6 @@ five d vs p = let q = p .1 .1 .0 .1 .1 in simp length-map at (q .1 .1 .0 .1 .0 .
 
 pub sixteen : (d : Device) (vs : List Val) → Is (row device-type.the-type) d vs → length (d .state .banks) ≡ 16
 sixteen d vs p = let q = p .1 .1 .0 .1 .1 in simp length-map at (q .1 .0 .1 .0 .1)
+
+pub thirty-two : (d : Device) (vs : List Val) → Is (row device-type.the-type) d vs → length (d .state .buffer) ≡ 32
+thirty-two d vs p = let q = p .1 .1 .0 .1 .1 in simp length-map at (q .1 .1 .1 .1 .0 .1 .0 .1)

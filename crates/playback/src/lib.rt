@@ -9,6 +9,7 @@ use semantics::Setup;
 use semantics::State;
 use semantics::Step;
 use semantics::View;
+use semantics::Worked;
 ghost use mathlib.Core.Path.{_≡_};
 ghost use Rattle.semantics.specs.Encoding.{decode};
 ghost use Rattle.playback.specs.Playback.{answerCode, Played};
@@ -92,6 +93,21 @@ fn setup_in(c: Control) -> Setup
     a.setup
 }
 
+// The control of a view, and that after work.
+fn control_in(v: View) -> Control
+    ensures { λ r. ⌜ r ≡ v .control ⌝ }
+{
+    let c = v.control;
+    c
+}
+
+fn control_after(o: Worked) -> Control
+    ensures { λ r. ⌜ r ≡ o .control ⌝ }
+{
+    let c = o.control;
+    c
+}
+
 // What runs after a write.
 fn running_in(v: View) -> Running
     ensures { λ r. ⌜ r ≡ v .control .activity .running ⌝ }
@@ -134,14 +150,14 @@ pub fn run(device: Device, steps: &[u64], answers: &mut [u64], array: &mut [u16]
                     let p = state::place_of(part, address);
                     let setup = setup_in(s.control);
                     let v = writing::view_after(s, p, word);
-                    s.control = v.control;
+                    s.control = control_in(v);
                     s.banks[p.bank as usize] = bank_in(v);
                     protection::set_block(&mut s.unprotected, p.block, v.unprotected);
                     writing::load_buffer(part, setup, p, word, running_in(v), &mut s.buffer);
                 }
                 Step::Work(count) => {
                     let o = working::work(part, s.control, &mut s.buffer, array, count);
-                    s.control = o.control;
+                    s.control = control_after(o);
                     answer = Answer::Units(o.units);
                 }
                 Step::Supply(on) => s.control.supply = on,

@@ -9,7 +9,7 @@ use borrow.Author.Needs.{needs}
 use lib.ListN.{length}
 use Rattle.semantics.specs.Held.{does-refused, does-read, does-write, does-work, does-supply, does-reset}
 use Rattle.playback.specs.Laws.{Going, going-none, going-next, sofar-end, is-refused, is-done}
-use Rattle.playback.proofs.Fits.{five, sixteen}
+use Rattle.playback.proofs.Fits.{five, sixteen, thirty-two}
 use Rattle.playback.proofs.run.Statement.{statement}
 use Rattle.playback.proofs.run.Tie as tie
 
@@ -23,7 +23,7 @@ loop-holds : tie.Need-loop-holds Inv-loop μ-loop
 loop-holds c =
     let d = c .before .before .before .before .before .before .args .device in
     let p = c .before .before .before .before .before .before .good .0 in
-    (going-none _ _ _ _ _ (record { same = c .before .state-refusal .ensures; sixteen = sixteen d _ p; five = five d _ p }), c .least .ensures)
+    (going-none _ _ _ _ _ (record { same = c .before .state-refusal .ensures; sixteen = sixteen d _ p; five = five d _ p; thirty-two = thirty-two d _ p }), c .least .ensures)
 
 returns : tie.Need-returns Inv-loop μ-loop
 returns c = rw (c .ended .ensures) (sofar-end _ _ _ _ _ _ _ _ (c .before .before .before .before .before .before .loop .inv .0 .sofar) (λ p q. sym (c .before .before .before .decoded .ensures) ∙ c .before .enum-told .given .1))
@@ -38,8 +38,8 @@ loop-again c =
       rw (add-one, c .answer-code .ensures)
           (going-next _ _ _ _ _ _ _ _ _ _ _ _ _ g (omega arith) (omega arith) (sym (c .before .before .before .before .before .before .before .before .decoded .ensures) ∙ c .before .before .before .before .before .before .x .given .1)
           (⊎-elim (λ w. does-read _ _ _ (g .held) _ _ _ d e _ _ _ _ _ (w .0 .taken) (w .2 .given .1) (w .5 .ensures) (w .7) (w .8) (w .6))
-          (⊎-elim (λ w. does-write _ _ _ (g .held) _ _ _ d e _ _ _ _ _ _ _ _ _ (w .0 .taken) (w .2 .given .1) (w .4 .ensures .0) (w .5 .ensures) (w .7 .ensures) (w .10 .ensures) (w .12) (is-done _ _ _ (w .0 .taken) f (w .13)) (w .11))
-          (⊎-elim (λ w. does-work _ _ _ (g .held) _ _ _ d e _ _ _ _ _ (w .0 .taken) (w .2 .given .1) (w .6 .ensures .0) (w .11) (w .12) (w .10 ∙ w .6 .ensures .1))
+          (⊎-elim (λ w. does-write _ _ _ (g .held) _ _ _ d e _ _ _ _ _ _ _ _ _ _ (w .0 .taken) (w .2 .given .1) (w .4 .ensures .0) (w .7 .ensures) (w .9 .ensures) (w .12 .ensures) (w .15 .ensures ∙ rw (w .6 .ensures, w .13 .ensures)) (w .17 ∙ rw (w .8 .ensures)) (is-done _ _ _ (w .0 .taken) f (w .18)) (w .16))
+          (⊎-elim (λ w. does-work _ _ _ (g .held) _ _ _ d e _ _ _ _ _ _ (w .0 .taken) (w .2 .given .1) (w .7 .ensures .0) (w .7 .ensures .1 .0) (w .12 ∙ rw (w .10 .ensures)) (w .13) (w .11 ∙ w .7 .ensures .1 .1))
           (⊎-elim (λ w. does-supply _ _ _ (g .held) _ _ _ d e _ _ _ _ (w .0 .taken) (w .2 .given .1) (w .6) (is-done _ _ _ (w .0 .taken) f (w .7)) (w .5))
           (⊎-elim (λ w. does-reset _ _ _ (g .held) _ _ _ d e _ _ _ (w .0 .taken) (w .2 .given .1) (w .5 ∙ w .3 .ensures) (is-done _ _ _ (w .0 .taken) f (w .6)) (w .4))
           (λ w. does-refused _ _ _ (g .held) _ _ _ d e _ _ _ (w .0 .left) (w .2) (is-refused _ _ _ (w .0 .left) f (w .3)) (w .1)))))) (c .before .if1 .came))),
@@ -76,10 +76,15 @@ run-spec =
     (λ c κs. search needs)
     (λ c κs. search needs)
     (λ c κs. search needs)
+    (λ c κs. search needs)
+    (λ c κs. search needs)
     (λ c. search needs)
     (λ c. search needs)
     (λ c κs. search needs)
+    (λ c κs. search needs)
+    (λ c κs. search needs)
     (λ c. search needs)
+    (λ c κs. search needs)
     (λ c κs. search needs)
     (λ c. search needs)
     (λ c. search needs)
