@@ -1,14 +1,14 @@
 -- Laws of the saved words: a state whose numbers fit their types is got back from its words, and words that are no saved state say one that the device refuses.
 -- Assumes nothing.
-use Prim.Native.Nat.{ℕ, zero, suc, _+_, _<_, _≤_}
+use Prim.Native.Nat.{ℕ, zero, suc, _+_, _*_, _/_, _%_, _<_, _≤_}
 use mathlib.Core.Bool.{Bool, true, false, _&&_}
 use mathlib.Core.List.{List, [], _∷_}
 use mathlib.Core.Path.{_≡_, refl, sym, ap, _∙_, subst}
 use native.Mathlib.Nat.{mod-eq-of-lt}
 use native.Mathlib.Omega.{arith}
 use lib.Dec.{eqb}
-use lib.ListN.{length, getD, take, set, length-set}
-use lib.Seq.{getD-set-same, getD-set-other, sets}
+use lib.ListN.{length, getD, take, drop, set, length-set, replicate}
+use lib.Seq.{getD-set-same, getD-set-other, getD-drop, sets}
 use borrow.Author.Count.{below-none, below-more}
 use borrow.Author.Tests.{eq-eqb, eqb-true}
 use Rattle.geometry.specs.declared.Part.{Part}
@@ -27,10 +27,10 @@ use Rattle.semantics.specs.declared.SuspendedProgram.the-variants as program
 use Rattle.semantics.specs.declared.SuspendedErase.{SuspendedErase}
 use Rattle.semantics.specs.declared.SuspendedErase.the-variants as erase
 use Rattle.semantics.specs.declared.State.{State}
-use Rattle.semantics.specs.State.{activity, flagsOf, powerUp}
+use Rattle.semantics.specs.State.{activity, flagsOf, emptyBuffer, powerUp}
 use Rattle.semantics.specs.Reading.{bitIf}
-use Rattle.semantics.specs.WellFormed.{runningAlone, programAlone, eraseAlone, runningFits, programFits, suspendedEraseFits, allFit, runningApart, programApart, apart, activityFormed, wellFormed}
-use Rattle.saved.specs.Saved.{partNumber, modeNumber, modeNumbered, bankNumber, bankNumbered, setupNumber, setupNumbered, flagNumbered, runningWords, runningOf, programWords, programOf, eraseWords, eraseOf, listed, first, bankWords, activityWords, restOf, savedOf, loadedOf, same, isSaved, noState, stateOf, putInto}
+use Rattle.semantics.specs.WellFormed.{runningAlone, programAlone, eraseAlone, setupFits, runningFits, programFits, suspendedEraseFits, allFit, runningApart, programApart, apart, activityFormed, wellFormed}
+use Rattle.saved.specs.Saved.{partNumber, modeNumber, modeNumbered, bankNumber, bankNumbered, flagNumbered, setupWords, setupOf, runningWords, runningOf, programWords, programOf, eraseWords, eraseOf, listed, first, bankWords, activityWords, restOf, packed, lane, bufferWords, savedOf, loadedOf, same, isSaved, noState, stateOf, putInto}
 
 -- ---- lists
 
@@ -68,6 +68,27 @@ filled-more {d = d} {f = f} {i = i} {l = l} {x = x} h p q =
 pub filled-all : {A : Type 0} {d : A} {f : ℕ → A} {n i : ℕ} {l : List A} → Filled d f n i l → n ≤ i → l ≡ listed n f
 filled-all {d = d} {f = f} {n = n} {l = l} h p = listed-is d n f l (h .size) (λ k q. h .done k (omega arith))
 
+-- the buffer, for the loop that takes four words of it from each saved word
+abbrev pub Taken : List ℕ → ℕ → List ℕ → Type 0
+Taken ws j bs = Filled 0 (λ i. lane (getD (drop 43 ws) (i / 4) 0) (i % 4)) 32 (4 * j) bs
+
+pub taken-more : (ws bs : List ℕ) (j w : ℕ) → j < 8 → w ≡ getD ws (43 + j) 0 → Taken ws j bs
+    → Taken ws (j + 1) (set (set (set (set bs (4 * j) (lane w 0)) (4 * j + 1) (lane w 1)) (4 * j + 2) (lane w 2)) (4 * j + 3) (lane w 3))
+taken-more ws bs j w h q t =
+    one (4 * j + 3) (4 * (j + 1)) (omega arith) (omega arith) (at 3 (4 * j + 3) refl (omega arith))
+    (one (4 * j + 2) (4 * j + 3) (omega arith) (omega arith) (at 2 (4 * j + 2) refl (omega arith))
+    (one (4 * j + 1) (4 * j + 2) (omega arith) (omega arith) (at 1 (4 * j + 1) refl (omega arith))
+    (one (4 * j) (4 * j + 1) refl (omega arith) (at 0 (4 * j) (omega arith) (omega arith)) t)))
+  where
+    f : ℕ → ℕ
+    f i = lane (getD (drop 43 ws) (i / 4) 0) (i % 4)
+
+    at : (k i : ℕ) → i ≡ 4 * j + k → k < 4 → lane w k ≡ f i
+    at k i e l = let d : i / 4 ≡ j = omega arith in let m : i % 4 ≡ k = omega arith in rw (d, m, getD-drop) (ap (λ (x : ℕ). lane x k) q)
+
+    one : (i n : ℕ) {l : List ℕ} {x : ℕ} → i + 1 ≡ n → i < 32 → x ≡ f i → Filled 0 f 32 i l → Filled 0 f 32 n (set l i x)
+    one i n {l} {x} e p v g = subst (λ (m : ℕ). Filled 0 f 32 m (set l i x)) e (filled-more g p v)
+
 pub first-all : (n : ℕ) (l : List ℕ) → length l ≡ n → first n l ≡ l
 first-all n l h = sym (listed-is 0 n (λ k. getD l k 0) l h (λ k q. refl))
 
@@ -103,16 +124,24 @@ banks-next banks l ws i x h p q =
     let n : i + 1 ≡ suc i = omega arith in
     rw (p, ← e, n) (sets-next (bankWords banks) l 1 i h)
 
--- room for 38 words after the stores of a state's words, group by group
-pub stored : (s : State) (l₀ l₁ l₂ l₃ : List ℕ) (n : ℕ) → length l₀ ≡ 38 → n ≡ partNumber (s .part) → l₁ ≡ sets (set l₀ 0 n) 1 (bankWords (s .banks)) → l₂ ≡ sets l₁ 17 (activityWords (s .control .activity))
-    → l₃ ≡ sets l₂ 27 (restOf s) → l₃ ≡ putInto l₀ (savedOf s)
+-- the words of the buffer, one more
+pub buffer-next : (bs l ws : List ℕ) (j x : ℕ) → j < 8 → ws ≡ sets l 43 (take j (bufferWords bs)) → x ≡ packed (getD bs (4 * j) 0) (getD bs (4 * j + 1) 0) (getD bs (4 * j + 2) 0) (getD bs (4 * j + 3) 0)
+    → set ws (43 + j) x ≡ sets l 43 (take (j + 1) (bufferWords bs))
+buffer-next bs l ws j x h p q =
+    let e : getD (bufferWords bs) j 0 ≡ x = listed-at 0 8 (λ j. packed (getD bs (4 * j) 0) (getD bs (4 * j + 1) 0) (getD bs (4 * j + 2) 0) (getD bs (4 * j + 3) 0)) j h ∙ sym q in
+    let n : j + 1 ≡ suc j = omega arith in
+    rw (p, ← e, n) (sets-next (bufferWords bs) l 43 j h)
+
+-- room for 51 words after the stores of a state's words, group by group
+pub stored : (s : State) (l₀ l₁ l₂ l₃ l₄ : List ℕ) (n : ℕ) → length l₀ ≡ 51 → n ≡ partNumber (s .part) → l₁ ≡ sets (set l₀ 0 n) 1 (bankWords (s .banks)) → l₂ ≡ sets l₁ 17 (activityWords (s .control .activity))
+    → l₃ ≡ sets l₂ 32 (restOf s) → l₄ ≡ sets l₃ 43 (bufferWords (s .buffer)) → l₄ ≡ putInto l₀ (savedOf s)
 unfolding savedOf putInto
-stored s l₀ l₁ l₂ l₃ n h p q r t =
-    t ∙ ap (λ (l : List ℕ). sets l 27 (restOf s)) (r ∙ ap (λ (l : List ℕ). sets l 17 (activityWords (s .control .activity))) q) ∙ ap (all l₀) p
-    ∙ subst (λ (l : List ℕ). all l (partNumber (s .part)) ≡ savedOf s) (first-all 38 l₀ h) refl ∙ rw (eq-eqb (length l₀) 38 h)
+stored s l₀ l₁ l₂ l₃ l₄ n h p q r t u =
+    u ∙ ap (λ (l : List ℕ). sets l 43 (bufferWords (s .buffer))) (t ∙ ap (λ (l : List ℕ). sets l 32 (restOf s)) (r ∙ ap (λ (l : List ℕ). sets l 17 (activityWords (s .control .activity))) q)) ∙ ap (all l₀) p
+    ∙ subst (λ (l : List ℕ). all l (partNumber (s .part)) ≡ savedOf s) (first-all 51 l₀ h) refl ∙ rw (eq-eqb (length l₀) 51 h)
   where
     all : List ℕ → ℕ → List ℕ
-    all l x = sets (sets (sets (set l 0 x) 1 (bankWords (s .banks))) 17 (activityWords (s .control .activity))) 27 (restOf s)
+    all l x = sets (sets (sets (sets (set l 0 x) 1 (bankWords (s .banks))) 17 (activityWords (s .control .activity))) 32 (restOf s)) 43 (bufferWords (s .buffer))
 
 -- ---- a field and back
 
@@ -137,27 +166,66 @@ banks-back l h =
     (listed-is (record { mode = Array }) 16 (λ k. bankNumbered (bankNumber (getD l k (record { mode = Array })))) l h
     (λ k q. sym (bank-back (getD l k (record { mode = Array })))))
 
-setup-back : (s : Setup) → setupNumbered (setupNumber s) ≡ s
-setup-back setup.Nothing = refl
-setup-back setup.Program = refl
-setup-back setup.Erase = refl
-setup-back setup.Lock = refl
-
 flag-back : (b : Bool) → flagNumbered (bitIf b 1) ≡ b
 flag-back true = refl
 flag-back false = refl
 
+-- ---- the buffer
+
+lane-0 : (a b c d : ℕ) → a < 65536 → b < 65536 → c < 65536 → lane (packed a b c d) 0 ≡ a
+lane-0 a b c d h k m = omega arith
+
+lane-1 : (a b c d : ℕ) → a < 65536 → b < 65536 → c < 65536 → lane (packed a b c d) 1 ≡ b
+lane-1 a b c d h k m = omega arith
+
+lane-2 : (a b c d : ℕ) → a < 65536 → b < 65536 → c < 65536 → lane (packed a b c d) 2 ≡ c
+lane-2 a b c d h k m = omega arith
+
+lane-3 : (a b c d : ℕ) → a < 65536 → b < 65536 → c < 65536 → lane (packed a b c d) 3 ≡ d
+lane-3 a b c d h k m = omega arith
+
+-- the four of a word are that word
+pub packed-lanes : (w : ℕ) → packed (lane w 0) (lane w 1) (lane w 2) (lane w 3) ≡ w
+packed-lanes w = omega arith
+
+buffer-back : (bs : List ℕ) → length bs ≡ 32 → ((k : ℕ) → getD bs k 0 < 65536) → listed 32 (λ i. lane (getD (bufferWords bs) (i / 4) 0) (i % 4)) ≡ bs
+buffer-back bs h f = sym (listed-is 0 32 (λ i. lane (getD (bufferWords bs) (i / 4) 0) (i % 4)) bs h each)
+  where
+    at : (j k : ℕ) → k < 4 → getD bs (4 * j + k) 0 ≡ lane (packed (getD bs (4 * j) 0) (getD bs (4 * j + 1) 0) (getD bs (4 * j + 2) 0) (getD bs (4 * j + 3) 0)) k
+    at j zero q = let e : 4 * j + 0 ≡ 4 * j = omega arith in rw e (sym (lane-0 (getD bs (4 * j) 0) _ _ _ (f _) (f _) (f _)))
+    at j (suc zero) q = sym (lane-1 _ (getD bs (4 * j + 1) 0) _ _ (f _) (f _) (f _))
+    at j (suc (suc zero)) q = sym (lane-2 _ _ (getD bs (4 * j + 2) 0) _ (f _) (f _) (f _))
+    at j (suc (suc (suc zero))) q = sym (lane-3 _ _ _ (getD bs (4 * j + 3) 0) (f _) (f _) (f _))
+    at j (suc (suc (suc (suc k)))) q = absurd (omega arith)
+
+    each : (k : ℕ) → k < 32 → getD bs k 0 ≡ lane (getD (bufferWords bs) (k / 4) 0) (k % 4)
+    each k q =
+        let e : k ≡ 4 * (k / 4) + k % 4 = omega arith in
+        ap (λ (i : ℕ). getD bs i 0) e ∙ at (k / 4) (k % 4) (omega arith)
+        ∙ ap (λ (w : ℕ). lane w (k % 4)) (sym (listed-at 0 8 (λ j. packed (getD bs (4 * j) 0) (getD bs (4 * j + 1) 0) (getD bs (4 * j + 2) 0) (getD bs (4 * j + 3) 0)) (k / 4) (omega arith)))
+
 -- ---- the whole state
 
 -- the numbers of what is under way fit their types
+abbrev pub SetupFitting : Setup → Type 0
+SetupFitting setup.Nothing = Unit {0}
+SetupFitting setup.Program = Unit {0}
+SetupFitting setup.Erase = Unit {0}
+SetupFitting setup.Lock = Unit {0}
+SetupFitting (setup.BufferCount b) = b < 4294967296
+SetupFitting (setup.BufferFirst b n) = (b < 4294967296) × (n < 4294967296)
+SetupFitting (setup.BufferWords l n k) = (l < 4294967296) × (n < 4294967296) × (k < 4294967296)
+
 abbrev pub RunningFitting : Running → Type 0
 RunningFitting running.Idle = Unit {0}
 RunningFitting (running.Program l w) = (l < 4294967296) × (w < 65536)
 RunningFitting (running.Erase b n) = (b < 4294967296) × (n < 4294967296)
+RunningFitting (running.Buffer l n d) = (l < 4294967296) × (n < 4294967296) × (d < 4294967296)
 
 abbrev pub ProgramFitting : SuspendedProgram → Type 0
 ProgramFitting program.Nothing = Unit {0}
 ProgramFitting (program.Program l w) = (l < 4294967296) × (w < 65536)
+ProgramFitting (program.Buffer l n d) = (l < 4294967296) × (n < 4294967296) × (d < 4294967296)
 
 abbrev pub EraseFitting : SuspendedErase → Type 0
 EraseFitting erase.Nothing = Unit {0}
@@ -166,20 +234,34 @@ EraseFitting (erase.Erase b n) = (b < 4294967296) × (n < 4294967296)
 -- what every state that the code holds has, by its types
 pub record Fitting (s : State) : Type 0 where
   pub banks : length (s .banks) ≡ 16
+  pub setup : SetupFitting (s .control .activity .setup)
   pub running : RunningFitting (s .control .activity .running)
   pub program : ProgramFitting (s .control .activity .program)
   pub erase : EraseFitting (s .control .activity .erase)
   pub unprotected : length (s .unprotected) ≡ 5
   pub configuration : s .control .configuration < 65536
+  pub places : length (s .buffer) ≡ 32
+  pub buffer : (k : ℕ) → getD (s .buffer) k 0 < 65536
 
-running-back : (r : Running) → RunningFitting r → runningOf (getD (runningWords r) 0 0) (getD (runningWords r) 1 0) (getD (runningWords r) 2 0) ≡ r
+setup-back : (s : Setup) → SetupFitting s → setupOf (getD (setupWords s) 0 0) (getD (setupWords s) 1 0) (getD (setupWords s) 2 0) (getD (setupWords s) 3 0) ≡ s
+setup-back setup.Nothing h = refl
+setup-back setup.Program h = refl
+setup-back setup.Erase h = refl
+setup-back setup.Lock h = refl
+setup-back (setup.BufferCount b) h = rw (mod-eq-of-lt h)
+setup-back (setup.BufferFirst b n) h = rw (mod-eq-of-lt (h .0), mod-eq-of-lt (h .1))
+setup-back (setup.BufferWords l n k) h = rw (mod-eq-of-lt (h .0), mod-eq-of-lt (h .1), mod-eq-of-lt (h .2))
+
+running-back : (r : Running) → RunningFitting r → runningOf (getD (runningWords r) 0 0) (getD (runningWords r) 1 0) (getD (runningWords r) 2 0) (getD (runningWords r) 3 0) ≡ r
 running-back running.Idle h = refl
 running-back (running.Program l w) h = rw (mod-eq-of-lt (h .0), mod-eq-of-lt (h .1))
 running-back (running.Erase b n) h = rw (mod-eq-of-lt (h .0), mod-eq-of-lt (h .1))
+running-back (running.Buffer l n d) h = rw (mod-eq-of-lt (h .0), mod-eq-of-lt (h .1), mod-eq-of-lt (h .2))
 
-program-back : (p : SuspendedProgram) → ProgramFitting p → programOf (getD (programWords p) 0 0) (getD (programWords p) 1 0) (getD (programWords p) 2 0) ≡ p
+program-back : (p : SuspendedProgram) → ProgramFitting p → programOf (getD (programWords p) 0 0) (getD (programWords p) 1 0) (getD (programWords p) 2 0) (getD (programWords p) 3 0) ≡ p
 program-back program.Nothing h = refl
 program-back (program.Program l w) h = rw (mod-eq-of-lt (h .0), mod-eq-of-lt (h .1))
+program-back (program.Buffer l n d) h = rw (mod-eq-of-lt (h .0), mod-eq-of-lt (h .1), mod-eq-of-lt (h .2))
 
 erase-back : (e : SuspendedErase) → EraseFitting e → eraseOf (getD (eraseWords e) 0 0) (getD (eraseWords e) 1 0) (getD (eraseWords e) 2 0) ≡ e
 erase-back erase.Nothing h = refl
@@ -194,12 +276,13 @@ loaded-saved s h = λ j. record {
   unprotected = first-all 5 (s .unprotected) (h .unprotected) j;
   control = record {
     activity =
-        activity (setup-back (s .control .activity .setup) j) (running-back (s .control .activity .running) (h .running) j) (program-back (s .control .activity .program) (h .program) j)
+        activity (setup-back (s .control .activity .setup) (h .setup) j) (running-back (s .control .activity .running) (h .running) j) (program-back (s .control .activity .program) (h .program) j)
         (erase-back (s .control .activity .erase) (h .erase) j);
     flags = flagsOf (flag-back (s .control .flags .sr5) j) (flag-back (s .control .flags .sr4) j) (flag-back (s .control .flags .sr3) j) (flag-back (s .control .flags .sr1) j);
     configuration = mod-eq-of-lt (h .configuration) j;
     supply = flag-back (s .control .supply) j;
   };
+  buffer = buffer-back (s .buffer) (h .places) (h .buffer) j;
 }
 
 -- so its words are a saved state, and say it
@@ -216,17 +299,22 @@ pub saved-back : (ws : List ℕ) → isSaved ws ≡ true → savedOf (stateOf ws
 unfolding stateOf isSaved
 saved-back ws h = rw h (sym (same-true ws (savedOf (loadedOf ws)) h))
 
--- and are 38
-pub saved-length : (ws : List ℕ) → isSaved ws ≡ true → length ws ≡ 38
+-- and are 51
+pub saved-length : (ws : List ℕ) → isSaved ws ≡ true → length ws ≡ 51
 unfolding isSaved savedOf
 saved-length ws h = ap length (same-true ws (savedOf (loadedOf ws)) h)
 
 -- words that are none say a state that is not well formed
 pub unsaved-refused : (ws : List ℕ) → isSaved ws ≡ false → wellFormed (stateOf ws) ≡ false
-unfolding stateOf noState powerUp runningAlone programAlone eraseAlone runningFits programFits suspendedEraseFits allFit runningApart programApart apart activityFormed wellFormed spareZero
+unfolding stateOf noState powerUp runningAlone programAlone eraseAlone setupFits runningFits programFits suspendedEraseFits allFit runningApart programApart apart activityFormed wellFormed spareZero
 unsaved-refused ws h = rw h
+
+zeros : (n k : ℕ) → _≡_ {A = ℕ} (getD (replicate n 0) k 0) 0
+zeros zero k = refl
+zeros (suc n) zero = refl
+zeros (suc n) (suc k) = zeros n k
 
 -- power-up is such a state
 pub power-up-fitting : (p : Part) → Fitting (powerUp p)
-unfolding powerUp allProtected
-power-up-fitting p = record { banks = refl; running = tt; program = tt; erase = tt; unprotected = refl; configuration = omega arith }
+unfolding powerUp allProtected emptyBuffer
+power-up-fitting p = record { banks = refl; setup = tt; running = tt; program = tt; erase = tt; unprotected = refl; configuration = omega arith; places = refl; buffer = λ k. omega (arith, zeros 32 k) }

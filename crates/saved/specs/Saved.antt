@@ -1,7 +1,7 @@
--- A device's state as 38 words of 64 bits, so that programs in C can keep it: which word says what, the state that words say, and which words are a saved state.
+-- A device's state as 51 words of 64 bits, so that programs in C can keep it: which word says what, the state that words say, and which words are a saved state.
 -- Definitions only; the laws are in Laws.
 -- Assumes nothing.
-use Prim.Native.Nat.{ℕ, zero, suc, _%_}
+use Prim.Native.Nat.{ℕ, zero, suc, _+_, _*_, _/_, _%_}
 use mathlib.Core.Bool.{Bool, true, false, not, cond, _&&_}
 use mathlib.Core.List.{List, [], _∷_, _++_}
 use lib.Dec.{eqb, ltb}
@@ -52,38 +52,63 @@ bankNumber b = modeNumber (b .mode)
 abbrev pub bankNumbered : ℕ → Bank
 bankNumbered n = record { mode = modeNumbered n }
 
--- 0 nothing, 1 program, 2 erase, 3 lock
-abbrev pub setupNumber : Setup → ℕ
-setupNumber setup.Nothing = 0
-setupNumber setup.Program = 1
-setupNumber setup.Erase = 2
-setupNumber setup.Lock = 3
-
-abbrev pub setupNumbered : ℕ → Setup
-setupNumbered n = cond (eqb n 0) setup.Nothing (cond (eqb n 1) setup.Program (cond (eqb n 2) setup.Erase setup.Lock))
-
 -- 0 off, 1 on: back from `bitIf b 1`
 abbrev pub flagNumbered : ℕ → Bool
 flagNumbered n = not (eqb n 0)
 
--- what runs, or is suspended: its kind, and two numbers, which are 0 where there is nothing
+-- what is pending, runs or is suspended: its kind, and its numbers; a place that it does not use is 0.
+-- Set-up: 0 nothing, 1 program, 2 erase, 3 lock; of a load 4, block (its count is due), or 5, block, number of words (its first word), or 6, start, number of words,
+-- data cycles that are due
+abbrev pub setupWords : Setup → List ℕ
+setupWords setup.Nothing = 0 ∷ 0 ∷ 0 ∷ 0 ∷ []
+setupWords setup.Program = 1 ∷ 0 ∷ 0 ∷ 0 ∷ []
+setupWords setup.Erase = 2 ∷ 0 ∷ 0 ∷ 0 ∷ []
+setupWords setup.Lock = 3 ∷ 0 ∷ 0 ∷ 0 ∷ []
+setupWords (setup.BufferCount b) = 4 ∷ b ∷ 0 ∷ 0 ∷ []
+setupWords (setup.BufferFirst b n) = 5 ∷ b ∷ n ∷ 0 ∷ []
+setupWords (setup.BufferWords l n k) = 6 ∷ l ∷ n ∷ k ∷ []
+
+-- the set-ups that have no number; every other kind is lock
+abbrev pub plainSetup : ℕ → Setup
+plainSetup k = cond (eqb k 0) setup.Nothing (cond (eqb k 1) setup.Program (cond (eqb k 2) setup.Erase setup.Lock))
+
+-- those of a load; every other kind is the last
+abbrev pub loadOf : ℕ → ℕ → ℕ → ℕ → Setup
+loadOf k a b c =
+    cond (eqb k 4) (setup.BufferCount (a % 4294967296))
+    (cond (eqb k 5) (setup.BufferFirst (a % 4294967296) (b % 4294967296))
+    (setup.BufferWords (a % 4294967296) (b % 4294967296) (c % 4294967296)))
+
+abbrev pub setupOf : ℕ → ℕ → ℕ → ℕ → Setup
+setupOf k a b c = cond (ltb k 4) (plainSetup k) (loadOf k a b c)
+
+-- 0 idle; 1 program, location, data; 2 erase, block, words done; 3 buffer program, start, number of words, words done
 abbrev pub runningWords : Running → List ℕ
-runningWords running.Idle = 0 ∷ 0 ∷ 0 ∷ []
-runningWords (running.Program l w) = 1 ∷ l ∷ w ∷ []
-runningWords (running.Erase b n) = 2 ∷ b ∷ n ∷ []
+runningWords running.Idle = 0 ∷ 0 ∷ 0 ∷ 0 ∷ []
+runningWords (running.Program l w) = 1 ∷ l ∷ w ∷ 0 ∷ []
+runningWords (running.Erase b n) = 2 ∷ b ∷ n ∷ 0 ∷ []
+runningWords (running.Buffer l n d) = 3 ∷ l ∷ n ∷ d ∷ []
 
-abbrev pub runningOf : ℕ → ℕ → ℕ → Running
-runningOf k a b =
+abbrev pub runningOf : ℕ → ℕ → ℕ → ℕ → Running
+runningOf k a b c =
     cond (eqb k 0) running.Idle
-    (cond (eqb k 1) (running.Program (a % 4294967296) (b % 65536)) (running.Erase (a % 4294967296) (b % 4294967296)))
+    (cond (eqb k 1) (running.Program (a % 4294967296) (b % 65536))
+    (cond (eqb k 2) (running.Erase (a % 4294967296) (b % 4294967296))
+    (running.Buffer (a % 4294967296) (b % 4294967296) (c % 4294967296))))
 
+-- 0 nothing; 1 program, location, data; 2 buffer program, start, number of words, words done
 abbrev pub programWords : SuspendedProgram → List ℕ
-programWords program.Nothing = 0 ∷ 0 ∷ 0 ∷ []
-programWords (program.Program l w) = 1 ∷ l ∷ w ∷ []
+programWords program.Nothing = 0 ∷ 0 ∷ 0 ∷ 0 ∷ []
+programWords (program.Program l w) = 1 ∷ l ∷ w ∷ 0 ∷ []
+programWords (program.Buffer l n d) = 2 ∷ l ∷ n ∷ d ∷ []
 
-abbrev pub programOf : ℕ → ℕ → ℕ → SuspendedProgram
-programOf k a b = cond (eqb k 0) program.Nothing (program.Program (a % 4294967296) (b % 65536))
+abbrev pub programOf : ℕ → ℕ → ℕ → ℕ → SuspendedProgram
+programOf k a b c =
+    cond (eqb k 0) program.Nothing
+    (cond (eqb k 1) (program.Program (a % 4294967296) (b % 65536))
+    (program.Buffer (a % 4294967296) (b % 4294967296) (c % 4294967296)))
 
+-- 0 nothing; 1 erase, block, words done
 abbrev pub eraseWords : SuspendedErase → List ℕ
 eraseWords erase.Nothing = 0 ∷ 0 ∷ 0 ∷ []
 eraseWords (erase.Erase b n) = 1 ∷ b ∷ n ∷ []
@@ -94,7 +119,7 @@ eraseOf k a b = cond (eqb k 0) erase.Nothing (erase.Erase (a % 4294967296) (b % 
 abbrev pub flagWords : Flags → List ℕ
 flagWords f = bitIf (f .sr5) 1 ∷ bitIf (f .sr4) 1 ∷ bitIf (f .sr3) 1 ∷ bitIf (f .sr1) 1 ∷ []
 
--- ---- the 38 words
+-- ---- the 51 words
 
 -- the list of f at each number below n
 abbrev pub listed : {A : Type 0} → ℕ → (ℕ → A) → List A
@@ -114,7 +139,7 @@ banksOf ws = listed 16 (λ k. bankNumbered (getD (drop 1 ws) k 0))
 
 -- the words of what is under way, and of the rest of a state
 abbrev pub activityWords : Activity → List ℕ
-activityWords a = setupNumber (a .setup) ∷ (first 3 (runningWords (a .running)) ++ (first 3 (programWords (a .program)) ++ first 3 (eraseWords (a .erase))))
+activityWords a = first 4 (setupWords (a .setup)) ++ (first 4 (runningWords (a .running)) ++ (first 4 (programWords (a .program)) ++ first 3 (eraseWords (a .erase))))
 
 abbrev pub restWords : Flags → List ℕ → ℕ → Bool → List ℕ
 restWords f u configuration supply = flagWords f ++ (first 5 u ++ (configuration ∷ bitIf supply 1 ∷ []))
@@ -122,31 +147,46 @@ restWords f u configuration supply = flagWords f ++ (first 5 u ++ (configuration
 abbrev pub restOf : State → List ℕ
 restOf s = restWords (s .control .flags) (s .unprotected) (s .control .configuration) (s .control .supply)
 
--- word 0 the part; 1 to 16 the modes of the banks; 17 the set-up; 18 to 20 what runs; 21 to 23 the suspended program; 24 to 26 the suspended erase;
--- 27 to 30 the flags SR5, SR4, SR3, SR1; 31 to 35 the protection words; 36 the configuration register; 37 the supply
+-- four words of the buffer in one, the first lowest
+abbrev pub packed : ℕ → ℕ → ℕ → ℕ → ℕ
+packed a b c d = a + b * 65536 + c * 4294967296 + d * 281474976710656
+
+-- and back, that with the number k. The last is all that is left, which of a word of 64 bits is 16 bits
+abbrev pub lane : ℕ → ℕ → ℕ
+lane w k = cond (eqb k 0) (w % 65536) (cond (eqb k 1) (w / 65536 % 65536) (cond (eqb k 2) (w / 4294967296 % 65536) (w / 281474976710656)))
+
+abbrev pub bufferWords : List ℕ → List ℕ
+bufferWords bs = listed 8 (λ j. packed (getD bs (4 * j) 0) (getD bs (4 * j + 1) 0) (getD bs (4 * j + 2) 0) (getD bs (4 * j + 3) 0))
+
+abbrev pub bufferIn : List ℕ → List ℕ
+bufferIn ws = listed 32 (λ i. lane (getD (drop 43 ws) (i / 4) 0) (i % 4))
+
+-- word 0 the part; 1 to 16 the modes of the banks; 17 to 20 the set-up; 21 to 24 what runs; 25 to 28 the suspended program; 29 to 31 the suspended erase;
+-- 32 to 35 the flags SR5, SR4, SR3, SR1; 36 to 40 the protection words; 41 the configuration register; 42 the supply; 43 to 50 the buffer
 unfoldable pub savedOf : State → List ℕ
 savedOf s =
-    partNumber (s .part) ∷ (bankWords (s .banks) ++ (activityWords (s .control .activity) ++ restOf s))
+    partNumber (s .part) ∷ (bankWords (s .banks) ++ (activityWords (s .control .activity) ++ (restOf s ++ bufferWords (s .buffer))))
 
 -- the state that words say, whatever they are, field by field: a word that is missing is 0, and a number is reduced to the bits that its field has, which
--- for a protection word are all
+-- for a protection word, and for a word of the buffer, are all
 abbrev pub activityOf : List ℕ → Activity
 activityOf ws =
-    activity (setupNumbered (getD ws 17 0)) (runningOf (getD ws 18 0) (getD ws 19 0) (getD ws 20 0)) (programOf (getD ws 21 0) (getD ws 22 0) (getD ws 23 0))
-    (eraseOf (getD ws 24 0) (getD ws 25 0) (getD ws 26 0))
+    activity (setupOf (getD ws 17 0) (getD ws 18 0) (getD ws 19 0) (getD ws 20 0)) (runningOf (getD ws 21 0) (getD ws 22 0) (getD ws 23 0) (getD ws 24 0))
+    (programOf (getD ws 25 0) (getD ws 26 0) (getD ws 27 0) (getD ws 28 0)) (eraseOf (getD ws 29 0) (getD ws 30 0) (getD ws 31 0))
 
 abbrev pub flagsIn : List ℕ → Flags
-flagsIn ws = flagsOf (flagNumbered (getD ws 27 0)) (flagNumbered (getD ws 28 0)) (flagNumbered (getD ws 29 0)) (flagNumbered (getD ws 30 0))
+flagsIn ws = flagsOf (flagNumbered (getD ws 32 0)) (flagNumbered (getD ws 33 0)) (flagNumbered (getD ws 34 0)) (flagNumbered (getD ws 35 0))
 
 abbrev pub protectionIn : List ℕ → List ℕ
-protectionIn ws = getD ws 31 0 ∷ getD ws 32 0 ∷ getD ws 33 0 ∷ getD ws 34 0 ∷ getD ws 35 0 ∷ []
+protectionIn ws = getD ws 36 0 ∷ getD ws 37 0 ∷ getD ws 38 0 ∷ getD ws 39 0 ∷ getD ws 40 0 ∷ []
 
 unfoldable pub loadedOf : List ℕ → State
 loadedOf ws = record {
   part = partNumbered (getD ws 0 0);
   banks = banksOf ws;
   unprotected = protectionIn ws;
-  control = record { activity = activityOf ws; flags = flagsIn ws; configuration = getD ws 36 0 % 65536; supply = flagNumbered (getD ws 37 0) };
+  control = record { activity = activityOf ws; flags = flagsIn ws; configuration = getD ws 41 0 % 65536; supply = flagNumbered (getD ws 42 0) };
+  buffer = bufferIn ws;
 }
 
 -- two lists are the same, word by word
@@ -156,7 +196,7 @@ same [] (y ∷ l) = false
 same (x ∷ k) [] = false
 same (x ∷ k) (y ∷ l) = eqb x y && same k l
 
--- words are a saved state where they are what the state that they say is saved as: so there are 38, and a place that is not used is 0
+-- words are a saved state where they are what the state that they say is saved as: so there are 51, and a place that is not used is 0
 unfoldable pub isSaved : List ℕ → Bool
 isSaved ws = same ws (savedOf (loadedOf ws))
 
@@ -172,9 +212,9 @@ stateOf ws = cond (isSaved ws) (loadedOf ws) (noState ws)
 abbrev pub foundOf : List ℕ → Found
 foundOf ws = record { saved = isSaved ws; state = stateOf ws }
 
--- room for a saved state stays as it is where it has not 38 words
+-- room for a saved state stays as it is where it has not 51 words
 unfoldable pub putInto : List ℕ → List ℕ → List ℕ
-putInto room ws = cond (eqb (length room) 38) ws room
+putInto room ws = cond (eqb (length room) 51) ws room
 
 -- ---- a saved state by the range of each word: `is-saved-in-range` (Ranges) says that it is the same
 
@@ -183,28 +223,50 @@ unfoldable pub allBelow : ℕ → List ℕ → Bool
 allBelow m [] = true
 allBelow m (x ∷ l) = ltb x m && allBelow m l
 
--- two numbers are both 0, or each below its bound
-abbrev pub noneTwo : ℕ → ℕ → Bool
-noneTwo a b = eqb a 0 && eqb b 0
-
+-- two numbers, or three, are each below its bound, which is 1 for a place that is not used
 abbrev pub belowTwo : ℕ → ℕ → ℕ → ℕ → Bool
 belowTwo a b m n = ltb a m && ltb b n
 
--- the kind and the two numbers of what runs, or is suspended
-abbrev pub runningInRange : ℕ → ℕ → ℕ → Bool
-runningInRange k a b = cond (eqb k 0) (noneTwo a b) (cond (eqb k 1) (belowTwo a b 4294967296 65536) (eqb k 2 && belowTwo a b 4294967296 4294967296))
+abbrev pub belowThree : ℕ → ℕ → ℕ → ℕ → ℕ → ℕ → Bool
+belowThree a b c l m n = ltb a l && belowTwo b c m n
 
-abbrev pub suspendedInRange : ℕ → ℕ → ℕ → ℕ → Bool
-suspendedInRange n k a b = cond (eqb k 0) (noneTwo a b) (eqb k 1 && belowTwo a b 4294967296 n)
+-- the kind and the numbers of the set-up, of what runs, and of what is suspended
+abbrev pub setupInRange : ℕ → ℕ → ℕ → ℕ → Bool
+setupInRange k a b c =
+    cond (ltb k 4) (belowThree a b c 1 1 1)
+    (cond (eqb k 4) (belowThree a b c 4294967296 1 1)
+    (cond (eqb k 5) (belowThree a b c 4294967296 4294967296 1)
+    (eqb k 6 && belowThree a b c 4294967296 4294967296 4294967296)))
 
--- 38 words; the numbers of enums below 4; what runs, the suspended program and the suspended erase; the flags 0 or 1; a protection word is any number;
+abbrev pub runningInRange : ℕ → ℕ → ℕ → ℕ → Bool
+runningInRange k a b c =
+    cond (eqb k 0) (belowThree a b c 1 1 1)
+    (cond (eqb k 1) (belowThree a b c 4294967296 65536 1)
+    (cond (eqb k 2) (belowThree a b c 4294967296 4294967296 1)
+    (eqb k 3 && belowThree a b c 4294967296 4294967296 4294967296)))
+
+abbrev pub programInRange : ℕ → ℕ → ℕ → ℕ → Bool
+programInRange k a b c =
+    cond (eqb k 0) (belowThree a b c 1 1 1)
+    (cond (eqb k 1) (belowThree a b c 4294967296 65536 1)
+    (eqb k 2 && belowThree a b c 4294967296 4294967296 4294967296))
+
+abbrev pub eraseInRange : ℕ → ℕ → ℕ → Bool
+eraseInRange k a b = cond (eqb k 0) (belowTwo a b 1 1) (eqb k 1 && belowTwo a b 4294967296 4294967296)
+
+unfoldable pub activityInRange : List ℕ → Bool
+activityInRange ws =
+    setupInRange (getD ws 17 0) (getD ws 18 0) (getD ws 19 0) (getD ws 20 0)
+    && (runningInRange (getD ws 21 0) (getD ws 22 0) (getD ws 23 0) (getD ws 24 0)
+    && (programInRange (getD ws 25 0) (getD ws 26 0) (getD ws 27 0) (getD ws 28 0)
+    && eraseInRange (getD ws 29 0) (getD ws 30 0) (getD ws 31 0)))
+
+-- 51 words; the part and the modes below 4; what is under way; the flags 0 or 1; a protection word is any number, and so is one of the buffer;
 -- the configuration register has 16 bits; the supply is 0 or 1
 unfoldable pub inRange : List ℕ → Bool
 inRange ws =
-    eqb (length ws) 38
-    && (allBelow 4 (take 18 ws)
-    && (runningInRange (getD ws 18 0) (getD ws 19 0) (getD ws 20 0)
-    && (suspendedInRange 65536 (getD ws 21 0) (getD ws 22 0) (getD ws 23 0)
-    && (suspendedInRange 4294967296 (getD ws 24 0) (getD ws 25 0) (getD ws 26 0)
-    && (allBelow 2 (take 4 (drop 27 ws))
-    && belowTwo (getD ws 36 0) (getD ws 37 0) 65536 2)))))
+    eqb (length ws) 51
+    && (allBelow 4 (take 17 ws)
+    && (activityInRange ws
+    && (allBelow 2 (take 4 (drop 32 ws))
+    && belowTwo (getD ws 41 0) (getD ws 42 0) 65536 2)))

@@ -1,4 +1,4 @@
-// A device's state as 38 words, so that programs in C can keep it, and back. Each public function takes every state and all words.
+// A device's state as 51 words, so that programs in C can keep it, and back. Each public function takes every state and all words.
 use geometry::Part;
 use semantics::Activity;
 use semantics::Bank;
@@ -15,7 +15,7 @@ ghost use lib.ListN.{length, getD};
 ghost use lib.Seq.{sets};
 ghost use Rattle.geometry.specs.Blocks.{partNumbered};
 ghost use Rattle.semantics.specs.Reading.{bitIf};
-ghost use Rattle.saved.specs.Saved.{partNumber, bankNumber, bankNumbered, setupNumber, setupNumbered, runningWords, runningOf, programWords, programOf, eraseWords, eraseOf, bankWords, banksOf, activityWords, restWords, savedOf, loadedOf, isSaved, noState, foundOf, putInto, flagNumbered, activityOf, flagsIn, protectionIn, allBelow, runningInRange, suspendedInRange};
+ghost use Rattle.saved.specs.Saved.{partNumber, bankNumber, bankNumbered, flagNumbered, setupWords, plainSetup, loadOf, setupOf, runningWords, runningOf, programWords, programOf, eraseWords, eraseOf, bankWords, banksOf, activityWords, restWords, packed, lane, bufferWords, bufferIn, savedOf, loadedOf, isSaved, noState, foundOf, putInto, activityOf, flagsIn, protectionIn, allBelow, belowThree, setupInRange, runningInRange, programInRange, eraseInRange, activityInRange};
 ghost use Rattle.saved.specs.Laws.{Fitting};
 
 // Whether words are a saved state, and the state of the words.
@@ -49,39 +49,46 @@ fn bank_number(bank: Bank) -> u64
     }
 }
 
-fn setup_number(setup: Setup) -> u64
-    ensures { λ r. ⌜ r ≡ setupNumber setup ⌝ }
-{
-    match setup {
-        Setup::Nothing => 0,
-        Setup::Program => 1,
-        Setup::Erase => 2,
-        Setup::Lock => 3,
-    }
-}
-
 fn flag_number(on: bool) -> u64
     ensures { λ r. ⌜ r ≡ bitIf on 1 ⌝ }
 {
     if on { 1 } else { 0 }
 }
 
-fn running_words(r: Running) -> [u64; 3]
-    ensures { λ w. ⌜ w ≡ runningWords r ⌝ }
+fn setup_words(setup: Setup) -> [u64; 4]
+    ensures { λ w. ⌜ w ≡ setupWords setup ⌝ }
 {
-    match r {
-        Running::Idle => [0, 0, 0],
-        Running::Program { location, word } => [1, location as u64, word as u64],
-        Running::Erase { block, done } => [2, block as u64, done as u64],
+    match setup {
+        Setup::Nothing => [0, 0, 0, 0],
+        Setup::Program => [1, 0, 0, 0],
+        Setup::Erase => [2, 0, 0, 0],
+        Setup::Lock => [3, 0, 0, 0],
+        Setup::BufferCount { block } => [4, block as u64, 0, 0],
+        Setup::BufferFirst { block, words } => [5, block as u64, words as u64, 0],
+        Setup::BufferWords { start, words, due } => [6, start as u64, words as u64, due as u64],
     }
 }
 
-fn program_words(p: SuspendedProgram) -> [u64; 3]
+fn running_words(r: Running) -> [u64; 4]
+    ensures { λ w. ⌜ w ≡ runningWords r ⌝ }
+{
+    match r {
+        Running::Idle => [0, 0, 0, 0],
+        Running::Program { location, word } => [1, location as u64, word as u64, 0],
+        Running::Erase { block, done } => [2, block as u64, done as u64, 0],
+        Running::Buffer { start, words, done } => [3, start as u64, words as u64, done as u64],
+    }
+}
+
+fn program_words(p: SuspendedProgram) -> [u64; 4]
     ensures { λ w. ⌜ w ≡ programWords p ⌝ }
 {
     match p {
-        SuspendedProgram::Nothing => [0, 0, 0],
-        SuspendedProgram::Program { location, word } => [1, location as u64, word as u64],
+        SuspendedProgram::Nothing => [0, 0, 0, 0],
+        SuspendedProgram::Program { location, word } => [1, location as u64, word as u64, 0],
+        SuspendedProgram::Buffer { start, words, done } => {
+            [2, start as u64, words as u64, done as u64]
+        }
     }
 }
 
@@ -128,23 +135,55 @@ fn bank_numbered(n: u64) -> Bank
     Bank { mode: Mode::Query }
 }
 
-fn setup_numbered(n: u64) -> Setup
-    ensures { λ r. ⌜ r ≡ setupNumbered n ⌝ }
+// The set-ups that have no number.
+fn plain_setup(kind: u64) -> Setup
+    ensures { λ r. ⌜ r ≡ plainSetup kind ⌝ }
 {
-    if n == 0 {
+    if kind == 0 {
         return Setup::Nothing;
     }
-    if n == 1 {
+    if kind == 1 {
         return Setup::Program;
     }
-    if n == 2 {
+    if kind == 2 {
         return Setup::Erase;
     }
     Setup::Lock
 }
 
-fn running_of(kind: u64, a: u64, b: u64) -> Running
-    ensures { λ r. ⌜ r ≡ runningOf kind a b ⌝ }
+// Those of a load.
+fn load_of(kind: u64, a: u64, b: u64, c: u64) -> Setup
+    ensures { λ r. ⌜ r ≡ loadOf kind a b c ⌝ }
+{
+    if kind == 4 {
+        return Setup::BufferCount {
+            block: (a % 4294967296) as u32,
+        };
+    }
+    if kind == 5 {
+        return Setup::BufferFirst {
+            block: (a % 4294967296) as u32,
+            words: (b % 4294967296) as u32,
+        };
+    }
+    Setup::BufferWords {
+        start: (a % 4294967296) as u32,
+        words: (b % 4294967296) as u32,
+        due: (c % 4294967296) as u32,
+    }
+}
+
+fn setup_of(kind: u64, a: u64, b: u64, c: u64) -> Setup
+    ensures { λ r. ⌜ r ≡ setupOf kind a b c ⌝ }
+{
+    if kind < 4 {
+        return plain_setup(kind);
+    }
+    load_of(kind, a, b, c)
+}
+
+fn running_of(kind: u64, a: u64, b: u64, c: u64) -> Running
+    ensures { λ r. ⌜ r ≡ runningOf kind a b c ⌝ }
 {
     if kind == 0 {
         return Running::Idle;
@@ -155,21 +194,35 @@ fn running_of(kind: u64, a: u64, b: u64) -> Running
             word: (b % 65536) as u16,
         };
     }
-    Running::Erase {
-        block: (a % 4294967296) as u32,
-        done: (b % 4294967296) as u32,
+    if kind == 2 {
+        return Running::Erase {
+            block: (a % 4294967296) as u32,
+            done: (b % 4294967296) as u32,
+        };
+    }
+    Running::Buffer {
+        start: (a % 4294967296) as u32,
+        words: (b % 4294967296) as u32,
+        done: (c % 4294967296) as u32,
     }
 }
 
-fn program_of(kind: u64, a: u64, b: u64) -> SuspendedProgram
-    ensures { λ r. ⌜ r ≡ programOf kind a b ⌝ }
+fn program_of(kind: u64, a: u64, b: u64, c: u64) -> SuspendedProgram
+    ensures { λ r. ⌜ r ≡ programOf kind a b c ⌝ }
 {
     if kind == 0 {
         return SuspendedProgram::Nothing;
     }
-    SuspendedProgram::Program {
-        location: (a % 4294967296) as u32,
-        word: (b % 65536) as u16,
+    if kind == 1 {
+        return SuspendedProgram::Program {
+            location: (a % 4294967296) as u32,
+            word: (b % 65536) as u16,
+        };
+    }
+    SuspendedProgram::Buffer {
+        start: (a % 4294967296) as u32,
+        words: (b % 4294967296) as u32,
+        done: (c % 4294967296) as u32,
     }
 }
 
@@ -208,52 +261,111 @@ fn all_below(m: u64, words: &[u64]) -> bool
     true
 }
 
-// The kind and the two numbers of what runs.
-fn running_in_range(kind: u64, a: u64, b: u64) -> bool
-    ensures { λ r. ⌜ r ≡ runningInRange kind a b ⌝ }
+// Three numbers are each below its bound.
+fn below_three(a: u64, b: u64, c: u64, l: u64, m: u64, n: u64) -> bool
+    ensures { λ r. ⌜ r ≡ belowThree a b c l m n ⌝ }
 {
-    if kind == 0 {
-        return (a == 0) & (b == 0);
-    }
-    if kind == 1 {
-        return (a < 4294967296) & (b < 65536);
-    }
-    (kind == 2) & ((a < 4294967296) & (b < 4294967296))
+    (a < l) & ((b < m) & (c < n))
 }
 
-// Those of a suspended program, and of a suspended erase: the second number is below n.
-fn suspended_in_range(n: u64, kind: u64, a: u64, b: u64) -> bool
-    ensures { λ r. ⌜ r ≡ suspendedInRange n kind a b ⌝ }
+// The kind and the numbers of the set-up.
+fn setup_in_range(kind: u64, a: u64, b: u64, c: u64) -> bool
+    ensures { λ r. ⌜ r ≡ setupInRange kind a b c ⌝ }
+{
+    if kind < 4 {
+        return below_three(a, b, c, 1, 1, 1);
+    }
+    if kind == 4 {
+        return below_three(a, b, c, 4294967296, 1, 1);
+    }
+    if kind == 5 {
+        return below_three(a, b, c, 4294967296, 4294967296, 1);
+    }
+    (kind == 6) & below_three(a, b, c, 4294967296, 4294967296, 4294967296)
+}
+
+// Those of what runs.
+fn running_in_range(kind: u64, a: u64, b: u64, c: u64) -> bool
+    ensures { λ r. ⌜ r ≡ runningInRange kind a b c ⌝ }
 {
     if kind == 0 {
-        return (a == 0) & (b == 0);
+        return below_three(a, b, c, 1, 1, 1);
     }
-    (kind == 1) & ((a < 4294967296) & (b < n))
+    if kind == 1 {
+        return below_three(a, b, c, 4294967296, 65536, 1);
+    }
+    if kind == 2 {
+        return below_three(a, b, c, 4294967296, 4294967296, 1);
+    }
+    (kind == 3) & below_three(a, b, c, 4294967296, 4294967296, 4294967296)
+}
+
+// Those of a suspended program.
+fn program_in_range(kind: u64, a: u64, b: u64, c: u64) -> bool
+    ensures { λ r. ⌜ r ≡ programInRange kind a b c ⌝ }
+{
+    if kind == 0 {
+        return below_three(a, b, c, 1, 1, 1);
+    }
+    if kind == 1 {
+        return below_three(a, b, c, 4294967296, 65536, 1);
+    }
+    (kind == 2) & below_three(a, b, c, 4294967296, 4294967296, 4294967296)
+}
+
+// Those of a suspended erase.
+fn erase_in_range(kind: u64, a: u64, b: u64) -> bool
+    ensures { λ r. ⌜ r ≡ eraseInRange kind a b ⌝ }
+{
+    if kind == 0 {
+        return (a < 1) & (b < 1);
+    }
+    (kind == 1) & ((a < 4294967296) & (b < 4294967296))
+}
+
+// All four.
+fn activity_in_range(words: &[u64]) -> bool
+    ensures { λ r. ⌜ r ≡ activityInRange (now (words .entry)) ⌝ }
+{
+    let a = setup_in_range(
+        word_at(words, 17),
+        word_at(words, 18),
+        word_at(words, 19),
+        word_at(words, 20),
+    );
+    let b = running_in_range(
+        word_at(words, 21),
+        word_at(words, 22),
+        word_at(words, 23),
+        word_at(words, 24),
+    );
+    let c = program_in_range(
+        word_at(words, 25),
+        word_at(words, 26),
+        word_at(words, 27),
+        word_at(words, 28),
+    );
+    let d = erase_in_range(word_at(words, 29), word_at(words, 30), word_at(words, 31));
+    a & (b & (c & d))
 }
 
 // Whether the words are what the state that they say is saved as: by the range of each.
 pub fn is_saved(words: &[u64]) -> bool
     ensures { λ r. ⌜ r ≡ isSaved (now (words .entry)) ⌝ }
 {
-    if words.len() != 38 {
+    if words.len() != 51 {
         return false;
     }
-    if !all_below(4, &words[0..18]) {
+    if !all_below(4, &words[0..17]) {
         return false;
     }
-    if !running_in_range(words[18], words[19], words[20]) {
+    if !activity_in_range(words) {
         return false;
     }
-    if !suspended_in_range(65536, words[21], words[22], words[23]) {
+    if !all_below(2, &words[32..36]) {
         return false;
     }
-    if !suspended_in_range(4294967296, words[24], words[25], words[26]) {
-        return false;
-    }
-    if !all_below(2, &words[27..31]) {
-        return false;
-    }
-    (words[36] < 65536) & (words[37] < 2)
+    (words[41] < 65536) & (words[42] < 2)
 }
 
 // ---- the state of words
@@ -273,11 +385,30 @@ fn banks_of(words: &[u64]) -> [Bank; 16]
 fn activity_of(words: &[u64]) -> Activity
     ensures { λ r. ⌜ r ≡ activityOf (now (words .entry)) ⌝ }
 {
+    let setup = setup_of(
+        word_at(words, 17),
+        word_at(words, 18),
+        word_at(words, 19),
+        word_at(words, 20),
+    );
+    let running = running_of(
+        word_at(words, 21),
+        word_at(words, 22),
+        word_at(words, 23),
+        word_at(words, 24),
+    );
+    let program = program_of(
+        word_at(words, 25),
+        word_at(words, 26),
+        word_at(words, 27),
+        word_at(words, 28),
+    );
+    let erase = erase_of(word_at(words, 29), word_at(words, 30), word_at(words, 31));
     Activity {
-        setup: setup_numbered(word_at(words, 17)),
-        running: running_of(word_at(words, 18), word_at(words, 19), word_at(words, 20)),
-        program: program_of(word_at(words, 21), word_at(words, 22), word_at(words, 23)),
-        erase: erase_of(word_at(words, 24), word_at(words, 25), word_at(words, 26)),
+        setup,
+        running,
+        program,
+        erase,
     }
 }
 
@@ -291,10 +422,10 @@ fn flags_of(words: &[u64]) -> Flags
     ensures { λ r. ⌜ r ≡ flagsIn (now (words .entry)) ⌝ }
 {
     Flags {
-        sr5: flag_at(words, 27),
-        sr4: flag_at(words, 28),
-        sr3: flag_at(words, 29),
-        sr1: flag_at(words, 30),
+        sr5: flag_at(words, 32),
+        sr4: flag_at(words, 33),
+        sr3: flag_at(words, 34),
+        sr1: flag_at(words, 35),
     }
 }
 
@@ -302,12 +433,29 @@ fn protection_of(words: &[u64]) -> [u64; 5]
     ensures { λ r. ⌜ r ≡ protectionIn (now (words .entry)) ⌝ }
 {
     [
-        word_at(words, 31),
-        word_at(words, 32),
-        word_at(words, 33),
-        word_at(words, 34),
-        word_at(words, 35),
+        word_at(words, 36),
+        word_at(words, 37),
+        word_at(words, 38),
+        word_at(words, 39),
+        word_at(words, 40),
     ]
+}
+
+// The words of the buffer, four from each.
+fn buffer_of(words: &[u64]) -> [u16; 32]
+    ensures { λ r. ⌜ r ≡ bufferIn (now (words .entry)) ⌝ }
+{
+    let mut buffer: [u16; 32] = [0; 32];
+    let mut j: usize = 0;
+    while j < 8 {
+        let w = word_at(words, 43 + j);
+        buffer[4 * j] = (w % 65536) as u16;
+        buffer[4 * j + 1] = (w / 65536 % 65536) as u16;
+        buffer[4 * j + 2] = (w / 4294967296 % 65536) as u16;
+        buffer[4 * j + 3] = (w / 281474976710656) as u16;
+        j += 1;
+    }
+    buffer
 }
 
 // The state that words say.
@@ -321,9 +469,10 @@ pub fn load(words: &[u64]) -> State
         control: Control {
             activity: activity_of(words),
             flags: flags_of(words),
-            configuration: (word_at(words, 36) % 65536) as u16,
-            supply: flag_at(words, 37),
+            configuration: (word_at(words, 41) % 65536) as u16,
+            supply: flag_at(words, 42),
         },
+        buffer: buffer_of(words),
     }
 }
 
@@ -356,7 +505,7 @@ pub fn found_in(words: &[u64]) -> Found
 // ---- the words of a state, put in place
 
 fn put_banks(words: &mut [u64], banks: [Bank; 16])
-    requires { ⌜ length (now words) ≡ 38 ⌝ }
+    requires { ⌜ length (now words) ≡ 51 ⌝ }
     ensures { λ _. ⌜ now (words .exit) ≡ sets (now (words .entry)) 1 (bankWords banks) ⌝ }
 {
     let mut i: usize = 0;
@@ -367,51 +516,79 @@ fn put_banks(words: &mut [u64], banks: [Bank; 16])
 }
 
 fn put_activity(words: &mut [u64], a: Activity)
-    requires { ⌜ length (now words) ≡ 38 ⌝ }
+    requires { ⌜ length (now words) ≡ 51 ⌝ }
     ensures { λ _. ⌜ now (words .exit) ≡ sets (now (words .entry)) 17 (activityWords a) ⌝ }
 {
     let setup = a.setup;
     let running = a.running;
     let program = a.program;
     let erase = a.erase;
+    let s = setup_words(setup);
     let r = running_words(running);
     let p = program_words(program);
     let e = erase_words(erase);
-    words[17] = setup_number(setup);
-    words[18] = r[0];
-    words[19] = r[1];
-    words[20] = r[2];
-    words[21] = p[0];
-    words[22] = p[1];
-    words[23] = p[2];
-    words[24] = e[0];
-    words[25] = e[1];
-    words[26] = e[2];
+    words[17] = s[0];
+    words[18] = s[1];
+    words[19] = s[2];
+    words[20] = s[3];
+    words[21] = r[0];
+    words[22] = r[1];
+    words[23] = r[2];
+    words[24] = r[3];
+    words[25] = p[0];
+    words[26] = p[1];
+    words[27] = p[2];
+    words[28] = p[3];
+    words[29] = e[0];
+    words[30] = e[1];
+    words[31] = e[2];
 }
 
 fn put_rest(words: &mut [u64], f: Flags, u: [u64; 5], configuration: u16, supply: bool)
-    requires { ⌜ length (now words) ≡ 38 ⌝ }
-    ensures { λ _. ⌜ now (words .exit) ≡ sets (now (words .entry)) 27 (restWords f u configuration supply) ⌝ }
+    requires { ⌜ length (now words) ≡ 51 ⌝ }
+    ensures { λ _. ⌜ now (words .exit) ≡ sets (now (words .entry)) 32 (restWords f u configuration supply) ⌝ }
 {
-    words[27] = flag_number(f.sr5);
-    words[28] = flag_number(f.sr4);
-    words[29] = flag_number(f.sr3);
-    words[30] = flag_number(f.sr1);
-    words[31] = u[0];
-    words[32] = u[1];
-    words[33] = u[2];
-    words[34] = u[3];
-    words[35] = u[4];
-    words[36] = configuration as u64;
-    words[37] = flag_number(supply);
+    words[32] = flag_number(f.sr5);
+    words[33] = flag_number(f.sr4);
+    words[34] = flag_number(f.sr3);
+    words[35] = flag_number(f.sr1);
+    words[36] = u[0];
+    words[37] = u[1];
+    words[38] = u[2];
+    words[39] = u[3];
+    words[40] = u[4];
+    words[41] = configuration as u64;
+    words[42] = flag_number(supply);
 }
 
-// Puts the words of a state into room for just 38. Every state of the code fits its types, so that it is got back from them (`state-back` of specs/Laws).
+// Four words of the buffer in one.
+fn packed(a: u16, b: u16, c: u16, d: u16) -> u64
+    ensures { λ r. ⌜ r ≡ packed a b c d ⌝ }
+{
+    a as u64 + (b as u64) * 65536 + (c as u64) * 4294967296 + (d as u64) * 281474976710656
+}
+
+fn put_buffer(words: &mut [u64], buffer: [u16; 32])
+    requires { ⌜ length (now words) ≡ 51 ⌝ }
+    ensures { λ _. ⌜ now (words .exit) ≡ sets (now (words .entry)) 43 (bufferWords buffer) ⌝ }
+{
+    let mut j: usize = 0;
+    while j < 8 {
+        let a = buffer[4 * j];
+        let b = buffer[4 * j + 1];
+        let c = buffer[4 * j + 2];
+        let d = buffer[4 * j + 3];
+        words[43 + j] = packed(a, b, c, d);
+        j += 1;
+    }
+}
+
+// Puts the words of a state into room for just 51. Every state of the code fits its types, so that it is got back from them (`state-back` of specs/Laws).
 pub fn save(s: State, words: &mut [u64])
     ensures { λ _. ⌜ now (words .exit) ≡ putInto (now (words .entry)) (savedOf s) ⌝ }
     ensures fitting { λ _. ⌜ Fitting s ⌝ }
 {
-    if words.len() != 38 {
+    if words.len() != 51 {
         return;
     }
     let part = s.part;
@@ -419,8 +596,10 @@ pub fn save(s: State, words: &mut [u64])
     let a = s.control.activity;
     let f = s.control.flags;
     let u = s.unprotected;
+    let buffer = s.buffer;
     words[0] = part_number(part);
     put_banks(words, banks);
     put_activity(words, a);
     put_rest(words, f, u, s.control.configuration, s.control.supply);
+    put_buffer(words, buffer);
 }

@@ -1,7 +1,7 @@
 -- `saved::is_saved` meets its contract: by the tests that led to each return, and the law that the ranges say it. Assumes nothing.
 use mathlib.Core.Path.{sym, _∙_}
-use borrow.Author.Needs.{needs}
 use borrow.Author.Tests.{eq-eqb, ne-eqb, not-true, not-false}
+use borrow.Author.Needs.{needs}
 use Rattle.saved.specs.Saved.{inRange}
 use Rattle.saved.specs.Ranges.{is-saved-in-range}
 use Rattle.saved.proofs.is_saved.Statement.{statement}
@@ -9,31 +9,23 @@ use Rattle.saved.proofs.is_saved.Tie as tie
 
 returns : tie.Need-returns
 unfolding inRange
-returns c = sym (is-saved-in-range _ ∙ rw (ne-eqb _ 38 (c .if1 .taken)))
+returns c = sym (is-saved-in-range _ ∙ rw (ne-eqb _ 51 (c .if1 .taken)))
 
 returns-2 : tie.Need-returns-2
 unfolding inRange
-returns-2 c = sym (is-saved-in-range _ ∙ rw (eq-eqb _ 38 (c .before .before .before .if1 .left), sym (c .before .all-below .ensures) ∙ not-true _ (c .if2 .taken)))
+returns-2 c = sym (is-saved-in-range _ ∙ rw (eq-eqb _ 51 (c .before .before .before .if1 .left), sym (c .before .all-below .ensures) ∙ not-true _ (c .if2 .taken)))
 
 returns-3 : tie.Need-returns-3
 unfolding inRange
-returns-3 c = sym (is-saved-in-range _ ∙ rw (eq-eqb _ 38 (c .before .before .before .before .before .before .before .before .if1 .left), sym (c .before .before .before .before .before .before .all-below .ensures) ∙ not-false _ (c .before .before .before .before .before .if2 .left), sym (c .before .running-in-range .ensures) ∙ not-true _ (c .if3 .taken)))
+returns-3 c = sym (is-saved-in-range _ ∙ rw (eq-eqb _ 51 (c .before .before .before .before .before .if1 .left), sym (c .before .before .before .all-below .ensures) ∙ not-false _ (c .before .before .if2 .left), sym (c .before .activity-in-range .ensures) ∙ not-true _ (c .if3 .taken)))
 
 returns-4 : tie.Need-returns-4
 unfolding inRange
-returns-4 c = sym (is-saved-in-range _ ∙ rw (eq-eqb _ 38 (c .before .before .before .before .before .before .before .before .before .before .before .before .before .if1 .left), sym (c .before .before .before .before .before .before .before .before .before .before .before .all-below .ensures) ∙ not-false _ (c .before .before .before .before .before .before .before .before .before .before .if2 .left), sym (c .before .before .before .before .before .before .running-in-range .ensures) ∙ not-false _ (c .before .before .before .before .before .if3 .left), sym (c .before .suspended-in-range .ensures) ∙ not-true _ (c .if4 .taken)))
+returns-4 c = sym (is-saved-in-range _ ∙ rw (eq-eqb _ 51 (c .before .before .before .before .before .before .before .before .if1 .left), sym (c .before .before .before .before .before .before .all-below .ensures) ∙ not-false _ (c .before .before .before .before .before .if2 .left), sym (c .before .before .before .before .activity-in-range .ensures) ∙ not-false _ (c .before .before .before .if3 .left), sym (c .before .all-below2 .ensures) ∙ not-true _ (c .if4 .taken)))
 
 returns-5 : tie.Need-returns-5
 unfolding inRange
-returns-5 c = sym (is-saved-in-range _ ∙ rw (eq-eqb _ 38 (c .before .before .before .before .before .before .before .before .before .before .before .before .before .before .before .before .before .before .if1 .left), sym (c .before .before .before .before .before .before .before .before .before .before .before .before .before .before .before .before .all-below .ensures) ∙ not-false _ (c .before .before .before .before .before .before .before .before .before .before .before .before .before .before .before .if2 .left), sym (c .before .before .before .before .before .before .before .before .before .before .before .running-in-range .ensures) ∙ not-false _ (c .before .before .before .before .before .before .before .before .before .before .if3 .left), sym (c .before .before .before .before .before .before .suspended-in-range .ensures) ∙ not-false _ (c .before .before .before .before .before .if4 .left), sym (c .before .suspended-in-range2 .ensures) ∙ not-true _ (c .if5 .taken)))
-
-returns-6 : tie.Need-returns-6
-unfolding inRange
-returns-6 c = sym (is-saved-in-range _ ∙ rw (eq-eqb _ 38 (c .before .before .before .before .before .before .before .before .before .before .before .before .before .before .before .before .before .before .before .before .before .if1 .left), sym (c .before .before .before .before .before .before .before .before .before .before .before .before .before .before .before .before .before .before .before .all-below .ensures) ∙ not-false _ (c .before .before .before .before .before .before .before .before .before .before .before .before .before .before .before .before .before .before .if2 .left), sym (c .before .before .before .before .before .before .before .before .before .before .before .before .before .before .running-in-range .ensures) ∙ not-false _ (c .before .before .before .before .before .before .before .before .before .before .before .before .before .if3 .left), sym (c .before .before .before .before .before .before .before .before .before .suspended-in-range .ensures) ∙ not-false _ (c .before .before .before .before .before .before .before .before .if4 .left), sym (c .before .before .before .before .suspended-in-range2 .ensures) ∙ not-false _ (c .before .before .before .if5 .left), sym (c .before .all-below2 .ensures) ∙ not-true _ (c .if6 .taken)))
-
-returns-7 : tie.Need-returns-7
-unfolding inRange
-returns-7 c = sym (is-saved-in-range _ ∙ rw (eq-eqb _ 38 (c .before .before .before .before .before .before .before .before .before .before .before .before .before .before .before .before .before .before .before .before .before .before .before .if1 .left), sym (c .before .before .before .before .before .before .before .before .before .before .before .before .before .before .before .before .before .before .before .before .before .all-below .ensures) ∙ not-false _ (c .before .before .before .before .before .before .before .before .before .before .before .before .before .before .before .before .before .before .before .before .if2 .left), sym (c .before .before .before .before .before .before .before .before .before .before .before .before .before .before .before .before .running-in-range .ensures) ∙ not-false _ (c .before .before .before .before .before .before .before .before .before .before .before .before .before .before .before .if3 .left), sym (c .before .before .before .before .before .before .before .before .before .before .before .suspended-in-range .ensures) ∙ not-false _ (c .before .before .before .before .before .before .before .before .before .before .if4 .left), sym (c .before .before .before .before .before .before .suspended-in-range2 .ensures) ∙ not-false _ (c .before .before .before .before .before .if5 .left), sym (c .before .before .before .all-below2 .ensures) ∙ not-false _ (c .before .before .if6 .left)))
+returns-5 c = sym (is-saved-in-range _ ∙ rw (eq-eqb _ 51 (c .before .before .before .before .before .before .before .before .before .before .if1 .left), sym (c .before .before .before .before .before .before .before .before .all-below .ensures) ∙ not-false _ (c .before .before .before .before .before .before .before .if2 .left), sym (c .before .before .before .before .before .before .activity-in-range .ensures) ∙ not-false _ (c .before .before .before .before .before .if3 .left), sym (c .before .before .before .all-below2 .ensures) ∙ not-false _ (c .before .before .if4 .left)))
 
 pub is-saved-spec : {M : Type 1} → statement M
 is-saved-spec =
@@ -45,9 +37,6 @@ is-saved-spec =
     (λ c. search needs)
     (λ c κs. search needs)
     returns-2
-    (λ c. search needs)
-    (λ c. search needs)
-    (λ c. search needs)
     (λ c κs. search needs)
     returns-3
     (λ c. search needs)
@@ -57,14 +46,4 @@ is-saved-spec =
     returns-4
     (λ c. search needs)
     (λ c. search needs)
-    (λ c. search needs)
-    (λ c κs. search needs)
-    returns-5
-    (λ c. search needs)
-    (λ c. search needs)
-    (λ c. search needs)
-    (λ c κs. search needs)
-    returns-6
-    (λ c. search needs)
-    (λ c. search needs)
-    returns-7)
+    returns-5)

@@ -5,7 +5,7 @@ use Rattle.saved.proofs.put_activity.Statement.{statement}
 use Rattle.saved.proofs.put_activity.Tie as tie
 
 returns : tie.Need-returns
-returns c = rw (c .before .before .before .running-words .ensures, c .before .before .program-words .ensures, c .before .erase-words .ensures, c .setup-number .ensures)
+returns c = rw (c .before .before .before .setup-words .ensures, c .before .before .running-words .ensures, c .before .program-words .ensures, c .erase-words .ensures)
 
 pub put-activity-spec : {M : Type 1} → statement M
 put-activity-spec =
@@ -22,6 +22,17 @@ put-activity-spec =
     (λ c. search needs)
     (λ c. search needs)
     (λ c. search needs)
+    (λ c. search needs)
+    (λ c. search needs)
+    (λ c. simp length-set (search needs))
+    (λ c. search needs)
+    (λ c. simp length-set (search needs))
+    (λ c. search needs)
+    (λ c. simp length-set (search needs))
+    (λ c. search needs)
+    (λ c. simp length-set (search needs))
+    (λ c. search needs)
+    (λ c. simp length-set (search needs))
     (λ c. search needs)
     (λ c. simp length-set (search needs))
     (λ c. search needs)

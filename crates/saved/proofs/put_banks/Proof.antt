@@ -11,7 +11,7 @@ use Rattle.saved.proofs.put_banks.Statement.{statement}
 use Rattle.saved.proofs.put_banks.Tie as tie
 
 abbrev Inv-loop : tie.InvT-loop
-Inv-loop words₀ banks i₀ words i = (i ≤ 16) × ((length words ≡ 38) × (words ≡ sets words₀ 1 (take i (bankWords banks))))
+Inv-loop words₀ banks i₀ words i = (i ≤ 16) × ((length words ≡ 51) × (words ≡ sets words₀ 1 (take i (bankWords banks))))
 
 abbrev μ-loop : tie.MeasureT-loop
 μ-loop words₀ banks i₀ words i = 16 - i

@@ -1,8 +1,8 @@
 -- `saved::save` meets its contract, by those of the functions that store the words. Assumes nothing.
 use mathlib.Core.Path.{ap, _∙_}
 use lib.ListN.{length, length-set}
-use borrow.Author.Needs.{needs}
 use borrow.Author.Tests.{ne-eqb}
+use borrow.Author.Needs.{needs}
 use Rattle.saved.specs.Saved.{putInto}
 use Rattle.saved.specs.Laws.{stored}
 use Rattle.saved.proofs.Fits.{fits}
@@ -11,22 +11,25 @@ use Rattle.saved.proofs.save.Tie as tie
 
 returns : tie.Need-returns
 unfolding putInto
-returns c = (rw (ne-eqb _ 38 (c .if1 .taken)), fits _ _ (c .before .before .good .0))
+returns c = (rw (ne-eqb _ 51 (c .if1 .taken)), fits _ _ (c .before .before .good .0))
 
 put-activity-requires : tie.Need-put-activity-requires
-put-activity-requires c κs = ap length (c .before .before .before .put-banks .ensures) ∙ simp length-set (c .before .before .before .before .before .before .before .before .before .before .if1 .left)
+put-activity-requires c κs = ap length (c .before .before .before .put-banks .ensures) ∙ simp length-set (c .before .before .before .before .before .before .before .before .before .before .before .if1 .left)
 
 put-rest-requires : tie.Need-put-rest-requires
-put-rest-requires c κs = ap length (c .before .before .before .put-activity .ensures) ∙ simp length-set (ap length (c .before .before .before .before .before .before .before .put-banks .ensures) ∙ simp length-set (c .before .before .before .before .before .before .before .before .before .before .before .before .before .before .if1 .left))
+put-rest-requires c κs = ap length (c .before .before .before .put-activity .ensures) ∙ simp length-set (ap length (c .before .before .before .before .before .before .before .put-banks .ensures) ∙ simp length-set (c .before .before .before .before .before .before .before .before .before .before .before .before .before .before .before .if1 .left))
+
+put-buffer-requires : tie.Need-put-buffer-requires
+put-buffer-requires c κs = ap length (c .before .before .before .put-rest .ensures) ∙ simp length-set (ap length (c .before .before .before .before .before .before .before .put-activity .ensures) ∙ simp length-set (ap length (c .before .before .before .before .before .before .before .before .before .before .before .put-banks .ensures) ∙ simp length-set (c .before .before .before .before .before .before .before .before .before .before .before .before .before .before .before .before .before .before .before .if1 .left)))
 
 same-length : tie.Need-same-length
-same-length c = ap length (c .before .before .put-rest .ensures) ∙ simp length-set (ap length (c .before .before .before .before .before .before .put-activity .ensures) ∙ simp length-set (ap length (c .before .before .before .before .before .before .before .before .before .before .put-banks .ensures) ∙ simp length-set))
+same-length c = ap length (c .before .before .put-buffer .ensures) ∙ simp length-set (ap length (c .before .before .before .before .before .before .put-rest .ensures) ∙ simp length-set (ap length (c .before .before .before .before .before .before .before .before .before .before .put-activity .ensures) ∙ simp length-set (ap length (c .before .before .before .before .before .before .before .before .before .before .before .before .before .before .put-banks .ensures) ∙ simp length-set)))
 
 returns-2 : tie.Need-returns-2
 returns-2 c = (
-  stored _ _ _ _ _ _ (c .before .before .before .before .before .before .before .before .before .before .before .before .before .before .before .before .before .if1 .left) (c .before .before .before .before .before .before .before .before .before .before .before .before .part-number .ensures) (c .before .before .before .before .before .before .before .before .before .before .put-banks .ensures)
-      (c .before .before .before .before .before .before .put-activity .ensures) (c .before .before .put-rest .ensures),
-  fits _ _ (c .before .before .before .before .before .before .before .before .before .before .before .before .before .before .before .before .before .before .before .good .0),
+  stored _ _ _ _ _ _ _ (c .before .before .before .before .before .before .before .before .before .before .before .before .before .before .before .before .before .before .before .before .before .before .if1 .left) (c .before .before .before .before .before .before .before .before .before .before .before .before .before .before .before .before .part-number .ensures) (c .before .before .before .before .before .before .before .before .before .before .before .before .before .before .put-banks .ensures)
+      (c .before .before .before .before .before .before .before .before .before .before .put-activity .ensures) (c .before .before .before .before .before .before .put-rest .ensures) (c .before .before .put-buffer .ensures),
+  fits _ _ (c .before .before .before .before .before .before .before .before .before .before .before .before .before .before .before .before .before .before .before .before .before .before .before .before .good .0),
 )
 
 pub save-spec : {M : Type 1} → statement M
@@ -39,5 +42,6 @@ save-spec =
     (λ c κs. search needs)
     put-activity-requires
     put-rest-requires
+    put-buffer-requires
     same-length
     returns-2)

@@ -1,7 +1,7 @@
--- `saved::setup_numbered` meets its contract: by the tests that led to each return. Assumes nothing.
+-- `saved::plain_setup` meets its contract: by the tests that led to each return. Assumes nothing.
 use borrow.Author.Tests.{eq-eqb, ne-eqb}
-use Rattle.saved.proofs.setup_numbered.Statement.{statement}
-use Rattle.saved.proofs.setup_numbered.Tie as tie
+use Rattle.saved.proofs.plain_setup.Statement.{statement}
+use Rattle.saved.proofs.plain_setup.Tie as tie
 
 returns : tie.Need-returns
 returns c = simp (eq-eqb _ _ (c .if1 .taken))
@@ -15,5 +15,5 @@ returns-3 c = simp (ne-eqb _ _ (c .before .before .if1 .left), ne-eqb _ _ (c .be
 returns-4 : tie.Need-returns-4
 returns-4 c = simp (ne-eqb _ _ (c .before .before .if1 .left), ne-eqb _ _ (c .before .if2 .left), ne-eqb _ _ (c .if3 .left))
 
-pub setup-numbered-spec : {M : Type 1} → statement M
-setup-numbered-spec = tie.close (tie.spec returns returns-2 returns-3 returns-4)
+pub plain-setup-spec : {M : Type 1} → statement M
+plain-setup-spec = tie.close (tie.spec returns returns-2 returns-3 returns-4)

@@ -1,0 +1,64 @@
+-- `saved::put_buffer` meets its contract. The invariant: the first `j` words of the buffer are stored. Assumes nothing.
+use Prim.Native.Nat.{_≤_, _-_}
+use mathlib.Core.Path.{_≡_, refl, _∙_}
+use native.Mathlib.Omega.{arith}
+use lib.ListN.{length, take, length-set}
+use lib.Seq.{sets}
+use borrow.Author.Needs.{needs}
+use Rattle.saved.specs.Saved.{bufferWords}
+use Rattle.saved.specs.Laws.{buffer-next}
+use Rattle.saved.proofs.put_buffer.Statement.{statement}
+use Rattle.saved.proofs.put_buffer.Tie as tie
+
+abbrev Inv-loop : tie.InvT-loop
+Inv-loop words₀ buffer j₀ words j = (j ≤ 8) × ((length words ≡ 51) × (words ≡ sets words₀ 43 (take j (bufferWords buffer))))
+
+abbrev μ-loop : tie.MeasureT-loop
+μ-loop words₀ buffer j₀ words j = 8 - j
+
+loop-holds : tie.Need-loop-holds Inv-loop μ-loop
+loop-holds c = (search needs, (search needs, refl))
+
+loop-again : tie.Need-loop-again Inv-loop μ-loop
+loop-again c = (
+  search needs,
+  (
+    simp length-set (search needs),
+    buffer-next (c .before .before .before .before .args .t2) (c .before .before .before .before .args .words .now) _ _ _ (search needs) (c .before .before .loop .inv .1 .1) (c .packed .ensures),
+  ),
+)
+
+returns : tie.Need-returns Inv-loop μ-loop
+returns c = let e : c .before .loop .j ≡ 8 = omega arith in c .before .loop .inv .1 .1 ∙ rw e
+
+pub put-buffer-spec : {M : Type 1} → statement M
+put-buffer-spec =
+    tie.close
+    (tie.spec
+    Inv-loop
+    μ-loop
+    loop-holds
+    (λ c. search needs)
+    (λ c. search needs)
+    (λ c. search needs)
+    (λ c. search needs)
+    (λ c. search needs)
+    (λ c. search needs)
+    (λ c. search needs)
+    (λ c. search needs)
+    (λ c. search needs)
+    (λ c. search needs)
+    (λ c. search needs)
+    (λ c. search needs)
+    (λ c. search needs)
+    (λ c. search needs)
+    (λ c. search needs)
+    (λ c κs. search needs)
+    (λ c. search needs)
+    (λ c. search needs)
+    (λ c. search needs)
+    (λ c. search needs)
+    (λ c. search needs)
+    loop-again
+    (λ c. search needs)
+    returns)
