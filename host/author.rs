@@ -196,7 +196,7 @@ impl Author {
                 let command = self.dice.pick(&[0x01, 0x03]);
                 self.dressed(command)
             }
-            Setup::Erase | Setup::Lock => self.command(),
+            _ => self.command(),
         };
         Step::Write(address, data)
     }
@@ -318,7 +318,7 @@ impl Author {
         }
         let program = loop {
             let program = self.program();
-            let place = self.part.place(program.location);
+            let place = self.part.place(program.start());
             if device.suspended_erase.map(|e| e.block) != place.map(|p| p.block) {
                 break program;
             }
@@ -339,7 +339,7 @@ impl Author {
     fn program(&mut self) -> Program {
         let block = self.usual_block();
         let address = self.address_in(block);
-        Program {
+        Program::Word {
             location: self.part.location(address),
             data: self.dice.next() as u16,
         }

@@ -227,7 +227,7 @@ fn malformed(part: Part) -> Vec<(String, Words)> {
     let size = |block: u32| part.block(block).expect("a block of the part").size;
     let start = |block: u32| part.block(block).expect("a block of the part").start;
     let words = part.array_length() as u32;
-    let program = Program {
+    let program = Program::Word {
         location: start(100) + 7,
         data: 0x1234,
     };
@@ -262,7 +262,7 @@ fn malformed(part: Part) -> Vec<(String, Words)> {
     }
     device("program runs with a suspended program", &|d| {
         d.running = Some(Operation::Program(program));
-        d.suspended_program = Some(Program {
+        d.suspended_program = Some(Program::Word {
             location: 3,
             data: 0,
         });
@@ -291,7 +291,7 @@ fn malformed(part: Part) -> Vec<(String, Words)> {
             });
         }
         for offset in [0, size(block) - 1] {
-            let program = Program {
+            let program = Program::Word {
                 location: start(block) + offset,
                 data: 0,
             };
@@ -316,7 +316,7 @@ fn malformed(part: Part) -> Vec<(String, Words)> {
         });
     }
     for location in [words, words + 1, words * 2, 1 << 31, u32::MAX] {
-        let program = Program { location, data: 0 };
+        let program = Program::Word { location, data: 0 };
         device(&format!("program at {location} runs"), &|d| {
             d.running = Some(Operation::Program(program));
         });
@@ -418,7 +418,7 @@ fn malformed(part: Part) -> Vec<(String, Words)> {
 /// States to change words of: one of each shape that a device can have.
 fn shapes(part: Part) -> Vec<Device> {
     let start = |block: u32| part.block(block).expect("a block of the part").start;
-    let program = Some(Program {
+    let program = Some(Program::Word {
         location: start(100) + 7,
         data: 0xF0F1,
     });

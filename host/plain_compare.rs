@@ -322,6 +322,10 @@ fn asked(device: &Device, step: Step) -> &'static str {
         (Step::Write(_, data), None) => command_text(data % 256),
         (Step::Write(..), Some(Setup::Program)) => "write, second cycle of a program",
         (Step::Write(..), Some(Setup::Erase)) => "write, second cycle of an erase",
+        (Step::Write(..), Some(Setup::LoadCount { .. })) => "write, count of a load",
+        (Step::Write(..), Some(Setup::LoadFirst { .. })) => "write, first word of a load",
+        (Step::Write(..), Some(Setup::LoadNext { due: 0, .. })) => "write, confirm of a load",
+        (Step::Write(..), Some(Setup::LoadNext { .. })) => "write, later word of a load",
         (Step::Write(_, data), Some(Setup::Lock)) => match data % 256 {
             0x01 => "write, second cycle of a lock, 01h",
             0x03 => "write, second cycle of a lock, 03h",
@@ -388,7 +392,7 @@ fn bank(device: &Device, address: u32) -> u32 {
 
 fn running_bank(device: &Device, operation: Operation) -> u32 {
     match operation {
-        Operation::Program(program) => bank(device, program.location),
+        Operation::Program(program) => bank(device, program.start()),
         Operation::Erase(erase) => {
             let block = device.part.block(erase.block);
             block.expect("a block of the part").bank

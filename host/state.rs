@@ -1,4 +1,4 @@
-//! The 38 state words that the library hands over, written from the second
+//! The 51 state words that the library hands over, written from the second
 //! model's device and read back into one. Nothing of the library is used, so
 //! any state can be built, also one that no list of steps reaches.
 //!
@@ -6,13 +6,18 @@
 //! |----------|-------------------------------------------------------------|
 //! | 0        | part                                                        |
 //! | 1 to 16  | mode of bank 0 to 15: array, status, signature, query       |
-//! | 17       | set-up: none, program, erase, lock                          |
-//! | 18 to 20 | running: 0; 1, location, data; 2, block, words done         |
-//! | 21 to 23 | suspended program: 0; 1, location, data                     |
-//! | 24 to 26 | suspended erase: 0; 1, block, words done                    |
-//! | 27 to 30 | SR5, SR4, SR3, SR1                                          |
-//! | 31 to 35 | bit b % 64 of word b / 64 is 1 where block b is unprotected |
-//! | 36, 37   | configuration register, supply                              |
+//! | 17 to 20 | set-up: none, program, erase, lock; 4, block (the count is  |
+//! |          | due); 5, block, number of words (the first of them is due); |
+//! |          | 6, start, number of words, data cycles due (0: D0h is due)  |
+//! | 21 to 24 | running: 0; 1, location, data; 2, block, words done; 3,     |
+//! |          | start, number of words, words done                          |
+//! | 25 to 28 | suspended program: 0; 1, location, data; 2, start, number   |
+//! |          | of words, words done                                        |
+//! | 29 to 31 | suspended erase: 0; 1, block, words done                    |
+//! | 32 to 35 | SR5, SR4, SR3, SR1                                          |
+//! | 36 to 40 | bit b % 64 of word b / 64 is 1 where block b is unprotected |
+//! | 41, 42   | configuration register, supply                              |
+//! | 43 to 50 | word i of the buffer from bit 16 (i % 4) of word 43 + i / 4 |
 //!
 //! Unused places are 0.
 
@@ -20,7 +25,7 @@
 
 use crate::library::STATE_WORDS;
 use crate::second::model::{
-    Device, Erase, Flags, Mode, Operation, Part, Program, Setup, BANKS, BLOCKS,
+    Device, Erase, Flags, Mode, Operation, Part, Program, Setup, BANKS, BLOCKS, BUFFER_WORDS,
 };
 
 pub type Words = [u64; STATE_WORDS];
@@ -28,13 +33,14 @@ pub type Words = [u64; STATE_WORDS];
 pub const PART: usize = 0;
 pub const MODES: usize = 1;
 pub const SETUP: usize = 17;
-pub const RUNNING: usize = 18;
-pub const SUSPENDED_PROGRAM: usize = 21;
-pub const SUSPENDED_ERASE: usize = 24;
-pub const FLAGS: usize = 27;
-pub const PROTECTION: usize = 31;
-pub const CONFIGURATION: usize = 36;
-pub const SUPPLY: usize = 37;
+pub const RUNNING: usize = 21;
+pub const SUSPENDED_PROGRAM: usize = 25;
+pub const SUSPENDED_ERASE: usize = 29;
+pub const FLAGS: usize = 32;
+pub const PROTECTION: usize = 36;
+pub const CONFIGURATION: usize = 41;
+pub const SUPPLY: usize = 42;
+pub const BUFFER: usize = 43;
 
 pub fn encode(device: &Device) -> Words {
     let mut words = [0; STATE_WORDS];
@@ -47,61 +53,61 @@ pub fn encode(device: &Device) -> Words {
             Mode::Query => 3,
         };
     }
-    words[SETUP] = match device.setup {
-        None => 0,
-        Some(Setup::Program) => 1,
-        Some(Setup::Erase) => 2,
-        Some(Setup::Lock) => 3,
-    };
+    put(&mut words, SETUP, setup_words(device.setup));
     match device.running {
         None => {}
-        Some(Operation::Program(program)) => put_program(&mut words, RUNNING, program),
-        Some(Operation::Erase(erase)) => put_erase(&mut words, RUNNING, 2, erase),
+        Some(Operation::Program(program)) => put(&mut words, RUNNING, program_words(3, program)),
+        Some(Operation::Erase(erase)) => put(&mut words, RUNNING, [2, erase.block, erase.done]),
     }
     if let Some(program) = device.suspended_program {
-        put_program(&mut words, SUSPENDED_PROGRAM, program);
+        put(&mut words, SUSPENDED_PROGRAM, program_words(2, program));
     }
     if let Some(erase) = device.suspended_erase {
-        put_erase(&mut words, SUSPENDED_ERASE, 1, erase);
+        put(&mut words, SUSPENDED_ERASE, [1, erase.block, erase.done]);
     }
-    let flags = device.flags;
-    for (word, flag) in words[FLAGS..]
-        .iter_mut()
-        .zip([flags.sr5, flags.sr4, flags.sr3, flags.sr1])
-    {
-        *word = u64::from(flag);
-    }
+    let Flags { sr5, sr4, sr3, sr1 } = device.flags;
+    put(&mut words, FLAGS, [sr5, sr4, sr3, sr1].map(u32::from));
     for (block, &unprotected) in device.unprotected.iter().enumerate() {
         words[PROTECTION + block / 64] |= u64::from(unprotected) << (block % 64);
     }
     words[CONFIGURATION] = u64::from(device.configuration);
     words[SUPPLY] = u64::from(device.supply);
+    for (place, &word) in device.buffer.iter().enumerate() {
+        words[BUFFER + place / 4] |= u64::from(word) << (16 * (place % 4));
+    }
     words
 }
 
-fn put_program(words: &mut Words, at: usize, program: Program) {
-    words[at..at + 3].copy_from_slice(&[1, u64::from(program.location), u64::from(program.data)]);
+fn put<const COUNT: usize>(words: &mut Words, at: usize, values: [u32; COUNT]) {
+    words[at..at + COUNT].copy_from_slice(&values.map(u64::from));
 }
 
-fn put_erase(words: &mut Words, at: usize, kind: u64, erase: Erase) {
-    words[at..at + 3].copy_from_slice(&[kind, u64::from(erase.block), u64::from(erase.done)]);
+fn setup_words(setup: Option<Setup>) -> [u32; 4] {
+    match setup {
+        None => [0; 4],
+        Some(Setup::Program) => [1, 0, 0, 0],
+        Some(Setup::Erase) => [2, 0, 0, 0],
+        Some(Setup::Lock) => [3, 0, 0, 0],
+        Some(Setup::LoadCount { block }) => [4, block, 0, 0],
+        Some(Setup::LoadFirst { block, words }) => [5, block, words, 0],
+        Some(Setup::LoadNext { start, words, due }) => [6, start, words, due],
+    }
+}
+
+/// A program; a buffer program's number is not the same where it runs and where
+/// it is suspended.
+fn program_words(buffer: u32, program: Program) -> [u32; 4] {
+    match program {
+        Program::Word { location, data } => [1, location, u32::from(data), 0],
+        Program::Buffer { start, words, done } => [buffer, start, words, done],
+    }
 }
 
 /// The device of some state words, well formed or not; none where the words are
-/// those of no device at all: another count than 38, a number that stands for
-/// nothing, or an unused place that is not 0.
+/// those of no device at all: another count than 51, a number that stands for
+/// nothing or is too long for its place, or an unused place that is not 0.
 pub fn decode(words: &[u64]) -> Option<Device> {
     let words: &Words = words.try_into().ok()?;
-    let mut modes = [Mode::Array; BANKS];
-    for (mode, &word) in modes.iter_mut().zip(&words[MODES..]) {
-        *mode = match word {
-            0 => Mode::Array,
-            1 => Mode::Status,
-            2 => Mode::Signature,
-            3 => Mode::Query,
-            _ => return None,
-        };
-    }
     let mut unprotected = [false; BLOCKS];
     for (block, unprotected) in unprotected.iter_mut().enumerate() {
         *unprotected = words[PROTECTION + block / 64] >> (block % 64) & 1 == 1;
@@ -109,28 +115,26 @@ pub fn decode(words: &[u64]) -> Option<Device> {
     if words[CONFIGURATION - 1] >> (BLOCKS % 64) != 0 {
         return None;
     }
+    let mut buffer = [0; BUFFER_WORDS];
+    for (place, word) in buffer.iter_mut().enumerate() {
+        *word = (words[BUFFER + place / 4] >> (16 * (place % 4))) as u16;
+    }
     Some(Device {
         part: Part::from_number(u32::try_from(words[PART]).ok()?)?,
-        modes,
-        setup: match words[SETUP] {
-            0 => None,
-            1 => Some(Setup::Program),
-            2 => Some(Setup::Erase),
-            3 => Some(Setup::Lock),
+        modes: modes(&words[MODES..SETUP])?,
+        setup: setup(&words[SETUP..RUNNING])?,
+        running: match words[RUNNING..SUSPENDED_PROGRAM] {
+            [0, 0, 0, 0] => None,
+            [2, block, done, 0] => Some(Operation::Erase(erase(block, done)?)),
+            [kind, a, b, c] => Some(Operation::Program(program(3, [kind, a, b, c])?)),
             _ => return None,
         },
-        running: match words[RUNNING..RUNNING + 3] {
-            [0, 0, 0] => None,
-            [1, location, data] => Some(Operation::Program(program(location, data)?)),
-            [2, block, done] => Some(Operation::Erase(erase(block, done)?)),
+        suspended_program: match words[SUSPENDED_PROGRAM..SUSPENDED_ERASE] {
+            [0, 0, 0, 0] => None,
+            [kind, a, b, c] => Some(program(2, [kind, a, b, c])?),
             _ => return None,
         },
-        suspended_program: match words[SUSPENDED_PROGRAM..SUSPENDED_PROGRAM + 3] {
-            [0, 0, 0] => None,
-            [1, location, data] => Some(program(location, data)?),
-            _ => return None,
-        },
-        suspended_erase: match words[SUSPENDED_ERASE..SUSPENDED_ERASE + 3] {
+        suspended_erase: match words[SUSPENDED_ERASE..FLAGS] {
             [0, 0, 0] => None,
             [1, block, done] => Some(erase(block, done)?),
             _ => return None,
@@ -144,14 +148,63 @@ pub fn decode(words: &[u64]) -> Option<Device> {
         unprotected,
         configuration: u16::try_from(words[CONFIGURATION]).ok()?,
         supply: flag(words[SUPPLY])?,
+        buffer,
     })
 }
 
-fn program(location: u64, data: u64) -> Option<Program> {
-    Some(Program {
-        location: u32::try_from(location).ok()?,
-        data: u16::try_from(data).ok()?,
+fn modes(words: &[u64]) -> Option<[Mode; BANKS]> {
+    let mut modes = [Mode::Array; BANKS];
+    for (mode, &word) in modes.iter_mut().zip(words) {
+        *mode = match word {
+            0 => Mode::Array,
+            1 => Mode::Status,
+            2 => Mode::Signature,
+            3 => Mode::Query,
+            _ => return None,
+        };
+    }
+    Some(modes)
+}
+
+/// None where the words are those of no set-up.
+fn setup(words: &[u64]) -> Option<Option<Setup>> {
+    let short = |word: u64| u32::try_from(word).ok();
+    Some(match *words {
+        [0, 0, 0, 0] => None,
+        [1, 0, 0, 0] => Some(Setup::Program),
+        [2, 0, 0, 0] => Some(Setup::Erase),
+        [3, 0, 0, 0] => Some(Setup::Lock),
+        [4, block, 0, 0] => Some(Setup::LoadCount {
+            block: short(block)?,
+        }),
+        [5, block, words, 0] => Some(Setup::LoadFirst {
+            block: short(block)?,
+            words: short(words)?,
+        }),
+        [6, start, words, due] => Some(Setup::LoadNext {
+            start: short(start)?,
+            words: short(words)?,
+            due: short(due)?,
+        }),
+        _ => return None,
     })
+}
+
+/// See `program_words`.
+fn program(buffer: u64, words: [u64; 4]) -> Option<Program> {
+    let short = |word: u64| u32::try_from(word).ok();
+    match words {
+        [1, location, data, 0] => Some(Program::Word {
+            location: short(location)?,
+            data: u16::try_from(data).ok()?,
+        }),
+        [kind, start, words, done] if kind == buffer => Some(Program::Buffer {
+            start: short(start)?,
+            words: short(words)?,
+            done: short(done)?,
+        }),
+        _ => None,
+    }
 }
 
 fn erase(block: u64, done: u64) -> Option<Erase> {
@@ -175,17 +228,34 @@ pub fn name(word: usize) -> String {
     match word {
         PART => "part".to_string(),
         1..=16 => format!("mode of bank {}", word - MODES),
-        SETUP => "set-up".to_string(),
-        18..=20 => at(RUNNING, &["running kind", "running place", "running count"]),
-        21..=23 => at(
+        17..=20 => at(
+            SETUP,
+            &[
+                "set-up",
+                "load's place",
+                "load's words",
+                "load's cycles due",
+            ],
+        ),
+        21..=24 => at(
+            RUNNING,
+            &[
+                "running kind",
+                "running place",
+                "running count",
+                "running words done",
+            ],
+        ),
+        25..=28 => at(
             SUSPENDED_PROGRAM,
             &[
                 "suspended program",
                 "suspended program's location",
-                "suspended program's data",
+                "suspended program's data or words",
+                "suspended program's words done",
             ],
         ),
-        24..=26 => at(
+        29..=31 => at(
             SUSPENDED_ERASE,
             &[
                 "suspended erase",
@@ -193,10 +263,11 @@ pub fn name(word: usize) -> String {
                 "suspended erase's words done",
             ],
         ),
-        27..=30 => at(FLAGS, &["SR5", "SR4", "SR3", "SR1"]),
-        31..=35 => format!("unprotected blocks from {}", 64 * (word - PROTECTION)),
+        32..=35 => at(FLAGS, &["SR5", "SR4", "SR3", "SR1"]),
+        36..=40 => format!("unprotected blocks from {}", 64 * (word - PROTECTION)),
         CONFIGURATION => "configuration register".to_string(),
         SUPPLY => "supply".to_string(),
+        43..=50 => format!("buffer from place {}", 4 * (word - BUFFER)),
         _ => "past the state".to_string(),
     }
 }

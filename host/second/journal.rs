@@ -1,15 +1,18 @@
-//! The recorder of document 01, "The journal" (there: the clerk). It is told the part and the steps
-//! "but no device, array or answer"; nothing here comes from the model.
+//! The recorder of document 01, "The journal" (there: the clerk), with the entries of document 02,
+//! item 1. It is told the part and the steps "but no device, array or answer"; nothing here comes
+//! from the model.
 
 #![allow(dead_code)] // a program that takes this module in need not use all of it
 
 use super::geometry::{Part, ADDRESSES, BLOCKS};
 use super::steps::Step;
 
-/// "a program's location and data or an erase's block".
-#[derive(Clone, Copy, Debug, PartialEq, Eq)]
+/// "a program's location and data or an erase's block"; a buffer program's
+/// entries "cover several words" (document 02, item 1), from `start` on.
+#[derive(Clone, Debug, PartialEq, Eq)]
 pub enum Kind {
     Program { location: u32, data: u16 },
+    Buffer { start: u32, words: Vec<u16> },
     Erase { block: u32 },
 }
 
@@ -23,7 +26,7 @@ pub enum State {
     BrokenOff,
 }
 
-#[derive(Clone, Copy, Debug, PartialEq, Eq)]
+#[derive(Clone, Debug, PartialEq, Eq)]
 pub struct Entry {
     pub kind: Kind,
     pub units: u32,
@@ -31,8 +34,9 @@ pub struct Entry {
 }
 
 impl Entry {
+    /// A program of one word or of several.
     pub fn is_program(&self) -> bool {
-        matches!(self.kind, Kind::Program { .. })
+        !matches!(self.kind, Kind::Erase { .. })
     }
 
     pub fn is_finished(&self) -> bool {
@@ -40,11 +44,36 @@ impl Entry {
     }
 }
 
-#[derive(Clone, Copy, Debug, PartialEq, Eq)]
+#[derive(Clone, Debug, PartialEq, Eq)]
 enum Setup {
     Program,
     Erase,
     Lock,
+    Load(Load),
+}
+
+/// A buffer program between its E8h and its D0h.
+#[derive(Clone, Debug, PartialEq, Eq)]
+struct Load {
+    /// The block of E8h.
+    block: u32,
+    /// How many data cycles it has; none before the count.
+    words: Option<u32>,
+    /// Location and data of each data cycle so far.
+    given: Vec<(u32, u16)>,
+}
+
+impl Load {
+    /// What is written on D0h: "of two data for one word the later counts, and
+    /// a word given none takes FFFFh".
+    fn kind(&self) -> Kind {
+        let start = self.given[0].0;
+        let mut words = vec![0xFFFF; self.given.len()];
+        for &(location, data) in &self.given {
+            words[(location - start) as usize] = data;
+        }
+        Kind::Buffer { start, words }
+    }
 }
 
 /// "He holds supply, the open blocks, the set-up and the journal".
@@ -106,7 +135,7 @@ impl Recorder {
             Step::Write(address, _) if address >= ADDRESSES => {}
             Step::Work(count) if count > 65_535 => {}
             Step::Write(address, data) => match self.setup.take() {
-                None => self.first_write(data),
+                None => self.first_write(address, data),
                 Some(setup) => self.second_write(setup, address, data),
             },
             Step::Work(count) => self.work(count),
@@ -132,20 +161,28 @@ impl Recorder {
     }
 
     /// Applies the entries in order of acceptance. A finished program ands its
-    /// data in, an unfinished one does nothing; an erase sets to FFFFh as many
-    /// of its block's lowest words as it had units, which is the whole block
-    /// once it is finished. An array of another length than the part's panics.
+    /// data in, an unfinished one does nothing; a buffer program "has reached as
+    /// many of its lowest as it had units" (document 02, item 1); an erase sets
+    /// to FFFFh as many of its block's lowest words as it had units, which is
+    /// the whole block once it is finished. An array of another length than the
+    /// part's panics.
     pub fn apply_to(&self, array: &mut [u16]) {
         assert_eq!(array.len(), self.part.array_length());
         for entry in &self.entries {
-            match entry.kind {
+            match &entry.kind {
                 Kind::Program { location, data } => {
                     if entry.is_finished() {
-                        array[location as usize] &= data;
+                        array[*location as usize] &= data;
+                    }
+                }
+                Kind::Buffer { start, words } => {
+                    let reached = &words[..entry.units as usize];
+                    for (word, data) in array[*start as usize..].iter_mut().zip(reached) {
+                        *word &= data;
                     }
                 }
                 Kind::Erase { block } => {
-                    let block = self.part.block(block).expect("a block of the part");
+                    let block = self.part.block(*block).expect("a block of the part");
                     let words = if entry.is_finished() {
                         block.size
                     } else {
@@ -160,14 +197,15 @@ impl Recorder {
 
     /// "Work n: the running entry, if any, gets the lesser of n and the units
     /// it lacks of 1 (program) or of its block's words (erase). Lacking none,
-    /// it is finished."
+    /// it is finished." A buffer program has a unit for each of its words.
     fn work(&mut self, count: u32) {
         let Some(index) = self.find(|entry| entry.state == State::Running) else {
             return;
         };
-        let whole = match self.entries[index].kind {
+        let whole = match &self.entries[index].kind {
             Kind::Program { .. } => 1,
-            Kind::Erase { block } => self.part.block(block).expect("a block of the part").size,
+            Kind::Buffer { words, .. } => words.len() as u32,
+            Kind::Erase { block } => self.part.block(*block).expect("a block of the part").size,
         };
         let entry = &mut self.entries[index];
         entry.units += count.min(whole - entry.units);
@@ -178,7 +216,7 @@ impl Recorder {
     }
 
     /// "Write, no set-up".
-    fn first_write(&mut self, data: u16) {
+    fn first_write(&mut self, address: u32, data: u16) {
         let command = data % 256;
         if let Some(index) = self.find(|entry| entry.state == State::Running) {
             // "B0h suspends what runs." All else here is for "If nothing runs".
@@ -202,6 +240,14 @@ impl Recorder {
             0x10 | 0x40 if program.is_none() => self.setup = Some(Setup::Program),
             0x60 if program.is_none() => self.setup = Some(Setup::Lock),
             0x20 if self.live.is_empty() => self.setup = Some(Setup::Erase),
+            // "E8h is taken when 40h is" (document 02, item 1)
+            0xE8 if program.is_none() => {
+                self.setup = Some(Setup::Load(Load {
+                    block: self.place(address).1,
+                    words: None,
+                    given: Vec::new(),
+                }));
+            }
             // "Else nothing."
             _ => {}
         }
@@ -209,11 +255,7 @@ impl Recorder {
 
     /// "Write, set-up: it ends." The caller has ended it.
     fn second_write(&mut self, setup: Setup, address: u32, data: u16) {
-        let location = self.part.location(address);
-        let block = match self.part.place(location) {
-            Some(place) => place.block,
-            None => unreachable!("every location lies in a block"),
-        };
+        let (location, block) = self.place(address);
         match (setup, data % 256) {
             // "Lock: the protection commands D0h and 01h open and shut the
             // block."
@@ -222,9 +264,41 @@ impl Recorder {
             // "Program with any data, erase with D0h"
             (Setup::Program, _) => self.accept(block, Kind::Program { location, data }),
             (Setup::Erase, 0xD0) => self.accept(block, Kind::Erase { block }),
+            (Setup::Load(load), _) => self.load_write(load, location, block, data),
             // "Else nothing."
             (Setup::Lock | Setup::Erase, _) => {}
         }
+    }
+
+    /// A cycle of a load (section 4.9). It ends at a wrong cycle, which adds
+    /// nothing, or at D0h; else it stays the set-up.
+    fn load_write(&mut self, mut load: Load, location: u32, block: u32, data: u16) {
+        if block != load.block {
+            return;
+        }
+        match load.words {
+            // "A count word above 31 is a wrong cycle".
+            None if data > 31 => return,
+            None => load.words = Some(u32::from(data) + 1),
+            Some(words) if load.given.len() < words as usize => {
+                let start = load.given.first().map_or(location, |first| first.0);
+                let end = start + words;
+                let block = self.part.block(block).expect("a block of the part");
+                // "a first word from which so many would leave its block"; the
+                // later ones lie in the range that it begins.
+                if location < start || location >= end || end > block.start + block.size {
+                    return;
+                }
+                load.given.push((location, data));
+            }
+            Some(_) => {
+                if data % 256 == 0xD0 {
+                    self.accept(block, load.kind());
+                }
+                return;
+            }
+        }
+        self.setup = Some(Setup::Load(load));
     }
 
     /// "if supply is on, the block open and no erase of it suspended, a running
@@ -241,6 +315,15 @@ impl Recorder {
                 units: 0,
                 state: State::Running,
             });
+        }
+    }
+
+    /// Location and block of an address.
+    fn place(&self, address: u32) -> (u32, u32) {
+        let location = self.part.location(address);
+        match self.part.place(location) {
+            Some(place) => (location, place.block),
+            None => unreachable!("every location lies in a block"),
         }
     }
 

@@ -1,4 +1,5 @@
-//! A second model of the flash chip, written from document 01 alone.
+//! A second model of the flash chip, written from document 01 and document 02, item 1 (the write
+//! buffer) alone.
 
 #![allow(dead_code)] // a program that takes this module in need not use all of it
 
@@ -14,19 +15,51 @@ pub enum Mode {
     Query,
 }
 
-/// "a pending set-up (none, program, erase, lock)"; none is `Option::None`.
+/// The places of the write buffer: "up to 32 words at once" (document 02, item 1).
+pub const BUFFER_WORDS: usize = 32;
+
+/// "a pending set-up (none, program, erase, lock)"; none is `Option::None`. The
+/// others are a load, a buffer program before its D0h, by the cycle that is due.
 #[derive(Clone, Copy, Debug, PartialEq, Eq)]
 pub enum Setup {
     Program,
     Erase,
     Lock,
+    /// The count, in the block of E8h.
+    LoadCount {
+        block: u32,
+    },
+    /// The first of so many words, in the block of E8h.
+    LoadFirst {
+        block: u32,
+        words: u32,
+    },
+    /// So many more data cycles, each for one of the words from `start` on;
+    /// D0h where none is due.
+    LoadNext {
+        start: u32,
+        words: u32,
+        due: u32,
+    },
 }
 
-/// A program carries "its location and data".
 #[derive(Clone, Copy, Debug, PartialEq, Eq)]
-pub struct Program {
-    pub location: u32,
-    pub data: u16,
+pub enum Program {
+    /// A program carries "its location and data".
+    Word { location: u32, data: u16 },
+    /// A buffer program: the first `words` places of the buffer go to the
+    /// locations from `start` on, and the lowest `done` of them are in.
+    Buffer { start: u32, words: u32, done: u32 },
+}
+
+impl Program {
+    /// The lowest location that it programs.
+    pub fn start(self) -> u32 {
+        match self {
+            Program::Word { location, .. } => location,
+            Program::Buffer { start, .. } => start,
+        }
+    }
 }
 
 /// "An erase carries its block and the words done".
@@ -68,7 +101,8 @@ pub struct UnprotectedReport {
     pub refusal: u8,
 }
 
-/// The fields of "What a device holds". There is no spare storage.
+/// The fields of "What a device holds", and the buffer. Spare storage is what
+/// of the buffer holds no word of a load or of a buffer program.
 #[derive(Clone, Debug, PartialEq, Eq)]
 pub struct Device {
     pub part: Part,
@@ -81,6 +115,7 @@ pub struct Device {
     pub unprotected: [bool; BLOCKS],
     pub configuration: u16,
     pub supply: bool,
+    pub buffer: [u16; BUFFER_WORDS],
 }
 
 /// Block and bank of an address: (refusal, block, bank). "lookup of an address
@@ -120,10 +155,12 @@ impl Device {
             unprotected: [false; BLOCKS],
             configuration: 0xFFFF,
             supply: false,
+            buffer: [0; BUFFER_WORDS],
         }
     }
 
-    /// "A state is well made when", sentence by sentence.
+    /// "A state is well made when", sentence by sentence. A load is a set-up, a
+    /// buffer program a program.
     pub fn well_formed(&self) -> bool {
         // "a running operation means no set-up pending and no suspended program"
         if self.running.is_some() && (self.setup.is_some() || self.suspended_program.is_some()) {
@@ -144,29 +181,74 @@ impl Device {
         {
             return false;
         }
-        // "blocks are of the part, and an erase has done fewer words than its
-        // block has"
-        for erase in [running_erase, self.suspended_erase].into_iter().flatten() {
-            match self.part.block(erase.block) {
-                Some(block) if erase.done < block.size => {}
-                _ => return false,
+        // One at most, by the first clause.
+        let program = running_program.or(self.suspended_program);
+        self.erase_well_formed(running_erase)
+            && self.erase_well_formed(self.suspended_erase)
+            && self.program_well_formed(program)
+            && self.load_well_formed()
+            && self.spare_is_zero(program)
+    }
+
+    /// "blocks are of the part, and an erase has done fewer words than its
+    /// block has".
+    fn erase_well_formed(&self, erase: Option<Erase>) -> bool {
+        erase.is_none_or(|erase| {
+            let block = self.part.block(erase.block);
+            block.is_some_and(|block| erase.done < block.size)
+        })
+    }
+
+    /// "locations ... are of the part", and "a buffer program, whose words lie
+    /// in one block and are more than it has done" (document 02, item 1). "a
+    /// program that runs or is suspended beside a suspended erase lies in
+    /// another block".
+    fn program_well_formed(&self, program: Option<Program>) -> bool {
+        let block = match program {
+            None => return true,
+            Some(Program::Word { location, .. }) => self.common_block(location, 1),
+            Some(Program::Buffer { words, done, .. }) if done >= words => None,
+            Some(Program::Buffer { start, words, .. }) => self.common_block(start, words),
+        };
+        block.is_some_and(|block| !self.erase_suspended_in(block))
+    }
+
+    /// "a load half done" (document 02, item 1): its words need not fit its
+    /// block before the first is in. It may lie in the block of the suspended
+    /// erase, since that is looked at only at D0h.
+    fn load_well_formed(&self) -> bool {
+        match self.setup {
+            None | Some(Setup::Program | Setup::Erase | Setup::Lock) => true,
+            Some(Setup::LoadCount { block }) => self.part.block(block).is_some(),
+            Some(Setup::LoadFirst { block, words }) => {
+                self.part.block(block).is_some() && fits_buffer(words)
+            }
+            Some(Setup::LoadNext { start, words, due }) => {
+                self.common_block(start, words).is_some() && due < words
             }
         }
-        for program in [running_program, self.suspended_program]
-            .into_iter()
-            .flatten()
-        {
-            // "locations ... are of the part"
-            let Some(place) = self.part.place(program.location) else {
-                return false;
-            };
-            // "a program that runs or is suspended beside a suspended erase
-            // lies in another block"
-            if self.erase_suspended_in(place.block) {
-                return false;
-            }
+    }
+
+    /// "spare storage, if any, is zero".
+    fn spare_is_zero(&self, program: Option<Program>) -> bool {
+        let used = match (self.setup, program) {
+            (Some(Setup::LoadNext { words, .. }), _) => words,
+            (_, Some(Program::Buffer { words, .. })) => words,
+            _ => 0,
+        };
+        // The whole buffer at once is the quicker test, and most steps meet it.
+        if used == 0 {
+            return self.buffer.iter().fold(0, |all, word| all | word) == 0;
         }
-        true
+        self.buffer[used as usize..].iter().all(|&word| word == 0)
+    }
+
+    /// The block in which so many words from a location on lie; none where they
+    /// are no number for the buffer or lie in no block or in two.
+    fn common_block(&self, start: u32, words: u32) -> Option<u32> {
+        let number = self.part.place(start)?.block;
+        let block = self.part.block(number)?;
+        (fits_buffer(words) && fits(start, words, block)).then_some(number)
     }
 
     /// One step on the borrowed array. "A refusal gives its number beside the
@@ -303,14 +385,13 @@ impl Device {
     }
 
     fn first_cycle(&mut self, address: u32, data: u16) {
-        let bank = self.place(self.part.location(address)).bank;
+        let Place { block, bank } = self.place(self.part.location(address));
         let idle = self.running.is_none();
-        let program_suspended = self.suspended_program.is_some();
-        let erase_suspended = self.suspended_erase.is_some();
+        // "nothing running, no program suspended"
+        let ready = idle && self.suspended_program.is_none();
         // "The command is data modulo 256."
         match data % 256 {
-            // "always: the addressed bank's mode becomes array, status,
-            // signature, query"
+            // "always: the addressed bank's mode becomes" this
             0xFF => self.set_mode(bank, Mode::Array),
             0x70 => self.set_mode(bank, Mode::Status),
             0x90 => self.set_mode(bank, Mode::Signature),
@@ -332,13 +413,12 @@ impl Device {
             }
             // "nothing running: the flags are cleared"
             0x50 if idle => self.flags = Flags::default(),
-            // "nothing running, no program suspended"
-            0x10 | 0x40 if idle && !program_suspended => self.set_up(bank, Setup::Program),
-            0x60 if idle && !program_suspended => self.set_up(bank, Setup::Lock),
+            0x10 | 0x40 if ready => self.set_up(bank, Setup::Program),
+            0x60 if ready => self.set_up(bank, Setup::Lock),
+            // "E8h is taken when 40h is, whatever the flags" (document 02, item 1)
+            0xE8 if ready => self.set_up(bank, Setup::LoadCount { block }),
             // "nothing running or suspended"
-            0x20 if idle && !program_suspended && !erase_suspended => {
-                self.set_up(bank, Setup::Erase);
-            }
+            0x20 if ready && self.suspended_erase.is_none() => self.set_up(bank, Setup::Erase),
             // "Anything else is ignored without a flag"
             _ => {}
         }
@@ -352,55 +432,139 @@ impl Device {
     }
 
     /// "it ends the set-up, its address alone names the word or block, and the
-    /// first rule that applies holds". The caller has ended the set-up.
+    /// first rule that applies holds". The caller has ended the set-up; a cycle
+    /// of a load that is not its last makes the next one. "each of its cycles
+    /// marks its bank as a second cycle does".
     fn second_cycle(&mut self, setup: Setup, address: u32, data: u16) {
         let location = self.part.location(address);
-        let Place { block, bank } = self.place(location);
-        let command = data % 256;
-        let unprotected = self.unprotected[block as usize];
-        self.set_mode(bank, Mode::Status);
+        let place = self.place(location);
+        self.set_mode(place.bank, Mode::Status);
         match setup {
             // "program, the whole word is data"
-            Setup::Program => {
-                if !self.supply {
-                    self.flags.sr4 = true;
-                    self.flags.sr3 = true;
-                } else if !unprotected {
-                    self.flags.sr4 = true;
-                    self.flags.sr1 = true;
-                } else if self.erase_suspended_in(block) {
-                    self.flags.sr4 = true;
+            Setup::Program => self.accept(place.block, Program::Word { location, data }),
+            Setup::Erase => self.erase_cycle(place.block, data),
+            Setup::Lock => self.lock_cycle(place.block, address, data),
+            Setup::LoadCount { block } => {
+                // "A count word above 31 is a wrong cycle": the whole word.
+                if place.block == block && usize::from(data) < BUFFER_WORDS {
+                    let words = u32::from(data) + 1;
+                    self.setup = Some(Setup::LoadFirst { block, words });
                 } else {
-                    self.running = Some(Operation::Program(Program { location, data }));
+                    self.wrong_cycle();
                 }
             }
-            Setup::Erase => {
-                if command != 0xD0 {
-                    self.flags.sr5 = true;
-                    self.flags.sr4 = true;
-                } else if !self.supply {
-                    self.flags.sr5 = true;
-                    self.flags.sr3 = true;
-                } else if !unprotected {
-                    self.flags.sr5 = true;
-                    self.flags.sr1 = true;
+            Setup::LoadFirst { block, words } => {
+                // "and so is a first word from which so many would leave its block"
+                if place.block == block && fits(location, words, self.block(block)) {
+                    self.load_first(location, words, data);
                 } else {
-                    // "an erase runs with no word done"
-                    self.running = Some(Operation::Erase(Erase { block, done: 0 }));
+                    self.wrong_cycle();
                 }
             }
-            // "Supply is not looked at."
-            Setup::Lock => match command {
-                0x01 => self.unprotected[block as usize] = false,
-                0xD0 => self.unprotected[block as usize] = true,
-                // "the address modulo 65,536": the address, not the location
-                0x03 => self.configuration = (address % 65_536) as u16,
-                _ => {
-                    self.flags.sr5 = true;
-                    self.flags.sr4 = true;
+            Setup::LoadNext { start, words, due } => {
+                let right = if due > 0 {
+                    self.load_next(location, start, words, due, data)
+                } else {
+                    self.confirm(place.block, start, words, data)
+                };
+                if !right {
+                    self.buffer = [0; BUFFER_WORDS];
+                    self.wrong_cycle();
                 }
-            },
+            }
         }
+    }
+
+    /// "set SR5 and SR4".
+    fn wrong_cycle(&mut self) {
+        self.flags.sr5 = true;
+        self.flags.sr4 = true;
+    }
+
+    /// A program, at its data or at the D0h of a buffer program: "supply off, set
+    /// SR4 and SR3; block protected, SR4 and SR1; block of the suspended erase,
+    /// SR4 (H); else a program runs".
+    fn accept(&mut self, block: u32, program: Program) {
+        if !self.supply {
+            self.flags.sr4 = true;
+            self.flags.sr3 = true;
+        } else if !self.unprotected[block as usize] {
+            self.flags.sr4 = true;
+            self.flags.sr1 = true;
+        } else if self.erase_suspended_in(block) {
+            self.flags.sr4 = true;
+        } else {
+            self.running = Some(Operation::Program(program));
+        }
+    }
+
+    fn erase_cycle(&mut self, block: u32, data: u16) {
+        if data % 256 != 0xD0 {
+            self.wrong_cycle();
+        } else if !self.supply {
+            self.flags.sr5 = true;
+            self.flags.sr3 = true;
+        } else if !self.unprotected[block as usize] {
+            self.flags.sr5 = true;
+            self.flags.sr1 = true;
+        } else {
+            // "an erase runs with no word done"
+            self.running = Some(Operation::Erase(Erase { block, done: 0 }));
+        }
+    }
+
+    /// "Supply is not looked at."
+    fn lock_cycle(&mut self, block: u32, address: u32, data: u16) {
+        match data % 256 {
+            0x01 => self.unprotected[block as usize] = false,
+            0xD0 => self.unprotected[block as usize] = true,
+            // "the address modulo 65,536": the address, not the location
+            0x03 => self.configuration = (address % 65_536) as u16,
+            _ => self.wrong_cycle(),
+        }
+    }
+
+    /// The first data cycle names the start (section 4.9). "a word given none
+    /// takes FFFFh".
+    fn load_first(&mut self, start: u32, words: u32, data: u16) {
+        self.buffer[..words as usize].fill(0xFFFF);
+        self.buffer[0] = data;
+        self.setup = Some(Setup::LoadNext {
+            start,
+            words,
+            due: words - 1,
+        });
+    }
+
+    /// A later data cycle; false where it is for none of the words from the
+    /// start on (section 4.9). "of two data for one word the later counts".
+    fn load_next(&mut self, location: u32, start: u32, words: u32, due: u32, data: u16) -> bool {
+        if !(start..start + words).contains(&location) {
+            return false;
+        }
+        self.buffer[(location - start) as usize] = data;
+        self.setup = Some(Setup::LoadNext {
+            start,
+            words,
+            due: due - 1,
+        });
+        true
+    }
+
+    /// The cycle after the last data cycle; false where it is wrong. Like all
+    /// others it has to lie in the block (section 4.9). "at D0h, supply,
+    /// protection and suspended erase are tested as for a program" (document 02,
+    /// item 1).
+    fn confirm(&mut self, block: u32, start: u32, words: u32, data: u16) -> bool {
+        if data % 256 != 0xD0 || block != self.place(start).block {
+            return false;
+        }
+        let done = 0;
+        self.accept(block, Program::Buffer { start, words, done });
+        if self.running.is_none() {
+            self.buffer = [0; BUFFER_WORDS];
+        }
+        true
     }
 
     /// "Up to n units, while something runs." "The answer is the number of
@@ -412,9 +576,21 @@ impl Device {
         match self.running.take() {
             None => 0,
             // "A program's one unit ands the data into the word."
-            Some(Operation::Program(program)) => {
-                array[program.location as usize] &= program.data;
+            Some(Operation::Program(Program::Word { location, data })) => {
+                array[location as usize] &= data;
                 1
+            }
+            Some(Operation::Program(Program::Buffer { start, words, done })) => {
+                let units = count.min(words - done);
+                self.put_words(array, start + done, done, units);
+                let done = done + units;
+                if done < words {
+                    let program = Program::Buffer { start, words, done };
+                    self.running = Some(Operation::Program(program));
+                } else {
+                    self.buffer = [0; BUFFER_WORDS];
+                }
+                units as u16
             }
             // "An erase's unit sets the lowest word not yet done to FFFFh."
             Some(Operation::Erase(Erase { block, done })) => {
@@ -430,6 +606,15 @@ impl Device {
                 }
                 units as u16
             }
+        }
+    }
+
+    /// "One unit puts in one word, from the lowest location up" (document 02,
+    /// item 1): so many units, from a location and a place of the buffer on.
+    fn put_words(&self, array: &mut [u16], location: u32, place: u32, units: u32) {
+        let words = &mut array[location as usize..][..units as usize];
+        for (word, data) in words.iter_mut().zip(&self.buffer[place as usize..]) {
+            *word &= data;
         }
     }
 
@@ -453,7 +638,7 @@ impl Device {
     /// The bank in which something runs.
     fn running_bank(&self) -> Option<u32> {
         self.running.map(|operation| match operation {
-            Operation::Program(program) => self.place(program.location).bank,
+            Operation::Program(program) => self.place(program.start()).bank,
             Operation::Erase(erase) => self.block(erase.block).bank,
         })
     }
@@ -472,4 +657,14 @@ impl Device {
     fn bank_start(&self, bank: u32) -> u32 {
         self.part.bank_start(bank).expect("a bank of the part")
     }
+}
+
+/// Whether a load or a buffer program may have so many words.
+fn fits_buffer(words: u32) -> bool {
+    (1..=BUFFER_WORDS as u32).contains(&words)
+}
+
+/// Whether so many words from a location of the block on lie in it.
+fn fits(start: u32, words: u32, block: Block) -> bool {
+    words <= block.start + block.size - start
 }

@@ -1,10 +1,12 @@
 //! Self-test of the second model: document 01's twelve proved cases, its
-//! worked script, the refusal card, and random lists of steps whose array is
-//! compared with the recorder's reading. Prints one line; panics on a difference.
+//! worked script, the refusal card, the write buffer's cases, and random lists of
+//! steps whose array is compared with the recorder's reading. Prints one line;
+//! panics on a difference.
 //!
 //!     rustc -O --edition 2021 selftest.rs -o selftest
 //!     ./selftest [seed]
 
+mod buffer_cases;
 mod geometry;
 mod journal;
 mod model;
@@ -12,7 +14,7 @@ mod script;
 mod steps;
 
 use geometry::{Part, ADDRESSES, BANKS, BLOCKS};
-use journal::{Recorder, State};
+use journal::{Kind, Recorder, State};
 use model::{lookup, Answer, Device, Erase, Mode, Operation, Program, Setup, UnprotectedReport};
 use script::transcript;
 use steps::Step;
@@ -30,6 +32,7 @@ fn main() {
     let locations = check_geometry();
     let cases = check_proved_cases();
     let errors = check_errors_that_look_right();
+    let loads = buffer_cases::check();
     let states = check_malformed_states();
     check_reads();
     check_modes_and_flags();
@@ -49,7 +52,7 @@ fn main() {
     }
     println!(
         "selftest ok: seed {seed}, {cases} proved cases, {errors} errors that look right, \
-         {states} malformed states, {scripts} scripts, {locations} locations, {}",
+         {loads} buffer cases, {states} malformed states, {scripts} scripts, {locations} locations, {}",
         tally.text()
     );
 }
@@ -87,6 +90,7 @@ impl Random {
 }
 
 /// A device with its array, for the cases written out by hand.
+#[derive(Clone)]
 struct Bench {
     device: Device,
     array: Vec<u16>,
@@ -318,14 +322,15 @@ fn check_errors_that_look_right() -> u32 {
     5
 }
 
-/// States that break one clause of "well made" (document 01) each: all five steps and the
-/// report of unprotected blocks refuse 2. Gives their number.
+type Change<'a> = &'a dyn Fn(&mut Device);
+
+/// States that break one clause of "well made" (document 01) each. Gives their
+/// number.
 fn check_malformed_states() -> u32 {
-    let program = |location| Program { location, data: 7 };
+    let program = |location| Program::Word { location, data: 7 };
     let erase = |block, done| Erase { block, done };
     let run_program = |location| Some(Operation::Program(program(location)));
     let run_erase = |block, done| Some(Operation::Erase(erase(block, done)));
-    type Change<'a> = &'a dyn Fn(&mut Device);
 
     let ill: [Change; 19] = [
         &|d| (d.running, d.setup) = (run_program(0), Some(Setup::Program)),
@@ -351,6 +356,24 @@ fn check_malformed_states() -> u32 {
             d.suspended_program = Some(program(0x7F));
         },
     ];
+    let well: [Change; 7] = [
+        &|_| {},
+        &|d| d.running = run_erase(3, 15),
+        &|d| d.running = run_program(16_383),
+        &|d| (d.suspended_erase, d.running) = (Some(erase(4, 63)), run_program(0x80)),
+        &|d| (d.suspended_erase, d.setup) = (Some(erase(4, 1)), Some(Setup::Lock)),
+        &|d| (d.suspended_erase, d.setup) = (Some(erase(4, 1)), Some(Setup::Program)),
+        &|d| {
+            d.suspended_erase = Some(erase(4, 0));
+            d.suspended_program = Some(program(0x3F));
+        },
+    ];
+    check_states(&ill, &well) + buffer_cases::check_states()
+}
+
+/// All five steps and the report of unprotected blocks refuse 2 in the first
+/// states, and none in the others. Gives the number of the first.
+fn check_states(ill: &[Change], well: &[Change]) -> u32 {
     let steps = [
         Step::Read(0),
         Step::Read(ADDRESSES),
@@ -372,19 +395,6 @@ fn check_malformed_states() -> u32 {
             refused(&device, 16_383, step, 1);
         }
     }
-
-    let well: [Change; 7] = [
-        &|_| {},
-        &|d| d.running = run_erase(3, 15),
-        &|d| d.running = run_program(16_383),
-        &|d| (d.suspended_erase, d.running) = (Some(erase(4, 63)), run_program(0x80)),
-        &|d| (d.suspended_erase, d.setup) = (Some(erase(4, 1)), Some(Setup::Lock)),
-        &|d| (d.suspended_erase, d.setup) = (Some(erase(4, 1)), Some(Setup::Program)),
-        &|d| {
-            d.suspended_erase = Some(erase(4, 0));
-            d.suspended_program = Some(program(0x3F));
-        },
-    ];
     for change in well {
         let mut device = Device::power_up(2);
         change(&mut device);
@@ -600,17 +610,37 @@ struct Tally {
     units: u64,
     finished_programs: u64,
     unfinished_programs: u64,
+    finished_buffers: u64,
+    unfinished_buffers: u64,
     finished_erases: u64,
     unfinished_erases: u64,
+    /// Loads dropped by a reset or a wrong cycle, or refused at D0h.
+    lost_loads: u64,
     both_suspended: u64,
     changed_words: u64,
 }
 
 impl Tally {
+    /// Counts the entries of a journal.
+    fn note(&mut self, recorder: &Recorder) {
+        for entry in recorder.entries() {
+            let counter = match (&entry.kind, entry.state) {
+                (Kind::Program { .. }, State::Finished) => &mut self.finished_programs,
+                (Kind::Program { .. }, _) => &mut self.unfinished_programs,
+                (Kind::Buffer { .. }, State::Finished) => &mut self.finished_buffers,
+                (Kind::Buffer { .. }, _) => &mut self.unfinished_buffers,
+                (Kind::Erase { .. }, State::Finished) => &mut self.finished_erases,
+                (Kind::Erase { .. }, _) => &mut self.unfinished_erases,
+            };
+            *counter += 1;
+        }
+    }
+
     fn text(&self) -> String {
         format!(
             "{} random lists of {} steps ({} refused, {} with both suspended), {} units, \
-             programs {} finished {} not, erases {} finished {} not, {} words changed",
+             programs {} finished {} not, buffer programs {} finished {} not ({} loads came to \
+             none), erases {} finished {} not, {} words changed",
             self.lists,
             self.steps,
             self.refusals,
@@ -618,6 +648,9 @@ impl Tally {
             self.units,
             self.finished_programs,
             self.unfinished_programs,
+            self.finished_buffers,
+            self.unfinished_buffers,
+            self.lost_loads,
             self.finished_erases,
             self.unfinished_erases,
             self.changed_words
@@ -645,8 +678,8 @@ fn check_list(random: &mut Random, part: u32, longest: u32, tally: &mut Tally) {
         assert_eq!(device.supply, recorder.supply());
         assert_eq!(device.setup.is_some(), recorder.set_up_pending());
         assert_eq!(device.running.is_some(), recorder.running().is_some());
-        if let (Some(Operation::Erase(erase)), Some(entry)) = (device.running, recorder.running()) {
-            assert_eq!(erase.done, entry.units);
+        if let (Some(operation), Some(entry)) = (device.running, recorder.running()) {
+            assert_eq!(done(operation), entry.units);
         }
         if answer.refusal != 0 {
             assert_eq!(device, before, "{step:?}");
@@ -657,6 +690,10 @@ fn check_list(random: &mut Random, part: u32, longest: u32, tally: &mut Tally) {
         }
         if before.suspended_program.is_some() && before.suspended_erase.is_some() {
             tally.both_suspended += 1;
+        }
+        let lost = device.setup.is_none() && device.running.is_none();
+        if is_load(before.setup) && lost {
+            tally.lost_loads += 1;
         }
         tally.steps += 1;
     }
@@ -671,17 +708,25 @@ fn check_list(random: &mut Random, part: u32, longest: u32, tally: &mut Tally) {
 
     tally.lists += 1;
     tally.units += units;
-    for entry in recorder.entries() {
-        let counter = match (entry.is_program(), entry.state) {
-            (true, State::Finished) => &mut tally.finished_programs,
-            (true, _) => &mut tally.unfinished_programs,
-            (false, State::Finished) => &mut tally.finished_erases,
-            (false, _) => &mut tally.unfinished_erases,
-        };
-        *counter += 1;
-    }
+    tally.note(&recorder);
     let changed = start.iter().zip(&array).filter(|(old, new)| old != new);
     tally.changed_words += changed.count() as u64;
+}
+
+/// The units that a running operation has had.
+fn done(operation: Operation) -> u32 {
+    match operation {
+        Operation::Program(Program::Word { .. }) => 0,
+        Operation::Program(Program::Buffer { done, .. }) => done,
+        Operation::Erase(erase) => erase.done,
+    }
+}
+
+fn is_load(setup: Option<Setup>) -> bool {
+    !matches!(
+        setup,
+        None | Some(Setup::Program | Setup::Erase | Setup::Lock)
+    )
 }
 
 /// A list that stays among a few blocks, mostly with whole commands, so that
@@ -716,7 +761,7 @@ fn random_list(random: &mut Random, part: Part, longest: u32) -> Vec<Step> {
             0
         };
         let mut write = |command: u16| list.push(Step::Write(address, upper | command));
-        match random.below(40) {
+        match random.below(46) {
             0..=6 => {
                 write(random.pick(&[0x10, 0x40]));
                 let second = address_in(random, part, block);
@@ -756,14 +801,55 @@ fn random_list(random: &mut Random, part: Part, longest: u32) -> Vec<Step> {
                 let on = !random.one_in(4);
                 list.push(Step::Supply(on));
             }
-            _ => {
+            39 => {
                 if random.one_in(4) {
                     list.push(Step::Reset);
                 }
             }
+            _ => random_load(random, part, block, &mut list),
         }
     }
     list
+}
+
+/// A load, now and then with another step or a wrong cycle in it, some work and
+/// maybe a suspend.
+fn random_load(random: &mut Random, part: Part, block: u32, list: &mut Vec<Step>) {
+    let size = part.block(block).unwrap().size;
+    let words = match random.below(4) {
+        0 => 1,
+        1 => 32.min(size),
+        _ => 1 + random.below(32.min(size)),
+    };
+    let first = part.block(block).unwrap().start + random.below(size - words + 1);
+    list.push(Step::Write(address_in(random, part, block), 0xE8));
+    list.push(Step::Write(
+        address_in(random, part, block),
+        words as u16 - 1,
+    ));
+    for place in 0..words {
+        let offset = match random.below(4) {
+            _ if place == 0 => 0,
+            0 => random.below(words),
+            _ => place,
+        };
+        list.push(Step::Write(first + offset, random.word()));
+        if random.one_in(8 * words) {
+            let stray = random.pick(&[first + words, first.wrapping_sub(1), first + 1]);
+            list.push(Step::Write(stray, random.word()));
+        }
+        if random.one_in(20) {
+            list.push(random.pick(&[Step::Supply(true), Step::Work(3), Step::Read(first)]));
+        }
+    }
+    let confirm = random.pick(&[0xD0, 0xD0, 0xD0, 0x12D0, 0xFF]);
+    list.push(Step::Write(address_in(random, part, block), confirm));
+    list.push(Step::Work(random.below(2 * words)));
+    if random.one_in(2) {
+        list.push(Step::Write(first, 0xB0));
+        list.push(Step::Write(first, 0xD0));
+        list.push(Step::Work(random.below(words)));
+    }
 }
 
 /// An address in a block: its lowest, its highest or any; on a bench part with
