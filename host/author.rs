@@ -1,13 +1,17 @@
 //! Writes the steps of random lists, and random states to begin from. All is
 //! drawn from a seed, with an eye on the second model's device, so that blocks
-//! are unprotected and programs and erases are accepted, suspended, nested and cut
-//! far more often than by chance.
+//! are unprotected, loads come to their end, and programs and erases are accepted,
+//! suspended, nested and cut far more often than by chance.
+
+mod loads;
+pub mod states;
 
 use crate::library;
 use crate::second::model::{
-    Device, Erase, Flags, Mode, Operation, Part, Program, Setup, ADDRESSES, BANKS, BLOCKS,
+    Device, Operation, Part, Program, Setup, ADDRESSES, BANKS, BLOCKS, BUFFER_WORDS,
 };
 use crate::second::steps::Step;
+use loads::Order;
 
 /// SplitMix64.
 #[derive(Clone)]
@@ -49,6 +53,20 @@ const COMMANDS: [u16; 16] = [
     0xFF, 0x70, 0x90, 0x98, 0xB0, 0xD0, 0x50, 0x10, 0x40, 0x60, 0x20, 0x01, 0x03, 0x00, 0xE8, 0x2F,
 ];
 
+/// Those that fit what runs or is suspended, with some that are ignored then.
+const BUSY_COMMANDS: [u16; 11] = [
+    0xB0, 0xB0, 0xB0, 0xD0, 0x50, 0x40, 0x60, 0x20, 0xE8, 0xFF, 0x70,
+];
+const PROGRAM_SUSPENDED_COMMANDS: [u16; 11] = [
+    0xD0, 0xD0, 0xD0, 0x40, 0x10, 0x60, 0x20, 0xE8, 0x50, 0xB0, 0xFF,
+];
+const ERASE_SUSPENDED_COMMANDS: [u16; 13] = [
+    0xD0, 0x40, 0x10, 0x40, 0x40, 0xE8, 0xE8, 0xE8, 0x60, 0x60, 0x20, 0x50, 0x90,
+];
+const IDLE_COMMANDS: [u16; 13] = [
+    0x40, 0x10, 0x40, 0x40, 0xE8, 0xE8, 0xE8, 0x20, 0x20, 0x20, 0x60, 0x50, 0xD0,
+];
+
 /// Offsets in a bank or block at which a read may find something.
 const OFFSETS: [u32; 9] = [0, 1, 2, 3, 4, 5, 0x10, 0x11, 0x12];
 
@@ -62,6 +80,8 @@ pub struct Author {
     /// Of a thousand numbers, resets and numbers that are no step.
     resets: u64,
     no_steps: u64,
+    /// In which order the words of the load come.
+    order: Order,
 }
 
 impl Author {
@@ -81,6 +101,7 @@ impl Author {
             wild: dice.pick(&[0, 0, 2, 5, 20, 100]),
             resets: dice.pick(&[0, 1, 5, 30]),
             no_steps: dice.pick(&[0, 0, 5, 30]),
+            order: Order::Upward,
             dice,
         }
     }
@@ -131,21 +152,33 @@ impl Author {
             0..=13 => return Step::Read(self.address()),
             14 => return Step::Supply(self.dice.percent(70)),
             15..=16 => return Step::Work(self.count(lacking(device))),
-            17..=18 => return Step::Write(self.address(), self.command()),
+            // Not in a load, which few of them would leave standing.
+            17..=18 if device.setup.is_none_or(|setup| !setup.is_load()) => {
+                return Step::Write(self.address(), self.command());
+            }
             _ => {}
         }
-        if let Some(setup) = device.setup {
-            return self.second_cycle(device, setup);
+        match device.setup {
+            Some(setup) if setup.is_load() => return self.load_cycle(device, setup),
+            Some(setup) => return self.second_cycle(device, setup),
+            None => {}
         }
+        if half_done(device) && self.dice.percent(3) {
+            return Step::Reset;
+        }
+        if device.running.is_some() && self.dice.percent(60) {
+            return Step::Work(self.count(lacking(device)));
+        }
+        self.fitting_command(device)
+    }
+
+    fn fitting_command(&mut self, device: &Device) -> Step {
         let commands: &[u16] = if device.running.is_some() {
-            if self.dice.percent(60) {
-                return Step::Work(self.count(lacking(device)));
-            }
-            &[0xB0, 0xB0, 0xB0, 0xD0, 0x50, 0x40, 0x60, 0x20, 0xFF, 0x70]
+            &BUSY_COMMANDS
         } else if device.suspended_program.is_some() {
-            &[0xD0, 0xD0, 0xD0, 0x40, 0x10, 0x60, 0x20, 0x50, 0xB0, 0xFF]
+            &PROGRAM_SUSPENDED_COMMANDS
         } else if device.suspended_erase.is_some() {
-            &[0xD0, 0x40, 0x10, 0x40, 0x40, 0x60, 0x60, 0x20, 0x50, 0x90]
+            &ERASE_SUSPENDED_COMMANDS
         } else {
             if !device.supply && self.dice.percent(50) {
                 return Step::Supply(true);
@@ -158,23 +191,30 @@ impl Author {
             {
                 &[0x60]
             } else {
-                &[0x40, 0x10, 0x40, 0x40, 0x20, 0x20, 0x20, 0x60, 0x50, 0xD0]
+                &IDLE_COMMANDS
             }
         };
         let mut command = self.dice.pick(commands);
         if self.dice.percent(12) {
             command = self.dice.pick(&[0xFF, 0x70, 0x90, 0x98]);
         }
-        Step::Write(self.address(), self.dressed(command))
+        // The block of a load is that of its first cycle.
+        let address = match command {
+            0xE8 => self.address_to_change(device),
+            _ => self.address(),
+        };
+        Step::Write(address, self.dressed(command))
     }
 
-    fn second_cycle(&mut self, device: &Device, setup: Setup) -> Step {
+    /// An address, more often than not in an unprotected block; or in the block
+    /// of the suspended erase.
+    fn address_to_change(&mut self, device: &Device) -> u32 {
         let mut address = self.address();
         let favoured = self.favoured.iter().copied();
         let unprotected: Vec<u32> = favoured
             .filter(|&b| device.unprotected[b as usize])
             .collect();
-        if !unprotected.is_empty() && setup != Setup::Lock && self.dice.percent(70) {
+        if !unprotected.is_empty() && self.dice.percent(70) {
             let block = self.dice.pick(&unprotected);
             address = self.address_in(block);
         }
@@ -184,12 +224,16 @@ impl Author {
                 address = self.address_in(erase.block);
             }
         }
+        address
+    }
+
+    fn second_cycle(&mut self, device: &Device, setup: Setup) -> Step {
+        let address = match setup {
+            Setup::Lock => self.address(),
+            _ => self.address_to_change(device),
+        };
         let data = match setup {
-            Setup::Program => match self.dice.below(4) {
-                0 => self.command(),
-                1 => !(1 << self.dice.below(16)),
-                _ => self.dice.next() as u16,
-            },
+            Setup::Program => self.data(),
             Setup::Erase if self.dice.percent(85) => self.dressed(0xD0),
             Setup::Lock if self.dice.percent(60) => self.dressed(0xD0),
             Setup::Lock if self.dice.percent(60) => {
@@ -199,6 +243,15 @@ impl Author {
             _ => self.command(),
         };
         Step::Write(address, data)
+    }
+
+    /// A word to program.
+    fn data(&mut self) -> u16 {
+        match self.dice.below(4) {
+            0 => self.command(),
+            1 => !(1 << self.dice.below(16)),
+            _ => self.dice.next() as u16,
+        }
     }
 
     /// A command with an upper byte that says nothing.
@@ -289,80 +342,6 @@ impl Author {
                 .pick(&[65_536, 65_537, 131_071, 1 << 31, u32::MAX - 1, u32::MAX]),
         }
     }
-
-    /// A well-formed device, mostly one that no short list reaches.
-    pub fn device(&mut self) -> Device {
-        let mut device = Device::power_up(self.part.number());
-        let dice = &mut self.dice;
-        let modes = [Mode::Array, Mode::Status, Mode::Signature, Mode::Query];
-        for mode in &mut device.modes {
-            *mode = dice.pick(&modes);
-        }
-        device.flags = Flags {
-            sr5: dice.percent(50),
-            sr4: dice.percent(50),
-            sr3: dice.percent(50),
-            sr1: dice.percent(50),
-        };
-        let density = dice.pick(&[0, 3, 50, 100]);
-        for unprotected in &mut device.unprotected {
-            *unprotected = dice.percent(density);
-        }
-        device.configuration = dice.next() as u16;
-        device.supply = dice.percent(70);
-
-        let scene = self.dice.below(11);
-        // Scenes 5 to 9 have a suspended erase, and a program only beside it.
-        if (5..10).contains(&scene) {
-            device.suspended_erase = Some(self.erase());
-        }
-        let program = loop {
-            let program = self.program();
-            let place = self.part.place(program.start());
-            if device.suspended_erase.map(|e| e.block) != place.map(|p| p.block) {
-                break program;
-            }
-        };
-        match scene {
-            0 | 5 => {
-                device.setup = Some(self.dice.pick(&[Setup::Program, Setup::Lock]));
-            }
-            1 => device.setup = Some(Setup::Erase),
-            2 | 6 | 7 => device.running = Some(Operation::Program(program)),
-            3 => device.running = Some(Operation::Erase(self.erase())),
-            4 | 8 => device.suspended_program = Some(program),
-            _ => {}
-        }
-        device
-    }
-
-    fn program(&mut self) -> Program {
-        let block = self.usual_block();
-        let address = self.address_in(block);
-        Program::Word {
-            location: self.part.location(address),
-            data: self.dice.next() as u16,
-        }
-    }
-
-    fn erase(&mut self) -> Erase {
-        let block = self.usual_block();
-        let size = self.part.block(block).expect("a block of the part").size;
-        let done = match self.dice.below(4) {
-            0 => 0,
-            1 => size - 1,
-            _ => self.dice.below(u64::from(size)) as u32,
-        };
-        Erase { block, done }
-    }
-
-    fn usual_block(&mut self) -> u32 {
-        if self.dice.percent(70) {
-            self.dice.pick(&self.favoured)
-        } else {
-            some_block(&mut self.dice)
-        }
-    }
 }
 
 /// A block, often one at an edge of the small blocks or of a bank.
@@ -381,6 +360,18 @@ fn lacking(device: &Device) -> u32 {
             let block = device.part.block(erase.block);
             block.map_or(1, |block| block.size.saturating_sub(erase.done).max(1))
         }
+        Some(Operation::Program(Program::Buffer { words, done, .. })) => {
+            words.saturating_sub(done).clamp(1, BUFFER_WORDS as u32)
+        }
         _ => 1,
+    }
+}
+
+/// Whether a buffer program has had some of its units.
+fn half_done(device: &Device) -> bool {
+    let some_done = |program| matches!(program, Program::Buffer { done: 1.., .. });
+    match device.running {
+        Some(Operation::Program(program)) => some_done(program),
+        _ => device.suspended_program.is_some_and(some_done),
     }
 }

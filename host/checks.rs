@@ -1,6 +1,8 @@
 //! Checks that need no chance: power-up, states that are not well formed, each
 //! state word changed to many values, and memory of other counts.
 
+use crate::author::states::CLAUSES;
+use crate::author::Author;
 use crate::library::{self, STATE_WORDS};
 use crate::pair::{Difference, Pair, Start};
 use crate::second::model::{
@@ -10,6 +12,10 @@ use crate::second::steps::Step;
 use crate::state::{self, Words};
 
 const UNTOUCHED: u64 = 0xDEAD_BEEF_DEAD_BEEF;
+
+/// States for each clause that the author breaks, on a full part, whose array
+/// takes long to compare, and on a bench part.
+const BROKEN: [u64; 2] = [3, 25];
 
 /// A check that failed: which one, and what is not equal.
 pub struct Failure {
@@ -172,12 +178,59 @@ fn probes(part: Part) -> Vec<u64> {
     steps.map(library::number).to_vec()
 }
 
+/// What is left of a load of two words, and of the buffer program that it comes
+/// to, from the cycle or the unit on that is due; none where there is neither.
+fn rest_of_load(device: &Device) -> Option<Vec<u64>> {
+    let begun = match (device.setup, device.running, device.suspended_program) {
+        (Some(Setup::LoadCount { .. }), ..) => 0,
+        (Some(Setup::LoadFirst { .. }), ..) => 1,
+        (Some(Setup::LoadNext { due: 1.., .. }), ..) => 2,
+        (Some(Setup::LoadNext { .. }), ..) => 3,
+        (_, Some(Operation::Program(Program::Buffer { .. })), _) => 4,
+        (.., Some(Program::Buffer { .. })) => 6,
+        _ => return None,
+    };
+    let at = buffer_start(device.part);
+    let steps = [
+        Step::Write(at + 2, 1),
+        Step::Write(at, 0xA5F0),
+        Step::Write(at + 1, 0x5A0F),
+        Step::Write(at + 3, 0x00D0),
+        Step::Work(1),
+        Step::Write(at, 0x00B0),
+        Step::Read(at),
+        Step::Write(at, 0x00D0),
+        Step::Work(40),
+        Step::Read(at),
+        Step::Write(at, 0x00FF),
+        Step::Read(at),
+        Step::Read(at + 1),
+    ];
+    Some(
+        steps[begun..]
+            .iter()
+            .copied()
+            .map(library::number)
+            .collect(),
+    )
+}
+
 /// Plays the probes from some state words in one call.
 fn probe(pair: &mut Pair, words: &[u64], array: usize, whole: bool) -> Result<(), Difference> {
     let numbers = probes(pair.part());
+    probe_with(pair, &numbers, words, array, whole)
+}
+
+fn probe_with(
+    pair: &mut Pair,
+    numbers: &[u64],
+    words: &[u64],
+    array: usize,
+    whole: bool,
+) -> Result<(), Difference> {
     pair.begin_on_same_array(Start::Words(words.to_vec()))?;
     let mut call = pair.call(numbers.len(), array);
-    for number in numbers {
+    for &number in numbers {
         pair.add(&mut call, number);
     }
     pair.check(call, whole)
@@ -222,6 +275,14 @@ pub fn check_malformed(pair: &mut Pair) -> Result<usize, Failure> {
     })?;
     Ok(states.len())
 }
+
+/// The state words that say what the ones after them stand for.
+const KIND_WORDS: [usize; 4] = [
+    state::SETUP,
+    state::RUNNING,
+    state::SUSPENDED_PROGRAM,
+    state::SUSPENDED_ERASE,
+];
 
 fn malformed(part: Part) -> Vec<(String, Words)> {
     let size = |block: u32| part.block(block).expect("a block of the part").size;
@@ -335,8 +396,11 @@ fn malformed(part: Part) -> Vec<(String, Words)> {
         for bank in 0..16 {
             word("mode", state::MODES + bank, value);
         }
-        word("set-up", state::SETUP, value);
         word("running", state::RUNNING, value);
+    }
+    // A load or buffer program of no words is one of a device, if not well formed.
+    for value in [5, 6, 7, 8, 1 << 8, 1 << 16, 1 << 32, u64::MAX] {
+        word("set-up", state::SETUP, value);
     }
     word("running", state::RUNNING, 3);
     for value in [2, 3, 1 << 8, 1 << 32, u64::MAX] {
@@ -348,13 +412,8 @@ fn malformed(part: Part) -> Vec<(String, Words)> {
         word("supply", state::SUPPLY, value);
     }
     for value in [1, 4, 1 << 32, u64::MAX] {
-        for first in [
-            state::RUNNING,
-            state::SUSPENDED_PROGRAM,
-            state::SUSPENDED_ERASE,
-        ] {
-            word("unused place", first + 1, value);
-            word("unused place", first + 2, value);
+        for place in (state::SETUP..state::FLAGS).filter(|place| !KIND_WORDS.contains(place)) {
+            word("unused place", place, value);
         }
     }
     for value in [1 << 16, 1 << 32, u64::MAX] {
@@ -396,6 +455,7 @@ fn malformed(part: Part) -> Vec<(String, Words)> {
     for bit in [16, 32, 63] {
         long("running program's data", &device, state::RUNNING + 2, bit);
     }
+    long("unused place", &device, state::RUNNING + 3, 0);
     let mut device = base.clone();
     device.suspended_program = Some(program);
     for bit in [32, 63] {
@@ -406,13 +466,96 @@ fn malformed(part: Part) -> Vec<(String, Words)> {
         let place = state::SUSPENDED_PROGRAM + 2;
         long("suspended program's data", &device, place, bit);
     }
+    long("unused place", &device, state::SUSPENDED_PROGRAM + 3, 0);
     let mut device = base.clone();
     device.running = Some(Operation::Erase(erase));
     for bit in [32, 63] {
         long("running erase's block", &device, state::RUNNING + 1, bit);
         long("running erase's count", &device, state::RUNNING + 2, bit);
     }
+    long("unused place", &device, state::RUNNING + 3, 0);
+    states.extend(malformed_buffer_words(&base));
+    states.extend(broken_clauses(part));
     states
+}
+
+/// What the rule of well-formed states says of the write buffer, broken clause
+/// by clause.
+fn broken_clauses(part: Part) -> Vec<(String, Words)> {
+    let mut states = Vec::new();
+    let seeds = BROKEN[usize::from(part.unit() == 64)];
+    for (clause, name) in CLAUSES.iter().enumerate() {
+        for seed in 0..seeds {
+            let device = Author::new(part, seed).broken(clause);
+            states.push((format!("{name}, seed {seed}"), state::encode(&device)));
+        }
+    }
+    states
+}
+
+/// Words of no device where there is a load or a buffer program: numbers too
+/// long for their place, but right if they were cut short, and unused places that
+/// are not 0.
+fn malformed_buffer_words(base: &Device) -> Vec<(String, Words)> {
+    let mut states = Vec::new();
+    for (shape, device) in buffer_shapes(base).iter().enumerate() {
+        let original = state::encode(device);
+        for kind in KIND_WORDS.into_iter().filter(|&kind| original[kind] != 0) {
+            for place in kind..kind + 4 {
+                for bit in [32, 63] {
+                    let mut words = original;
+                    words[place] |= 1 << bit;
+                    let name = format!("buffer shape {shape}, word {place} with bit {bit}");
+                    states.push((name, words));
+                }
+            }
+        }
+        for place in (state::SETUP..state::RUNNING).skip(match device.setup {
+            Some(Setup::LoadCount { .. }) => 2,
+            Some(Setup::LoadFirst { .. }) => 3,
+            _ => 4,
+        }) {
+            let mut words = original;
+            words[place] = 1;
+            states.push((format!("buffer shape {shape}, word {place} is 1"), words));
+        }
+    }
+    states
+}
+
+/// Where the loads and buffer programs of `buffer_shapes` begin.
+fn buffer_start(part: Part) -> u32 {
+    part.block(100).expect("a block of the part").start + 7
+}
+
+/// One of each shape of a load or buffer program, of two words; all else as in a
+/// device in which nothing is pending, running or suspended but an erase.
+fn buffer_shapes(base: &Device) -> Vec<Device> {
+    let (block, start, words) = (100, buffer_start(base.part), 2);
+    let next = |due| Setup::LoadNext { start, words, due };
+    let mut shapes = Vec::new();
+    let first = Setup::LoadFirst { block, words };
+    for load in [Setup::LoadCount { block }, first, next(1), next(0)] {
+        let mut device = base.clone();
+        device.setup = Some(load);
+        if matches!(load, Setup::LoadNext { .. }) {
+            device.buffer[..2].copy_from_slice(&[0x0FF0, 0xFFFF]);
+        }
+        shapes.push(device);
+    }
+    let done = 1;
+    let program = Program::Buffer { start, words, done };
+    let mut device = base.clone();
+    device.buffer[..2].copy_from_slice(&[0x0FF0, 0x1248]);
+    shapes.push(Device {
+        running: Some(Operation::Program(program)),
+        ..device.clone()
+    });
+    shapes.push(Device {
+        suspended_program: Some(program),
+        ..device
+    });
+    shapes
 }
 
 /// States to change words of: one of each shape that a device can have.
@@ -470,39 +613,32 @@ fn shapes(part: Part) -> Vec<Device> {
             ..busy.clone()
         });
     }
+    shapes.extend(buffer_shapes(&busy));
+    busy.suspended_erase = erase;
+    shapes.extend(buffer_shapes(&busy));
     shapes
 }
 
-/// Every word of the 38 changed alone to many values. Where the changed words
+/// Every word of the 51 changed alone to many values. Where the changed words
 /// are of a device, the second model says what is due; elsewhere every step is
 /// refused and nothing changes. Gives the number of changed states.
 pub fn check_each_word(pair: &mut Pair) -> Result<u64, Failure> {
     let part = pair.part();
     let length = part.array_length();
-    let words = length as u64;
-    let unit = u64::from(part.unit());
-    let block = part.block(99).expect("a block of the part");
-    let (start, size) = (u64::from(block.start), u64::from(block.size));
     let mut changed = 0;
     for (shape, device) in shapes(part).into_iter().enumerate() {
         let original = state::encode(&device);
+        let rest = rest_of_load(&device);
         for place in 0..STATE_WORDS {
-            let old = original[place];
-            let mut values: Vec<u64> = (0..64).map(|bit| old ^ 1 << bit).collect();
-            values.extend(0..8);
-            values.extend([old.wrapping_add(1), old.wrapping_sub(1), !old, u64::MAX]);
-            values.extend([unit / 4 - 1, unit / 4, unit - 1, unit, 15, 16, 17]);
-            values.extend([size - 1, size, start, start + size - 1, start + size]);
-            values.extend([98, 99, 100, 257, 258, 259, 0xFFFF, 0x1_0000]);
-            values.extend([words - 1, words, words + 1, 1 << 24, u64::from(u32::MAX)]);
-            values.sort_unstable();
-            values.dedup();
-            values.retain(|&value| value != old);
-            for value in values {
+            for value in values(part, original[place]) {
                 let mut damaged = original;
                 damaged[place] = value;
                 let whole = !pair.is_full();
-                probe(pair, &damaged, length, whole).map_err(|difference| Failure {
+                let mut tried = probe(pair, &damaged, length, whole);
+                if let (Ok(()), Some(rest)) = (&tried, &rest) {
+                    tried = probe_with(pair, rest, &damaged, length, whole);
+                }
+                tried.map_err(|difference| Failure {
                     check: format!(
                         "shape {shape} of part {}, word {place} changed to {value:X}h",
                         part.number()
@@ -521,7 +657,27 @@ pub fn check_each_word(pair: &mut Pair) -> Result<u64, Failure> {
     Ok(changed)
 }
 
-/// State words of other counts than 38: every step is refused.
+/// Many values for a state word, all but the one it has.
+fn values(part: Part, old: u64) -> Vec<u64> {
+    let words = part.array_length() as u64;
+    let unit = u64::from(part.unit());
+    let block = part.block(99).expect("a block of the part");
+    let (start, size) = (u64::from(block.start), u64::from(block.size));
+    let mut values: Vec<u64> = (0..64).map(|bit| old ^ 1 << bit).collect();
+    values.extend(0..8);
+    values.extend([old.wrapping_add(1), old.wrapping_sub(1), !old, u64::MAX]);
+    values.extend([unit / 4 - 1, unit / 4, unit - 1, unit, 15, 16, 17]);
+    values.extend([31, 32, 33, 0xFFFF_0000, 0xFFFF << 32, 0xFFFF << 48]);
+    values.extend([size - 1, size, start, start + size - 1, start + size]);
+    values.extend([98, 99, 100, 257, 258, 259, 0xFFFF, 0x1_0000]);
+    values.extend([words - 1, words, words + 1, 1 << 24, u64::from(u32::MAX)]);
+    values.sort_unstable();
+    values.dedup();
+    values.retain(|&value| value != old);
+    values
+}
+
+/// State words of other counts than 51: every step is refused.
 pub fn check_state_counts(pair: &mut Pair) -> Checked {
     let part = pair.part();
     for count in [0, 1, 17, STATE_WORDS - 1, STATE_WORDS + 1, 2 * STATE_WORDS] {

@@ -8,6 +8,7 @@
 
 mod author;
 mod checks;
+mod kinds;
 mod library;
 mod lists;
 mod outcome;
@@ -20,6 +21,7 @@ mod second {
 }
 mod state;
 
+use kinds::Reached;
 use pair::{Counts, Difference, Pair, Start};
 use second::model::Part;
 use second::steps::Step;
@@ -76,6 +78,7 @@ fn fresh_seed() -> u64 {
 
 fn quick() -> Result<String, String> {
     let mut counts = fixed_checks()?;
+    counts.reached = Reached::default(); // the lists have to reach all by themselves
     for part in Part::ALL {
         let mut pair = Pair::new(part);
         // Other seeds for each part, so that no two parts get the same lists.
@@ -85,6 +88,14 @@ fn quick() -> Result<String, String> {
         }
         println!("{}: {}", name(part), pair.counts.text());
         counts = counts.plus(pair.counts);
+    }
+    print!("{}", counts.reached.table());
+    let missing = counts.reached.missing();
+    if !missing.is_empty() {
+        return Err(format!(
+            "compare quick: never reached: {}",
+            missing.join("; ")
+        ));
     }
     Ok(format!("compare quick: all equal: {}", counts.text()))
 }
@@ -144,8 +155,12 @@ fn soak(seconds: u64, seed: u64) -> Result<String, String> {
             break;
         }
     }
-    let counts = total(&pairs).text();
-    Ok(format!("compare soak: seed {seed}: all equal: {counts}"))
+    let counts = total(&pairs);
+    print!("{}", counts.reached.table());
+    Ok(format!(
+        "compare soak: seed {seed}: all equal: {}",
+        counts.text()
+    ))
 }
 
 fn replay(part: Part, seed: u64) -> Result<String, String> {

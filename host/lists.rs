@@ -1,6 +1,7 @@
 //! Random lists. A list is made by its part and its seed alone: the state and
 //! array it begins with, its steps, and the calls it is played in.
 
+use crate::author::states::CLAUSES;
 use crate::author::{Author, Dice};
 use crate::library::STATE_WORDS;
 use crate::pair::{Difference, Fate, Pair, Start};
@@ -14,9 +15,14 @@ pub fn play(pair: &mut Pair, seed: u64) -> Result<(), Difference> {
     let mut dice = Dice::new(seed);
     let mut author = Author::new(part, dice.next());
     // Most lists begin at power-up, since only those have a journal.
-    let start = match dice.below(10) {
-        0..=5 => Start::PowerUp,
-        6..=8 => Start::Words(state::encode(&author.device()).to_vec()),
+    let start = match dice.below(20) {
+        0..=11 => Start::PowerUp,
+        12..=16 => Start::Words(state::encode(&author.device()).to_vec()),
+        17 => {
+            let clause = dice.index(CLAUSES.len());
+            pair.counts.reached.add_clause(clause);
+            Start::Words(state::encode(&author.broken(clause)).to_vec())
+        }
         _ => Start::Words(damaged(&mut dice, state::encode(&author.device()))),
     };
     let mut left = length(&mut dice, pair.is_full());

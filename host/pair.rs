@@ -3,6 +3,7 @@
 //! everything that the call could have changed is compared.
 
 use crate::author::Dice;
+use crate::kinds::{self, Glance, Reached, Watch};
 use crate::library;
 use crate::second::journal::Recorder;
 use crate::second::model::{Device, Operation, Part};
@@ -49,6 +50,7 @@ pub struct Counts {
     pub refused: [u64; 8],
     pub words: u64,
     pub journals: u64,
+    pub reached: Reached,
 }
 
 impl Counts {
@@ -73,6 +75,7 @@ impl Counts {
             refused,
             words: self.words + other.words,
             journals: self.journals + other.journals,
+            reached: self.reached.plus(other.reached),
         }
     }
 
@@ -159,6 +162,7 @@ pub struct Pair {
     /// Each number so far that was played or stopped a call, and the words of
     /// the array that the library was told of.
     history: Vec<(u64, usize)>,
+    watch: Watch,
     pub counts: Counts,
 }
 
@@ -178,6 +182,7 @@ impl Pair {
             model_array: Borrowed::new(words, margin),
             recorder: None,
             history: Vec::new(),
+            watch: Watch::default(),
             counts: Counts::default(),
         }
     }
@@ -207,6 +212,11 @@ impl Pair {
     pub fn begin(&mut self, start: Start, array_seed: u64) -> Result<(), Difference> {
         self.array_seed = array_seed;
         fill(&mut self.start_array, array_seed);
+        if let Start::Words(words) = &start {
+            if let Some(device) = state::decode(words) {
+                kinds::note_state(&mut self.counts.reached, &device);
+            }
+        }
         let words = self.start_array.len();
         self.model_array
             .first(words)
@@ -227,6 +237,7 @@ impl Pair {
 
     fn begin_again(&mut self, start: Start) -> Result<(), Difference> {
         self.history.clear();
+        self.watch = Watch::default();
         self.start = start;
         match &self.start {
             Start::PowerUp => {
@@ -282,6 +293,8 @@ impl Pair {
                 if answer.refusal == 0 {
                     self.counts.note(step, before, Glance::at(device));
                 }
+                let reached = &mut self.counts.reached;
+                self.watch.step(reached, &before, step, answer, device);
                 library::answer(answer)
             }
         };
@@ -518,39 +531,21 @@ impl Pair {
     }
 }
 
-/// What of a device the counts look at.
-#[derive(Clone, Copy)]
-struct Glance {
-    setup: bool,
-    running: Option<Operation>,
-    program_suspended: bool,
-    erase_suspended: bool,
-}
-
-impl Glance {
-    fn at(device: &Device) -> Glance {
-        Glance {
-            setup: device.setup.is_some(),
-            running: device.running,
-            program_suspended: device.suspended_program.is_some(),
-            erase_suspended: device.suspended_erase.is_some(),
-        }
-    }
-}
-
 impl Counts {
     /// Counts what an accepted step did.
     fn note(&mut self, step: Step, before: Glance, after: Glance) {
         match (step, before.running, after.running) {
             (Step::Reset, running, _) => {
-                let cut = running.is_some() || before.program_suspended || before.erase_suspended;
+                let cut = running.is_some()
+                    || before.suspended_program.is_some()
+                    || before.suspended_erase.is_some();
                 self.resets += 1;
                 self.cuts += u64::from(cut);
             }
-            (Step::Write(..), None, Some(_)) if !before.setup => self.resumes += 1,
+            (Step::Write(..), None, Some(_)) if before.setup.is_none() => self.resumes += 1,
             (Step::Write(..), None, Some(Operation::Program(_))) => {
                 self.programs += 1;
-                self.nested += u64::from(after.erase_suspended);
+                self.nested += u64::from(after.suspended_erase.is_some());
             }
             (Step::Write(..), None, Some(Operation::Erase(_))) => self.erases += 1,
             (Step::Write(..), Some(_), None) => self.suspends += 1,

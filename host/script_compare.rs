@@ -294,7 +294,7 @@ fn random_script(r: &mut Random, damage: bool) -> Vec<u8> {
         } else {
             *r.pick(PLACES)
         };
-        match r.below(20) {
+        match r.below(22) {
             0..=4 => text.push_str(&format!("R {address:06X}\n")),
             5..=8 => {
                 // both cycles of a command to one place
@@ -331,6 +331,7 @@ fn random_script(r: &mut Random, damage: bool) -> Vec<u8> {
                 text.push_str(&format!("K {n}\n"));
             }
             18 => text.push_str(if r.below(3) == 0 { "V 0\n" } else { "V 1\n" }),
+            19..=20 => text.push_str(&random_load(r, address)),
             _ => text.push_str(if r.below(3) == 0 { "Z\n" } else { "R 000040\n" }),
         }
     }
@@ -358,6 +359,23 @@ fn random_script(r: &mut Random, damage: bool) -> Vec<u8> {
         bytes.pop();
     }
     bytes
+}
+
+/// A load of the write buffer: most often right, if its words fit their block.
+fn random_load(r: &mut Random, address: u32) -> String {
+    let words = 1 + r.below(5) as u32;
+    let mut text = format!("W {address:06X} 00E8\nW {address:06X} {:04X}\n", words - 1);
+    for place in 0..words {
+        let further = if place == 0 {
+            0
+        } else {
+            r.below(u64::from(words)) as u32
+        };
+        let location = (address + further) & 0xFF_FFFF;
+        text += &format!("W {location:06X} {:04X}\n", r.below(65536));
+    }
+    let confirm = if r.below(6) == 0 { 0xFF } else { 0xD0 };
+    text + &format!("W {address:06X} {confirm:04X}\n")
 }
 
 fn examples(compare: &mut Compare, folder: &str) -> u64 {

@@ -108,17 +108,6 @@ fn program_words(buffer: u32, program: Program) -> [u32; 4] {
 /// nothing or is too long for its place, or an unused place that is not 0.
 pub fn decode(words: &[u64]) -> Option<Device> {
     let words: &Words = words.try_into().ok()?;
-    let mut unprotected = [false; BLOCKS];
-    for (block, unprotected) in unprotected.iter_mut().enumerate() {
-        *unprotected = words[PROTECTION + block / 64] >> (block % 64) & 1 == 1;
-    }
-    if words[CONFIGURATION - 1] >> (BLOCKS % 64) != 0 {
-        return None;
-    }
-    let mut buffer = [0; BUFFER_WORDS];
-    for (place, word) in buffer.iter_mut().enumerate() {
-        *word = (words[BUFFER + place / 4] >> (16 * (place % 4))) as u16;
-    }
     Some(Device {
         part: Part::from_number(u32::try_from(words[PART]).ok()?)?,
         modes: modes(&words[MODES..SETUP])?,
@@ -145,10 +134,10 @@ pub fn decode(words: &[u64]) -> Option<Device> {
             sr3: flag(words[FLAGS + 2])?,
             sr1: flag(words[FLAGS + 3])?,
         },
-        unprotected,
+        unprotected: unprotected(&words[PROTECTION..CONFIGURATION])?,
         configuration: u16::try_from(words[CONFIGURATION]).ok()?,
         supply: flag(words[SUPPLY])?,
-        buffer,
+        buffer: buffer(&words[BUFFER..]),
     })
 }
 
@@ -214,6 +203,23 @@ fn erase(block: u64, done: u64) -> Option<Erase> {
     })
 }
 
+/// None where a bit is set for a block that there is not.
+fn unprotected(words: &[u64]) -> Option<[bool; BLOCKS]> {
+    let mut unprotected = [false; BLOCKS];
+    for (block, unprotected) in unprotected.iter_mut().enumerate() {
+        *unprotected = words[block / 64] >> (block % 64) & 1 == 1;
+    }
+    (words[BLOCKS / 64] >> (BLOCKS % 64) == 0).then_some(unprotected)
+}
+
+fn buffer(words: &[u64]) -> [u16; BUFFER_WORDS] {
+    let mut buffer = [0; BUFFER_WORDS];
+    for (place, word) in buffer.iter_mut().enumerate() {
+        *word = (words[place / 4] >> (16 * (place % 4))) as u16;
+    }
+    buffer
+}
+
 fn flag(word: u64) -> Option<bool> {
     match word {
         0 => Some(false),
@@ -222,52 +228,41 @@ fn flag(word: u64) -> Option<bool> {
     }
 }
 
+/// The names of the words from `SETUP` to `PROTECTION`.
+const NAMES: [&str; PROTECTION - SETUP] = [
+    "set-up",
+    "load's block or start",
+    "load's words",
+    "load's data cycles due",
+    "running",
+    "running block, location or start",
+    "running program's data or words, erase's words done",
+    "running buffer program's words done",
+    "suspended program",
+    "suspended program's location or start",
+    "suspended program's data or words",
+    "suspended buffer program's words done",
+    "suspended erase",
+    "suspended erase's block",
+    "suspended erase's words done",
+    "SR5",
+    "SR4",
+    "SR3",
+    "SR1",
+];
+
 /// What a state word holds, for messages.
 pub fn name(word: usize) -> String {
-    let at = |first: usize, names: &[&str]| names[word - first].to_string();
     match word {
         PART => "part".to_string(),
-        1..=16 => format!("mode of bank {}", word - MODES),
-        17..=20 => at(
-            SETUP,
-            &[
-                "set-up",
-                "load's place",
-                "load's words",
-                "load's cycles due",
-            ],
-        ),
-        21..=24 => at(
-            RUNNING,
-            &[
-                "running kind",
-                "running place",
-                "running count",
-                "running words done",
-            ],
-        ),
-        25..=28 => at(
-            SUSPENDED_PROGRAM,
-            &[
-                "suspended program",
-                "suspended program's location",
-                "suspended program's data or words",
-                "suspended program's words done",
-            ],
-        ),
-        29..=31 => at(
-            SUSPENDED_ERASE,
-            &[
-                "suspended erase",
-                "suspended erase's block",
-                "suspended erase's words done",
-            ],
-        ),
-        32..=35 => at(FLAGS, &["SR5", "SR4", "SR3", "SR1"]),
-        36..=40 => format!("unprotected blocks from {}", 64 * (word - PROTECTION)),
+        MODES..SETUP => format!("mode of bank {}", word - MODES),
+        SETUP..PROTECTION => NAMES[word - SETUP].to_string(),
+        PROTECTION..CONFIGURATION => {
+            format!("unprotected blocks from {}", 64 * (word - PROTECTION))
+        }
         CONFIGURATION => "configuration register".to_string(),
         SUPPLY => "supply".to_string(),
-        43..=50 => format!("buffer from place {}", 4 * (word - BUFFER)),
+        BUFFER..STATE_WORDS => format!("buffer from place {}", 4 * (word - BUFFER)),
         _ => "past the state".to_string(),
     }
 }

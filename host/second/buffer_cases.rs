@@ -73,10 +73,7 @@ impl Bench {
     }
 
     fn loading(&self) -> bool {
-        !matches!(
-            self.device.setup,
-            None | Some(Setup::Program | Setup::Erase | Setup::Lock)
-        )
+        self.device.setup.is_some_and(Setup::is_load)
     }
 }
 
@@ -129,50 +126,45 @@ fn worked_examples() {
     );
 }
 
-/// "E8h is taken when 40h is, whatever the flags". What is not taken changes
-/// nothing.
-fn taken_when_a_program_is() {
+/// A bench in each of the states that decide whether a program set-up is taken.
+fn busy_and_idle() -> Vec<Bench> {
     let idle = Bench::ready(&[4, 5]);
-    let erase_suspended = idle.after(0x40, 0x20).after(0x40, 0xD0).after(0x40, 0xB0);
+    let erase = idle.after(0x40, 0x20).after(0x40, 0xD0);
+    let erase_suspended = erase.after(0x40, 0xB0);
     let program = idle.after(0x80, 0x40).after(0x80, 0x1234);
-    let erase = idle.after(0x80, 0x20).after(0x80, 0xD0);
     let mut buffer_program = idle.clone();
     buffer_program.load_and_confirm(0x80, &[1, 2]);
     let mut nested = erase_suspended.clone();
     nested.load_and_confirm(0x80, &[1, 2]);
-    let mut benches = [&program, &buffer_program, &nested]
-        .map(|b| b.after(0, 0xB0))
-        .to_vec();
-    benches.extend([
-        idle,
-        erase_suspended,
-        program,
-        erase,
-        buffer_program,
-        nested,
-    ]);
+    let programs = [program, buffer_program, nested];
+    let suspended = programs.each_ref().map(|bench| bench.after(0, 0xB0));
+    let rest = [idle, erase, erase_suspended];
+    [programs, suspended, rest].into_iter().flatten().collect()
+}
 
+/// "E8h is taken when 40h is, whatever the flags". What is not taken changes
+/// nothing.
+fn taken_when_a_program_is() {
     let mut taken = 0;
-    for bench in benches {
+    for mut bench in busy_and_idle() {
+        bench.write(0x400, &[0x90]);
         for bits in 0..16 {
-            let mut bench = bench.after(0x400, 0x90);
             bench.device.flags = Flags {
                 sr5: bits & 8 != 0,
                 sr4: bits & 4 != 0,
                 sr3: bits & 2 != 0,
                 sr1: bits & 1 != 0,
             };
-            let due = bench.after(0x410, 0x40).device.setup == Some(Setup::Program);
-            let after = bench.after(0x410, 0x12E8).device;
-            if due {
-                bench.device.setup = Some(Setup::LoadCount { block: 19 });
-                bench.device.modes[1] = Mode::Status;
+            let mut expected = bench.device.clone();
+            if bench.after(0x410, 0x40).device.setup == Some(Setup::Program) {
+                expected.setup = Some(Setup::LoadCount { block: 19 });
+                expected.modes[1] = Mode::Status;
                 taken += 1;
             }
-            assert_eq!(after, bench.device);
+            assert_eq!(bench.after(0x410, 0x12E8).device, expected);
         }
     }
-    assert_eq!(taken, 2 * 16);
+    assert_eq!(taken, 2 * 16); // idle, and beside a suspended erase
 }
 
 /// Each cycle puts the bank of its own address in status mode, a wrong one too.

@@ -43,6 +43,12 @@ pub enum Setup {
     },
 }
 
+impl Setup {
+    pub fn is_load(self) -> bool {
+        !matches!(self, Setup::Program | Setup::Erase | Setup::Lock)
+    }
+}
+
 #[derive(Clone, Copy, Debug, PartialEq, Eq)]
 pub enum Program {
     /// A program carries "its location and data".

@@ -692,7 +692,7 @@ fn check_list(random: &mut Random, part: u32, longest: u32, tally: &mut Tally) {
             tally.both_suspended += 1;
         }
         let lost = device.setup.is_none() && device.running.is_none();
-        if is_load(before.setup) && lost {
+        if before.setup.is_some_and(Setup::is_load) && lost {
             tally.lost_loads += 1;
         }
         tally.steps += 1;
@@ -720,13 +720,6 @@ fn done(operation: Operation) -> u32 {
         Operation::Program(Program::Buffer { done, .. }) => done,
         Operation::Erase(erase) => erase.done,
     }
-}
-
-fn is_load(setup: Option<Setup>) -> bool {
-    !matches!(
-        setup,
-        None | Some(Setup::Program | Setup::Erase | Setup::Lock)
-    )
 }
 
 /// A list that stays among a few blocks, mostly with whole commands, so that

@@ -1,0 +1,444 @@
+//! What the lists reach of the write buffer: each kind of step and of state is
+//! counted, by the second model's device before and after the step.
+
+use crate::author::states::CLAUSES;
+use crate::second::model::{Answer, Device, Erase, Flags, Mode, Operation, Program, Setup};
+use crate::second::steps::Step;
+
+/// The kinds, each with its text.
+macro_rules! kinds {
+    ($($kind:ident, $text:literal;)*) => {
+        #[derive(Clone, Copy)]
+        pub enum Kind {
+            $($kind,)*
+        }
+
+        const NAMES: &[&str] = &[$($text,)*];
+    };
+}
+
+kinds! {
+    Taken, "E8h taken";
+    TakenWithFlags, "E8h taken with SR5 and SR4 set";
+    TakenBesideErase, "E8h taken beside a suspended erase";
+    NotTakenBusy, "E8h not taken, something running";
+    NotTakenSuspended, "E8h not taken, a program suspended";
+
+    CountOutside, "count in another block";
+    CountAbove, "count above 31";
+    CountUpperByte, "count above 31 by its upper byte alone";
+    FirstOutside, "first word in another block";
+    FirstLeaves, "first word from which so many leave the block";
+    LaterBelow, "later word below the start";
+    LaterAbove, "later word above the last";
+    LaterOutside, "later word in another block";
+    ConfirmOther, "confirm not D0h";
+    ConfirmOutside, "confirm in another block";
+    WrongOtherBank, "wrong cycle in another bank";
+
+    RefusedSupply, "refused at D0h, supply off";
+    RefusedProtection, "refused at D0h, protected";
+    RefusedErase, "refused at D0h, block of the suspended erase";
+
+    ConfirmedOne, "confirmed, 1 word";
+    ConfirmedShort, "confirmed, 2 to 16 words";
+    ConfirmedLong, "confirmed, 17 to 31 words";
+    ConfirmedMost, "confirmed, 32 words";
+    ConfirmedAll, "confirmed, each word given once, upward";
+    ConfirmedOrder, "confirmed, not upward";
+    ConfirmedRepeated, "confirmed, a word given twice";
+    ConfirmedMissing, "confirmed, a word given none";
+    ConfirmedAtEnd, "confirmed, to the end of its block";
+    ConfirmedUpperByte, "confirmed, D0h with an upper byte";
+    ConfirmedNested, "confirmed beside a suspended erase";
+
+    Suspended, "buffer program suspended";
+    SuspendedNested, "buffer program suspended beside a suspended erase";
+    Resumed, "buffer program resumed";
+    Ignored, "write ignored while a buffer program runs";
+    WorkedPart, "part of a buffer program done";
+    Finished, "buffer program finished";
+    FinishedInParts, "buffer program finished in several steps";
+    FinishedNested, "buffer program finished beside a suspended erase";
+    CutRunning, "running buffer program cut by a reset, some units done";
+    CutSuspended, "suspended buffer program cut by a reset, some units done";
+    ReadBusy, "array mode read in the bank of a buffer program";
+    ReadElsewhere, "status read in another bank than a buffer program's";
+
+    DroppedAtCount, "load dropped by a reset, count due";
+    DroppedAtFirst, "load dropped by a reset, first word due";
+    DroppedAtLater, "load dropped by a reset, later word due";
+    DroppedAtConfirm, "load dropped by a reset, D0h due";
+    LoadSupply, "supply step in a load";
+    LoadRefused, "refused write in a load";
+    LoadWork, "work in a load";
+    LoadWork0, "work of 0 in a load";
+    LoadRead, "read in a load";
+
+    GivenCount, "state with a load, count due";
+    GivenFirst, "state with a load, first word due";
+    GivenFirstLong, "state with a load longer than its block";
+    GivenLater, "state with a load, later word due";
+    GivenConfirm, "state with a load, D0h due";
+    GivenLoadNested, "state with a load in the block of the suspended erase";
+    GivenRunning, "state with a running buffer program";
+    GivenSuspended, "state with a suspended buffer program";
+    GivenNested, "state with a buffer program beside a suspended erase";
+}
+
+/// How often each kind was reached, and each clause of a well-formed state
+/// broken.
+#[derive(Clone, Copy)]
+pub struct Reached {
+    kinds: [u64; NAMES.len()],
+    clauses: [u64; CLAUSES.len()],
+}
+
+impl Default for Reached {
+    fn default() -> Reached {
+        Reached {
+            kinds: [0; NAMES.len()],
+            clauses: [0; CLAUSES.len()],
+        }
+    }
+}
+
+impl Reached {
+    fn add(&mut self, kind: Kind) {
+        self.kinds[kind as usize] += 1;
+    }
+
+    fn add_if(&mut self, condition: bool, kind: Kind) {
+        self.kinds[kind as usize] += u64::from(condition);
+    }
+
+    pub fn add_clause(&mut self, clause: usize) {
+        self.clauses[clause] += 1;
+    }
+
+    pub fn plus(mut self, other: Reached) -> Reached {
+        for (all, more) in self.kinds.iter_mut().zip(other.kinds) {
+            *all += more;
+        }
+        for (all, more) in self.clauses.iter_mut().zip(other.clauses) {
+            *all += more;
+        }
+        self
+    }
+
+    fn named(&self) -> impl Iterator<Item = (u64, String)> + '_ {
+        let kinds = self.kinds.iter().zip(NAMES);
+        let clauses = self.clauses.iter().zip(&CLAUSES);
+        kinds
+            .map(|(&count, name)| (count, name.to_string()))
+            .chain(clauses.map(|(&count, name)| (count, format!("malformed state: {name}"))))
+    }
+
+    /// A line for each kind.
+    pub fn table(&self) -> String {
+        self.named()
+            .map(|(count, name)| format!("{count:>9} {name}\n"))
+            .collect()
+    }
+
+    /// What was never reached.
+    pub fn missing(&self) -> Vec<String> {
+        self.named()
+            .filter_map(|(count, name)| (count == 0).then_some(name))
+            .collect()
+    }
+}
+
+/// What of a device is kept while a step is made.
+#[derive(Clone, Copy)]
+pub struct Glance {
+    pub setup: Option<Setup>,
+    pub running: Option<Operation>,
+    pub suspended_program: Option<Program>,
+    pub suspended_erase: Option<Erase>,
+    flags: Flags,
+}
+
+impl Glance {
+    pub fn at(device: &Device) -> Glance {
+        Glance {
+            setup: device.setup,
+            running: device.running,
+            suspended_program: device.suspended_program,
+            suspended_erase: device.suspended_erase,
+            flags: device.flags,
+        }
+    }
+
+    /// The load, if one is pending.
+    fn load(&self) -> Option<Setup> {
+        self.setup.filter(|setup| setup.is_load())
+    }
+
+    fn erase_suspended(&self) -> bool {
+        self.suspended_erase.is_some()
+    }
+}
+
+/// Watches the steps of a list; of a load it keeps which words were given, which
+/// the device does not tell.
+#[derive(Clone, Copy, Default)]
+pub struct Watch {
+    /// Of a load whose first word was seen: a bit for each word given.
+    given: Option<u32>,
+    last: u32,
+    upward: bool,
+    repeated: bool,
+}
+
+impl Watch {
+    /// Counts what a step came to.
+    pub fn step(
+        &mut self,
+        reached: &mut Reached,
+        before: &Glance,
+        step: Step,
+        answer: Answer,
+        after: &Device,
+    ) {
+        if answer.refusal != 0 {
+            let write = matches!(step, Step::Write(..));
+            reached.add_if(write && before.load().is_some(), Kind::LoadRefused);
+            return;
+        }
+        match (step, before.load()) {
+            (Step::Write(address, data), Some(load)) => {
+                let cycle = Cycle::new(after, address, data);
+                self.load_cycle(reached, before, load, cycle, after);
+            }
+            (Step::Write(_, data), None) => note_command(reached, before, data, after),
+            (Step::Work(count), None) => note_work(reached, before, count, after),
+            (Step::Work(count), Some(_)) => {
+                reached.add(Kind::LoadWork);
+                reached.add_if(count == 0, Kind::LoadWork0);
+            }
+            (Step::Read(_), Some(_)) => reached.add(Kind::LoadRead),
+            (Step::Read(address), None) => note_read(reached, before, address, after),
+            (Step::Supply(_), load) => reached.add_if(load.is_some(), Kind::LoadSupply),
+            (Step::Reset, load) => note_reset(reached, before, load),
+        }
+    }
+
+    fn load_cycle(
+        &mut self,
+        reached: &mut Reached,
+        before: &Glance,
+        load: Setup,
+        cycle: Cycle,
+        after: &Device,
+    ) {
+        if let Some(Operation::Program(Program::Buffer { start, words, .. })) = after.running {
+            self.confirmed(reached, words);
+            let block = after.part.block(cycle.block).expect("a block of the part");
+            let at_end = start + words == block.start + block.size;
+            reached.add_if(at_end, Kind::ConfirmedAtEnd);
+            reached.add_if(cycle.data > 0xFF, Kind::ConfirmedUpperByte);
+            reached.add_if(before.erase_suspended(), Kind::ConfirmedNested);
+        } else if let Some(setup) = after.setup {
+            self.given(load, setup, cycle.location);
+        } else {
+            note_end(reached, load, cycle, after);
+        }
+    }
+
+    /// Keeps which word a data cycle gave.
+    fn given(&mut self, load: Setup, next: Setup, location: u32) {
+        let Setup::LoadNext { start, .. } = next else {
+            return;
+        };
+        if matches!(load, Setup::LoadFirst { .. }) {
+            *self = Watch {
+                given: Some(1),
+                upward: true,
+                ..Watch::default()
+            };
+        } else if let Some(given) = self.given {
+            let place = location - start;
+            self.upward &= place > self.last;
+            self.repeated |= given >> place & 1 == 1;
+            self.given = Some(given | 1 << place);
+            self.last = place;
+        }
+    }
+
+    fn confirmed(&mut self, reached: &mut Reached, words: u32) {
+        reached.add(match words {
+            1 => Kind::ConfirmedOne,
+            2..=16 => Kind::ConfirmedShort,
+            17..=31 => Kind::ConfirmedLong,
+            _ => Kind::ConfirmedMost,
+        });
+        // Nothing is known where the load came with the state.
+        if let Some(given) = self.given.take() {
+            let missing = given.count_ones() < words;
+            reached.add_if(self.upward && !missing, Kind::ConfirmedAll);
+            reached.add_if(!self.upward, Kind::ConfirmedOrder);
+            reached.add_if(self.repeated, Kind::ConfirmedRepeated);
+            reached.add_if(missing, Kind::ConfirmedMissing);
+        }
+    }
+}
+
+/// An accepted write, by where it goes.
+#[derive(Clone, Copy)]
+struct Cycle {
+    location: u32,
+    block: u32,
+    bank: u32,
+    data: u16,
+}
+
+impl Cycle {
+    fn new(device: &Device, address: u32, data: u16) -> Cycle {
+        let location = device.part.location(address);
+        let place = device.part.place(location).expect("an accepted address");
+        Cycle {
+            location,
+            block: place.block,
+            bank: place.bank,
+            data,
+        }
+    }
+}
+
+/// The block of a load.
+fn block_of(device: &Device, load: Setup) -> Option<u32> {
+    match load {
+        Setup::LoadCount { block } | Setup::LoadFirst { block, .. } => Some(block),
+        Setup::LoadNext { start, .. } => Some(device.part.place(start)?.block),
+        Setup::Program | Setup::Erase | Setup::Lock => None,
+    }
+}
+
+/// A load that came to nothing: at a wrong cycle, or refused at D0h.
+fn note_end(reached: &mut Reached, load: Setup, cycle: Cycle, after: &Device) {
+    let number = block_of(after, load).expect("a load of the part");
+    let block = after.part.block(number).expect("a block of the part");
+    let outside = cycle.block != number;
+    let confirms = cycle.data % 256 == 0xD0;
+    reached.add_if(cycle.bank != block.bank, Kind::WrongOtherBank);
+    reached.add(match load {
+        Setup::LoadCount { .. } if outside => Kind::CountOutside,
+        Setup::LoadCount { .. } if cycle.data % 256 < 32 => Kind::CountUpperByte,
+        Setup::LoadCount { .. } => Kind::CountAbove,
+        Setup::LoadFirst { .. } if outside => Kind::FirstOutside,
+        Setup::LoadFirst { .. } => Kind::FirstLeaves,
+        Setup::LoadNext { due: 0, .. } if !confirms => Kind::ConfirmOther,
+        Setup::LoadNext { due: 0, .. } if outside => Kind::ConfirmOutside,
+        Setup::LoadNext { due: 0, .. } if !after.supply => Kind::RefusedSupply,
+        Setup::LoadNext { due: 0, .. } if !after.unprotected[number as usize] => {
+            Kind::RefusedProtection
+        }
+        Setup::LoadNext { due: 0, .. } => Kind::RefusedErase,
+        Setup::LoadNext { .. } if outside => Kind::LaterOutside,
+        Setup::LoadNext { start, .. } if cycle.location < start => Kind::LaterBelow,
+        _ => Kind::LaterAbove,
+    });
+}
+
+/// A write with no load pending.
+fn note_command(reached: &mut Reached, before: &Glance, data: u16, after: &Device) {
+    let buffer = |operation| matches!(operation, Some(Operation::Program(Program::Buffer { .. })));
+    let nested = before.erase_suspended();
+    if before.setup.is_some() {
+        return;
+    }
+    match (buffer(before.running), buffer(after.running)) {
+        (true, false) => {
+            reached.add(Kind::Suspended);
+            reached.add_if(nested, Kind::SuspendedNested);
+        }
+        (false, true) => reached.add(Kind::Resumed),
+        (true, true) => {
+            let mode = [0xFF, 0x70, 0x90, 0x98].contains(&(data % 256));
+            reached.add_if(!mode, Kind::Ignored);
+        }
+        (false, false) => {}
+    }
+    if data % 256 == 0xE8 {
+        let taken = after.setup.is_some();
+        let both = before.flags.sr5 && before.flags.sr4;
+        reached.add_if(taken, Kind::Taken);
+        reached.add_if(taken && both, Kind::TakenWithFlags);
+        reached.add_if(taken && nested, Kind::TakenBesideErase);
+        reached.add_if(before.running.is_some(), Kind::NotTakenBusy);
+        reached.add_if(before.suspended_program.is_some(), Kind::NotTakenSuspended);
+    }
+}
+
+fn note_work(reached: &mut Reached, before: &Glance, count: u32, after: &Device) {
+    let Some(Operation::Program(Program::Buffer { done, .. })) = before.running else {
+        return;
+    };
+    if after.running.is_some() {
+        reached.add_if(count > 0, Kind::WorkedPart);
+    } else {
+        reached.add(Kind::Finished);
+        reached.add_if(done > 0, Kind::FinishedInParts);
+        reached.add_if(before.erase_suspended(), Kind::FinishedNested);
+    }
+}
+
+fn note_read(reached: &mut Reached, before: &Glance, address: u32, after: &Device) {
+    let Some(Operation::Program(program @ Program::Buffer { .. })) = before.running else {
+        return;
+    };
+    let Cycle { bank, .. } = Cycle::new(after, address, 0);
+    let busy = Cycle::new(after, program.start(), 0).bank;
+    let mode = after.modes[bank as usize];
+    reached.add_if(bank == busy && mode == Mode::Array, Kind::ReadBusy);
+    reached.add_if(bank != busy && mode == Mode::Status, Kind::ReadElsewhere);
+}
+
+fn note_reset(reached: &mut Reached, before: &Glance, load: Option<Setup>) {
+    let some_done = |program| matches!(program, Program::Buffer { done: 1.., .. });
+    match load {
+        Some(Setup::LoadCount { .. }) => reached.add(Kind::DroppedAtCount),
+        Some(Setup::LoadFirst { .. }) => reached.add(Kind::DroppedAtFirst),
+        Some(Setup::LoadNext { due: 0, .. }) => reached.add(Kind::DroppedAtConfirm),
+        Some(_) => reached.add(Kind::DroppedAtLater),
+        None => {}
+    }
+    if let Some(Operation::Program(program)) = before.running {
+        reached.add_if(some_done(program), Kind::CutRunning);
+    }
+    if let Some(program) = before.suspended_program {
+        reached.add_if(some_done(program), Kind::CutSuspended);
+    }
+}
+
+/// Counts what a list begins with.
+pub fn note_state(reached: &mut Reached, device: &Device) {
+    if !device.well_formed() {
+        return;
+    }
+    let erased = device.suspended_erase.map(|erase| erase.block);
+    if let Some(load) = Glance::at(device).load() {
+        reached.add(match load {
+            Setup::LoadCount { .. } => Kind::GivenCount,
+            Setup::LoadFirst { .. } => Kind::GivenFirst,
+            Setup::LoadNext { due: 0, .. } => Kind::GivenConfirm,
+            _ => Kind::GivenLater,
+        });
+        let number = block_of(device, load);
+        reached.add_if(erased.is_some() && number == erased, Kind::GivenLoadNested);
+        if let Setup::LoadFirst { block, words } = load {
+            let size = device.part.block(block).map_or(0, |block| block.size);
+            reached.add_if(words > size, Kind::GivenFirstLong);
+        }
+    }
+    let running = matches!(
+        device.running,
+        Some(Operation::Program(Program::Buffer { .. }))
+    );
+    let suspended = matches!(device.suspended_program, Some(Program::Buffer { .. }));
+    reached.add_if(running, Kind::GivenRunning);
+    reached.add_if(suspended, Kind::GivenSuspended);
+    let nested = (running || suspended) && erased.is_some();
+    reached.add_if(nested, Kind::GivenNested);
+}
