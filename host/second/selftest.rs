@@ -814,18 +814,20 @@ fn random_load(random: &mut Random, part: Part, block: u32, list: &mut Vec<Step>
         1 => 32.min(size),
         _ => 1 + random.below(32.min(size)),
     };
-    let first = part.block(block).unwrap().start + random.below(size - words + 1);
+    let last = part.block(block).unwrap().start + size - words;
+    let first = match random.below(12) {
+        0 => last + 1, // leaves the block by one word
+        1 => last,
+        _ => last - random.below(size - words + 1),
+    };
     list.push(Step::Write(address_in(random, part, block), 0xE8));
     list.push(Step::Write(
         address_in(random, part, block),
         words as u16 - 1,
     ));
     for place in 0..words {
-        let offset = match random.below(4) {
-            _ if place == 0 => 0,
-            0 => random.below(words),
-            _ => place,
-        };
+        let again = place > 0 && random.one_in(4);
+        let offset = if again { random.below(words) } else { place };
         list.push(Step::Write(first + offset, random.word()));
         if random.one_in(8 * words) {
             let stray = random.pick(&[first + words, first.wrapping_sub(1), first + 1]);
