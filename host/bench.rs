@@ -1,7 +1,8 @@
 //! Measures the static library against the independent second model, the plain C
 //! model, another static library and, for erases, a plain fill of the same
-//! words. Prints ratios only, since times say more of the machine than of the
-//! library.
+//! words. Prints ratios, since times say more of the machine than of the library;
+//! of a block burned by loads of the buffer and word by word, also the steps and
+//! the words a second, which tell what the buffer saves.
 //!
 //!     bench [rounds]
 
@@ -40,6 +41,12 @@ const BLOCK: u32 = 100;
 /// Main blocks that are burned word by word.
 const BURNED: [u32; 4] = [4, 90, 180, 258];
 
+/// Words of a full load of the buffer.
+const BUFFER: u32 = 32;
+
+/// Steps of a full load: E8h, the count, the words, D0h and the work.
+const LOAD: usize = BUFFER as usize + 4;
+
 fn main() -> ExitCode {
     let rounds = match std::env::args().nth(1).map(|text| text.parse()) {
         None => ROUNDS,
@@ -77,6 +84,8 @@ struct Workload {
     calls: Vec<usize>,
     /// The words that the list leaves erased, where a fill does the same.
     fill: Option<Range<usize>>,
+    /// The words that the list burns, where words a second are printed.
+    burned: Option<u32>,
 }
 
 /// All steps in one call.
@@ -96,6 +105,8 @@ fn workloads() -> Vec<Workload> {
         list("word programs", programs(), &[ALL, 3, 1]),
         list("programs with a poll", polled_programs(), &[ALL, 4, 1]),
         list("burn of 4 main blocks", burn(), &[ALL]),
+        burned("burn by loads", burn_by_loads(BLOCK), &[ALL, LOAD]),
+        burned("burn by words", burn_by_words(BLOCK), &[ALL, 3]),
         list("mixed list", mixed(), &[ALL, 1]),
         list("erase by single units", slow_erase(), &[ALL]),
         Workload {
@@ -115,6 +126,15 @@ fn list(name: &'static str, steps: Vec<Step>, calls: &[usize]) -> Workload {
         steps,
         calls: calls.to_vec(),
         fill: None,
+        burned: None,
+    }
+}
+
+/// A list that burns a main block.
+fn burned(name: &'static str, steps: Vec<Step>, calls: &[usize]) -> Workload {
+    Workload {
+        burned: Some(PART.unit()),
+        ..list(name, steps, calls)
     }
 }
 
@@ -154,11 +174,21 @@ fn polled_programs() -> Vec<Step> {
 }
 
 fn burn() -> Vec<Step> {
-    let words = BURNED.iter().flat_map(|&block| {
-        let offsets = 0..PART.unit();
-        offsets.map(move |offset| (start(block) + offset, offset as u16))
-    });
-    words.flat_map(|(at, data)| program(at, data)).collect()
+    BURNED.into_iter().flat_map(burn_by_words).collect()
+}
+
+fn burn_by_words(block: u32) -> Vec<Step> {
+    let offsets = 0..PART.unit();
+    offsets
+        .flat_map(|offset| program(start(block) + offset, offset as u16))
+        .collect()
+}
+
+fn burn_by_loads(block: u32) -> Vec<Step> {
+    let offsets = (0..PART.unit()).step_by(BUFFER as usize);
+    offsets
+        .flat_map(|offset| load(start(block) + offset, offset as u16))
+        .collect()
 }
 
 /// Erases a main block with one unit a step.
@@ -355,6 +385,10 @@ impl Bench {
             _ => format!("{a_call} steps a call"),
         };
         row(&format!("{}, {calls}", workload.name), &rounds);
+        if let Some(words) = workload.burned {
+            let words = f64::from(words) * times as f64;
+            rates(list.steps.len(), words, &rounds);
+        }
     }
 
     /// Plays a list on all sides without measuring.
@@ -395,6 +429,15 @@ fn program(location: u32, data: u16) -> [Step; 3] {
         Step::Write(location, data),
         Step::Work(1),
     ]
+}
+
+/// A full load of the buffer, its words counting up from `data`, and its units.
+fn load(location: u32, data: u16) -> Vec<Step> {
+    let write = |data| Step::Write(location, data);
+    let words = (0..BUFFER).map(|place| Step::Write(location + place, data + place as u16));
+    let set_up = [write(0xE8), write(BUFFER as u16 - 1)];
+    let confirm = [write(0xD0), Step::Work(BUFFER)];
+    set_up.into_iter().chain(words).chain(confirm).collect()
 }
 
 fn erase(block: u32) -> Vec<Step> {
@@ -439,10 +482,26 @@ fn repeats(once: f64) -> usize {
 fn row(name: &str, rounds: &[Vec<f64>]) {
     let mut columns = String::new();
     for side in 1..rounds[0].len() {
-        let mut ratios: Vec<f64> = rounds[1..].iter().map(|t| t[0] / t[side]).collect();
-        ratios.sort_by(f64::total_cmp);
-        let [low, median, high] = [1, 2, 3].map(|quarter| ratios[(ratios.len() - 1) * quarter / 4]);
+        let [low, median, high] = quarters(rounds[1..].iter().map(|t| t[0] / t[side]));
         columns.push_str(&format!(" {median:6.2} {low:6.2} to {high:5.2}"));
     }
     println!("{name:42}{columns}");
+}
+
+/// Beneath a row, the steps of its list, and the words that a side burns in a
+/// second: so many in the median of the times that it took in each round.
+fn rates(steps: usize, words: f64, rounds: &[Vec<f64>]) {
+    let rate = |side: usize| {
+        let [_, median, _] = quarters(rounds[1..].iter().map(|t| t[side]));
+        format!("{} {:.1}", Player::NAMES[side], words / median / 1e6)
+    };
+    let rates = [0, 1, 2].map(rate).join(", ");
+    println!("    {steps} steps; million words a second: {rates}");
+}
+
+/// The lower quarter, the median and the upper quarter.
+fn quarters(values: impl Iterator<Item = f64>) -> [f64; 3] {
+    let mut values: Vec<f64> = values.collect();
+    values.sort_by(f64::total_cmp);
+    [1, 2, 3].map(|quarter| values[(values.len() - 1) * quarter / 4])
 }

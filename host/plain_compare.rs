@@ -20,7 +20,10 @@ mod second {
 
 use author::{Author, Dice};
 use plain::Plain;
-use second::model::{Answer, Device, Flags, Mode, Operation, Part, Setup, BANKS, BLOCKS};
+use second::model::{
+    Answer, Device, Flags, Mode, Operation, Part, Place, Program, Setup, BANKS, BLOCKS,
+    BUFFER_WORDS,
+};
 use second::steps::Step;
 use std::collections::BTreeMap;
 use std::process::ExitCode;
@@ -30,7 +33,7 @@ const LISTS: [u64; 4] = [30, 30, 3_000, 3_000];
 
 /// How many different things become of a step. Fewer would mean that the lists
 /// try less than they seem to.
-const OUTCOMES: usize = 110;
+const OUTCOMES: usize = 158;
 
 /// What lies in an answer before a call.
 const UNTOUCHED: u64 = 0xA5A5_5A5A_C3C3_3C3C;
@@ -122,6 +125,8 @@ struct Pair {
     model_array: Vec<u16>,
     /// The steps of the list so far.
     history: Vec<u64>,
+    /// The words that were given to the load so far, by the bits from the start on.
+    given: u32,
     tally: Tally,
 }
 
@@ -134,6 +139,7 @@ impl Pair {
             device: Device::power_up(part.number()),
             model_array: vec![0; part.array_length()],
             history: Vec::new(),
+            given: 0,
             tally: Tally::default(),
         }
     }
@@ -160,7 +166,7 @@ impl Pair {
             self.call(told, size, &mut |device| author.next(device))?;
             left -= size;
         }
-        let closing = closing(self.part);
+        let closing = closing(&self.device);
         let mut numbers = closing.iter().copied().map(library::number);
         let mut next = |_: &Device| numbers.next().expect("as many as are asked for");
         self.call(words, closing.len(), &mut next)?;
@@ -236,6 +242,7 @@ impl Pair {
         }
         let became = match (answer.refusal, flags_text(bare.flags)) {
             (0, "") => became(&before, &self.device, step, answer),
+            (0, WRONG_CYCLE) => wrong_cycle(&before, step),
             (0, flags) => flags,
             (1, _) => "refused 1",
             (3, _) => "refused 3",
@@ -243,8 +250,52 @@ impl Pair {
             _ => "refused by a number that is not due",
         };
         self.tally.count(asked(&before, step), became, 1);
+        self.follow_load(&before, step);
         self.tally.steps += 1;
         library::answer(answer)
+    }
+
+    /// Notes the words that a load is given, and counts the loads that come to
+    /// run.
+    fn follow_load(&mut self, before: &Device, step: Step) {
+        let Step::Write(address, _) = step else {
+            return;
+        };
+        match (before.setup, self.device.setup) {
+            // A refused write is no cycle.
+            (before, after) if before == after => {}
+            (Some(Setup::LoadFirst { .. }), Some(_)) => self.given = 1,
+            (Some(Setup::LoadNext { start, .. }), Some(_)) => {
+                self.given |= 1 << (self.part.location(address) - start);
+            }
+            (Some(Setup::LoadNext { start, words, .. }), None) => {
+                if self.device.running.is_some() {
+                    self.count_buffer_program(start, words);
+                }
+            }
+            _ => {}
+        }
+    }
+
+    /// Counts a buffer program that has begun, by its words and by what it runs in.
+    fn count_buffer_program(&mut self, start: u32, words: u32) {
+        let mut count = |fact| self.tally.count("buffer program", fact, 1);
+        count(match words as usize {
+            BUFFER_WORDS => "of 32 words",
+            1 => "of one word",
+            _ => "of another number of words",
+        });
+        let block = self.part.block(place(&self.device, start).block);
+        let block = block.expect("a block of the part");
+        if start + words == block.start + block.size {
+            count("up to its block's end");
+        }
+        if self.given.count_ones() < words {
+            count("with a word given twice and one given none");
+        }
+        if self.device.suspended_erase.is_some() {
+            count("in a suspended erase");
+        }
     }
 
     fn same_arrays(&mut self) -> Result<(), String> {
@@ -278,9 +329,15 @@ impl Pair {
 }
 
 /// Steps whose answers, and the array after them, tell all that a state holds.
-fn closing(part: Part) -> Vec<Step> {
+fn closing(device: &Device) -> Vec<Step> {
+    let part = device.part;
     let banks = (0..BANKS as u32).map(|bank| part.bank_start(bank).expect("a bank of the part"));
     let mut steps: Vec<Step> = banks.clone().map(Step::Read).collect();
+    // A load gets the data cycles that it lacks, all for its start, and D0h.
+    if let Some(Setup::LoadNext { start, due, .. }) = device.setup {
+        steps.extend((0..due).map(|_| Step::Write(start, 0xFFFF)));
+        steps.push(Step::Write(start, 0xD0));
+    }
     // What is suspended goes on and ends, a program before an erase.
     for _ in 0..2 {
         steps.extend([Step::Work(65_535), Step::Work(1), Step::Write(0, 0xD0)]);
@@ -320,12 +377,12 @@ fn asked(device: &Device, step: Step) -> &'static str {
             Mode::Query => "read, query mode",
         },
         (Step::Write(_, data), None) => command_text(data % 256),
-        (Step::Write(..), Some(Setup::Program)) => "write, second cycle of a program",
-        (Step::Write(..), Some(Setup::Erase)) => "write, second cycle of an erase",
         (Step::Write(..), Some(Setup::LoadCount { .. })) => "write, count of a load",
         (Step::Write(..), Some(Setup::LoadFirst { .. })) => "write, first word of a load",
-        (Step::Write(..), Some(Setup::LoadNext { due: 0, .. })) => "write, confirm of a load",
+        (Step::Write(..), Some(Setup::LoadNext { due: 0, .. })) => "write, last cycle of a load",
         (Step::Write(..), Some(Setup::LoadNext { .. })) => "write, later word of a load",
+        (Step::Write(..), Some(Setup::Program)) => "write, second cycle of a program",
+        (Step::Write(..), Some(Setup::Erase)) => "write, second cycle of an erase",
         (Step::Write(_, data), Some(Setup::Lock)) => match data % 256 {
             0x01 => "write, second cycle of a lock, 01h",
             0x03 => "write, second cycle of a lock, 03h",
@@ -352,42 +409,120 @@ fn command_text(command: u16) -> &'static str {
         0x40 => "write, 40h",
         0x60 => "write, 60h",
         0x20 => "write, 20h",
+        0xE8 => "write, E8h",
         _ => "write, another",
     }
 }
 
 /// What became of an accepted step that set no flag.
 fn became(before: &Device, after: &Device, step: Step, answer: Answer) -> &'static str {
-    let suspended = before.suspended_program.is_some() || before.suspended_erase.is_some();
-    match (step, before.running, after.running) {
-        (Step::Read(address), Some(operation), _) => {
-            if bank(before, address) == running_bank(before, operation) {
-                "with something running in the bank"
-            } else {
-                "with something running in another bank"
-            }
+    match step {
+        Step::Read(address) => became_of_read(before, address),
+        Step::Write(..) => became_of_write(before, after),
+        Step::Work(_) => became_of_work(before, after, answer),
+        Step::Supply(_) if is_load(before.setup) => "in a load",
+        Step::Supply(_) if before == after => "changed nothing",
+        Step::Supply(_) => "changed the state",
+        Step::Reset => became_of_reset(before),
+    }
+}
+fn became_of_read(device: &Device, address: u32) -> &'static str {
+    match device.running {
+        None => "with nothing running",
+        Some(operation) if bank(device, address) == running_bank(device, operation) => {
+            "with something running in the bank"
         }
-        (Step::Read(_), None, _) => "with nothing running",
-        (Step::Reset, None, _) if !suspended => "with nothing broken off",
-        (Step::Reset, _, _) => "with something broken off",
-        (Step::Work(_), Some(Operation::Program(_)), None) => "ended a program",
-        (Step::Work(_), Some(Operation::Erase(_)), None) => "ended an erase",
-        (Step::Work(_), Some(_), Some(_)) if answer.value > 0 => "did a part of an erase",
-        (Step::Work(_), Some(_), _) => "did no unit",
-        (Step::Work(_), None, _) => "found nothing running",
-        (Step::Write(..), None, Some(Operation::Program(_))) => "set a program running",
-        (Step::Write(..), None, Some(Operation::Erase(_))) => "set an erase running",
-        (Step::Write(..), Some(Operation::Program(_)), None) => "suspended a program",
-        (Step::Write(..), Some(Operation::Erase(_)), None) => "suspended an erase",
+        Some(_) => "with something running in another bank",
+    }
+}
+
+fn became_of_write(before: &Device, after: &Device) -> &'static str {
+    use {Operation as O, Program as P};
+    match (before.running, after.running) {
+        (None, Some(O::Program(P::Word { .. }))) => "set a program running",
+        (None, Some(O::Program(P::Buffer { .. }))) => "set a buffer program running",
+        (None, Some(O::Erase(_))) => "set an erase running",
+        (Some(O::Program(P::Word { .. })), None) => "suspended a program",
+        (Some(O::Program(P::Buffer { done: 0, .. })), None) => {
+            "suspended a buffer program before its first word"
+        }
+        (Some(O::Program(P::Buffer { .. })), None) => "suspended a buffer program among its words",
+        (Some(O::Erase(_)), None) => "suspended an erase",
+        _ if before.setup.is_none() && is_load(after.setup) => "began a load",
         _ if before.setup.is_none() && after.setup.is_some() => "made a set-up",
+        _ if is_load(after.setup) => "went on with the load",
         _ if before == after => "changed nothing",
         _ => "changed the state",
     }
 }
 
+fn became_of_work(before: &Device, after: &Device, answer: Answer) -> &'static str {
+    use {Operation as O, Program as P};
+    match (before.running, after.running) {
+        (None, _) => "found nothing running",
+        (Some(O::Program(P::Word { .. })), None) => "ended a program",
+        (Some(O::Program(P::Buffer { .. })), None) => "ended a buffer program",
+        (Some(O::Erase(_)), None) => "ended an erase",
+        (Some(O::Program(_)), Some(_)) if answer.value > 0 => "did a part of a buffer program",
+        (Some(O::Erase(_)), Some(_)) if answer.value > 0 => "did a part of an erase",
+        (Some(_), Some(_)) => "did no unit",
+    }
+}
+
+fn became_of_reset(before: &Device) -> &'static str {
+    use {Operation as O, Program as P};
+    match (before.setup, before.running, before.suspended_program) {
+        (Some(Setup::LoadCount { .. }), ..) => "cut a load before its count",
+        (Some(Setup::LoadFirst { .. }), ..) => "cut a load before its first word",
+        (Some(Setup::LoadNext { due: 0, .. }), ..) => "cut a load before D0h",
+        (Some(Setup::LoadNext { .. }), ..) => "cut a load among its words",
+        (_, Some(O::Program(P::Buffer { .. })), _) => "with a buffer program broken off",
+        (.., Some(P::Buffer { .. })) => "with a suspended buffer program broken off",
+        (_, None, None) if before.suspended_erase.is_none() => "with nothing broken off",
+        _ => "with something broken off",
+    }
+}
+
+/// The flags of a wrong cycle.
+const WRONG_CYCLE: &str = "set SR5 SR4";
+
+/// What is wrong with a wrong cycle; of a load, the first rule that it breaks.
+fn wrong_cycle(before: &Device, step: Step) -> &'static str {
+    let (Step::Write(address, data), Some(setup)) = (step, before.setup) else {
+        return "wrong without a set-up";
+    };
+    let location = before.part.location(address);
+    let block = place(before, location).block;
+    match setup {
+        Setup::Program | Setup::Erase | Setup::Lock => WRONG_CYCLE,
+        Setup::LoadCount { block: due } | Setup::LoadFirst { block: due, .. } if block != due => {
+            "wrong: in another block"
+        }
+        Setup::LoadNext { start, .. } if block != place(before, start).block => {
+            "wrong: in another block"
+        }
+        Setup::LoadCount { .. } if data % 256 <= 31 => "wrong: above 31 by its upper byte",
+        Setup::LoadCount { .. } => "wrong: above 31",
+        Setup::LoadFirst { .. } => "wrong: too many words for the block",
+        Setup::LoadNext { due: 0, .. } => "wrong: not D0h",
+        Setup::LoadNext { start, .. } if location < start => "wrong: below the start",
+        Setup::LoadNext { .. } => "wrong: past the last word",
+    }
+}
+
+fn is_load(setup: Option<Setup>) -> bool {
+    !matches!(
+        setup,
+        None | Some(Setup::Program | Setup::Erase | Setup::Lock)
+    )
+}
+
+fn place(device: &Device, location: u32) -> Place {
+    device.part.place(location).expect("a location of the part")
+}
+
 fn bank(device: &Device, address: u32) -> u32 {
-    let place = device.part.place(device.part.location(address));
-    place.expect("a location of the part").bank
+    place(device, device.part.location(address)).bank
 }
 
 fn running_bank(device: &Device, operation: Operation) -> u32 {
@@ -406,7 +541,7 @@ fn flags_text(flags: Flags) -> &'static str {
         (false, true, true, false) => "set SR4 SR3",
         (false, true, false, true) => "set SR4 SR1",
         (false, true, false, false) => "set SR4",
-        (true, true, false, false) => "set SR5 SR4",
+        (true, true, false, false) => WRONG_CYCLE,
         (true, false, true, false) => "set SR5 SR3",
         (true, false, false, true) => "set SR5 SR1",
         _ => "set flags that no rule sets",

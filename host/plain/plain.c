@@ -58,28 +58,26 @@ static void reset(struct plain *device) {
     device->supply = supply;
 }
 
-static bool running(const struct plain *device) {
-    return device->program.activity == PLAIN_RUNNING || device->erase.activity == PLAIN_RUNNING;
-}
-
 /* The bank of what runs; something must run. */
 static uint32_t running_bank(const struct plain *device) {
-    if (device->program.activity == PLAIN_RUNNING)
-        return bank_of(device, device->program.location);
-    return bank_of(device, block_start(device, device->erase.block));
+    switch (device->running) {
+    case PLAIN_PROGRAM: return bank_of(device, device->program.location);
+    case PLAIN_BUFFER_PROGRAM: return bank_of(device, device->buffer.start);
+    default: return bank_of(device, block_start(device, device->erase.block));
+    }
 }
 
 /* Reads */
 
 static uint16_t status_word(const struct plain *device, uint32_t bank) {
     uint16_t word = device->flags;
-    if (!running(device))
+    if (device->running == PLAIN_NOTHING)
         word |= SR7;
     else if (running_bank(device) != bank)
         word |= SR0;
-    if (device->erase.activity == PLAIN_SUSPENDED)
+    if (device->erase_suspended)
         word |= SR6;
-    if (device->program.activity == PLAIN_SUSPENDED)
+    if (device->suspended_program != PLAIN_NOTHING)
         word |= SR2;
     return word;
 }
@@ -109,7 +107,7 @@ static uint16_t read_word(const struct plain *device, uint32_t location, const u
     uint32_t bank = bank_of(device, location);
     switch (device->mode[bank]) {
     case PLAIN_ARRAY:
-        if (running(device) && running_bank(device) == bank)
+        if (device->running != PLAIN_NOTHING && running_bank(device) == bank)
             return status_word(device, bank);
         return array[location];
     case PLAIN_STATUS: return status_word(device, bank);
@@ -121,19 +119,23 @@ static uint16_t read_word(const struct plain *device, uint32_t location, const u
 
 /* Writes */
 
-static void program_second(struct plain *device, uint32_t location, uint16_t data) {
-    uint32_t block = block_of(device, location);
+/* The tests at a program's data and at D0h of a load; what passes them runs. */
+static void accept_program(struct plain *device, enum plain_operation program, uint32_t block) {
     if (!device->supply) {
         device->flags |= SR4 | SR3;
     } else if (device->protected[block]) {
         device->flags |= SR4 | SR1;
-    } else if (device->erase.activity == PLAIN_SUSPENDED && device->erase.block == block) {
+    } else if (device->erase_suspended && device->erase.block == block) {
         device->flags |= SR4;
     } else {
-        device->program.activity = PLAIN_RUNNING;
-        device->program.location = location;
-        device->program.data = data;
+        device->running = program;
     }
+}
+
+static void program_second(struct plain *device, uint32_t location, uint16_t data) {
+    device->program.location = location;
+    device->program.data = data;
+    accept_program(device, PLAIN_PROGRAM, block_of(device, location));
 }
 
 static void erase_second(struct plain *device, uint32_t location, uint8_t command) {
@@ -145,7 +147,7 @@ static void erase_second(struct plain *device, uint32_t location, uint8_t comman
     } else if (device->protected[block]) {
         device->flags |= SR5 | SR1;
     } else {
-        device->erase.activity = PLAIN_RUNNING;
+        device->running = PLAIN_ERASE;
         device->erase.block = block;
         device->erase.done = 0;
     }
@@ -161,48 +163,110 @@ static void lock_second(struct plain *device, uint32_t address, uint8_t command)
     }
 }
 
+/* The cycles of a load after E8h (document 02, item 1; section 4.9). Each tells whether it is right. */
+
+static bool load_count(struct plain *device, uint16_t data) {
+    if (data >= PLAIN_BUFFER)
+        return false;
+    device->buffer.words = data + 1u;
+    device->setup = PLAIN_LOAD_FIRST;
+    return true;
+}
+
+static bool load_word(struct plain *device, uint32_t location, uint16_t data) {
+    uint32_t place = location - device->buffer.start; /* below the start it wraps, and is too large */
+    if (place >= device->buffer.words)
+        return false;
+    device->buffer.data[place] = data;
+    device->buffer.due--;
+    device->setup = device->buffer.due > 0 ? PLAIN_LOAD_WORD : PLAIN_LOAD_CONFIRM;
+    return true;
+}
+
+/* The first word is the start; all words must fit the block. A word that is given no data takes FFFFh. */
+static bool load_first(struct plain *device, uint32_t location, uint16_t data) {
+    uint32_t size = block_words(device, device->buffer.block);
+    if ((location & (size - 1)) + device->buffer.words > size)
+        return false;
+    device->buffer.start = location;
+    device->buffer.due = device->buffer.words;
+    device->buffer.done = 0;
+    memset(device->buffer.data, 0xFF, sizeof device->buffer.data);
+    return load_word(device, location, data);
+}
+
+static bool load_confirm(struct plain *device, uint8_t command) {
+    if (command != 0xD0)
+        return false;
+    accept_program(device, PLAIN_BUFFER_PROGRAM, device->buffer.block);
+    return true;
+}
+
+/* A right cycle sets up the next one. */
+static bool load_cycle(struct plain *device, enum plain_setup due, uint32_t location, uint16_t data) {
+    if (block_of(device, location) != device->buffer.block)
+        return false;
+    switch (due) {
+    case PLAIN_LOAD_COUNT: return load_count(device, data);
+    case PLAIN_LOAD_FIRST: return load_first(device, location, data);
+    case PLAIN_LOAD_WORD: return load_word(device, location, data);
+    default: return load_confirm(device, (uint8_t)data);
+    }
+}
+
+/* Something must run: no program is suspended then, and if an erase runs, none is suspended. */
 static void suspend(struct plain *device) {
-    if (device->program.activity == PLAIN_RUNNING)
-        device->program.activity = PLAIN_SUSPENDED;
-    else if (device->erase.activity == PLAIN_RUNNING)
-        device->erase.activity = PLAIN_SUSPENDED;
+    if (device->running == PLAIN_ERASE)
+        device->erase_suspended = true;
+    else
+        device->suspended_program = device->running;
+    device->running = PLAIN_NOTHING;
 }
 
 static void resume(struct plain *device) {
-    if (device->program.activity == PLAIN_SUSPENDED)
-        device->program.activity = PLAIN_RUNNING;
-    else if (device->erase.activity == PLAIN_SUSPENDED)
-        device->erase.activity = PLAIN_RUNNING;
+    if (device->suspended_program != PLAIN_NOTHING) {
+        device->running = device->suspended_program;
+        device->suspended_program = PLAIN_NOTHING;
+    } else if (device->erase_suspended) {
+        device->running = PLAIN_ERASE;
+        device->erase_suspended = false;
+    }
 }
 
-static void set_up(struct plain *device, uint32_t bank, enum plain_setup setup) {
-    if (running(device) || device->program.activity == PLAIN_SUSPENDED)
+static void set_up(struct plain *device, uint32_t bank, uint32_t location, enum plain_setup setup) {
+    if (device->running != PLAIN_NOTHING || device->suspended_program != PLAIN_NOTHING)
         return;
-    if (setup == PLAIN_ERASE_SETUP && device->erase.activity == PLAIN_SUSPENDED)
+    if (setup == PLAIN_ERASE_SETUP && device->erase_suspended)
         return;
+    if (setup == PLAIN_LOAD_COUNT)
+        device->buffer.block = block_of(device, location);
     device->setup = setup;
     device->mode[bank] = PLAIN_STATUS;
 }
 
-static void first_cycle(struct plain *device, uint32_t bank, uint8_t command) {
+static void first_cycle(struct plain *device, uint32_t bank, uint32_t location, uint8_t command) {
     switch (command) {
     case 0xFF: device->mode[bank] = PLAIN_ARRAY; break;
     case 0x70: device->mode[bank] = PLAIN_STATUS; break;
     case 0x90: device->mode[bank] = PLAIN_SIGNATURE; break;
     case 0x98: device->mode[bank] = PLAIN_QUERY; break;
-    case 0xB0: suspend(device); break;
+    case 0xB0:
+        if (device->running != PLAIN_NOTHING)
+            suspend(device);
+        break;
     case 0xD0:
-        if (!running(device))
+        if (device->running == PLAIN_NOTHING)
             resume(device);
         break;
     case 0x50:
-        if (!running(device))
+        if (device->running == PLAIN_NOTHING)
             device->flags = 0;
         break;
     case 0x10:
-    case 0x40: set_up(device, bank, PLAIN_PROGRAM_SETUP); break;
-    case 0x20: set_up(device, bank, PLAIN_ERASE_SETUP); break;
-    case 0x60: set_up(device, bank, PLAIN_LOCK_SETUP); break;
+    case 0x40: set_up(device, bank, location, PLAIN_PROGRAM_SETUP); break;
+    case 0x20: set_up(device, bank, location, PLAIN_ERASE_SETUP); break;
+    case 0x60: set_up(device, bank, location, PLAIN_LOCK_SETUP); break;
+    case 0xE8: set_up(device, bank, location, PLAIN_LOAD_COUNT); break;
     default: break;
     }
 }
@@ -213,7 +277,7 @@ static void write_word(struct plain *device, uint32_t address, uint16_t data) {
     uint8_t command = (uint8_t)data;
     enum plain_setup setup = device->setup;
     if (setup == PLAIN_NO_SETUP) {
-        first_cycle(device, bank, command);
+        first_cycle(device, bank, location, command);
         return;
     }
     device->setup = PLAIN_NO_SETUP;
@@ -222,11 +286,33 @@ static void write_word(struct plain *device, uint32_t address, uint16_t data) {
     case PLAIN_PROGRAM_SETUP: program_second(device, location, data); break;
     case PLAIN_ERASE_SETUP: erase_second(device, location, command); break;
     case PLAIN_LOCK_SETUP: lock_second(device, address, command); break;
-    case PLAIN_NO_SETUP: break;
+    default:
+        if (!load_cycle(device, setup, location, data))
+            device->flags |= SR5 | SR4;
+        break;
     }
 }
 
 /* Work */
+
+static uint32_t work_program(struct plain *device, uint16_t *array) {
+    array[device->program.location] &= device->program.data;
+    device->running = PLAIN_NOTHING;
+    return 1;
+}
+
+static uint32_t work_buffer(struct plain *device, uint32_t units, uint16_t *array) {
+    uint32_t left = device->buffer.words - device->buffer.done;
+    uint32_t now = units < left ? units : left;
+    uint16_t *words = array + device->buffer.start + device->buffer.done;
+    const uint16_t *data = device->buffer.data + device->buffer.done;
+    for (uint32_t i = 0; i < now; i++)
+        words[i] &= data[i];
+    device->buffer.done += now;
+    if (now == left)
+        device->running = PLAIN_NOTHING;
+    return now;
+}
 
 static uint32_t work_erase(struct plain *device, uint32_t units, uint16_t *array) {
     uint32_t left = block_words(device, device->erase.block) - device->erase.done;
@@ -234,21 +320,19 @@ static uint32_t work_erase(struct plain *device, uint32_t units, uint16_t *array
     memset(array + block_start(device, device->erase.block) + device->erase.done, 0xFF, now * sizeof *array);
     device->erase.done += now;
     if (now == left)
-        device->erase.activity = PLAIN_IDLE;
+        device->running = PLAIN_NOTHING;
     return now;
 }
 
 static uint32_t work(struct plain *device, uint32_t units, uint16_t *array) {
     if (units == 0)
         return 0;
-    if (device->program.activity == PLAIN_RUNNING) {
-        array[device->program.location] &= device->program.data;
-        device->program.activity = PLAIN_IDLE;
-        return 1;
+    switch (device->running) {
+    case PLAIN_PROGRAM: return work_program(device, array);
+    case PLAIN_BUFFER_PROGRAM: return work_buffer(device, units, array);
+    case PLAIN_ERASE: return work_erase(device, units, array);
+    default: return 0;
     }
-    if (device->erase.activity == PLAIN_RUNNING)
-        return work_erase(device, units, array);
-    return 0;
 }
 
 /* Steps */

@@ -1,5 +1,5 @@
 /* A model of the M58LT256KST/KSB written by hand in plain C: a yardstick of speed, and one more witness of what the steps answer.
- * It is written from document 01 alone: one struct, behind a pointer, and switches. Steps and answers are handed over as numbers, those of m58.h.
+ * It is written from documents 01 and 02 and the sheet alone: one struct, behind a pointer, and switches. Steps and answers are handed over as numbers, those of m58.h.
  *
  * A state held in a C struct is trusted: refusal 2 (state not well formed) is not tested, so a device must come from plain_power_up.
  * Refusal 5 (location in no block) cannot arise: every location lies in a block. */
@@ -10,11 +10,21 @@
 #include <stddef.h>
 #include <stdint.h>
 
-enum { PLAIN_BANKS = 16, PLAIN_BLOCKS = 259 };
+enum { PLAIN_BANKS = 16, PLAIN_BLOCKS = 259, PLAIN_BUFFER = 32 };
 
 enum plain_mode { PLAIN_ARRAY, PLAIN_STATUS, PLAIN_SIGNATURE, PLAIN_QUERY };
-enum plain_setup { PLAIN_NO_SETUP, PLAIN_PROGRAM_SETUP, PLAIN_ERASE_SETUP, PLAIN_LOCK_SETUP };
-enum plain_activity { PLAIN_IDLE, PLAIN_RUNNING, PLAIN_SUSPENDED };
+/* A load of the buffer is four set-ups: which of its cycles is due. */
+enum plain_setup {
+    PLAIN_NO_SETUP,
+    PLAIN_PROGRAM_SETUP,
+    PLAIN_ERASE_SETUP,
+    PLAIN_LOCK_SETUP,
+    PLAIN_LOAD_COUNT,
+    PLAIN_LOAD_FIRST,
+    PLAIN_LOAD_WORD,
+    PLAIN_LOAD_CONFIRM
+};
+enum plain_operation { PLAIN_NOTHING, PLAIN_PROGRAM, PLAIN_BUFFER_PROGRAM, PLAIN_ERASE };
 
 struct plain {
     bool top;
@@ -24,13 +34,23 @@ struct plain {
     enum plain_mode mode[PLAIN_BANKS];
     uint16_t flags; /* SR5, SR4, SR3 and SR1, at their places in the status word */
     uint16_t configuration;
+    enum plain_operation running;
+    enum plain_operation suspended_program; /* a program, a buffer program or nothing */
+    bool erase_suspended;
     struct {
-        enum plain_activity activity;
         uint32_t location;
         uint16_t data;
     } program;
+    /* Of a load or a buffer program. A load fills in the block, then the number of words, then the start and the data. */
     struct {
-        enum plain_activity activity;
+        uint32_t block;
+        uint32_t start;
+        uint32_t words;
+        uint32_t due; /* data cycles that the load still lacks */
+        uint32_t done;
+        uint16_t data[PLAIN_BUFFER];
+    } buffer;
+    struct {
         uint32_t block;
         uint32_t done;
     } erase;
