@@ -1,6 +1,6 @@
 /*
- * Checks what m58.h says of its macros, and of state words that are those of
- * no device. Prints one line; ends with 1 where something is otherwise.
+ * Checks what m58.h says of its macros, of state words that are those of no
+ * device, and of the write buffer. Prints one line; ends with 1 where something is otherwise.
  *
  * To build:  cc header_checks.c libm58.a
  */
@@ -115,6 +115,46 @@ static void check_refusals(void)
     SAME(M58_REFUSED_ARRAY, refusal(NULL, 0, M58_RESET, M58_BENCH_WORDS));
 }
 
+/* One step that is not refused: its value. */
+static uint64_t played(uint64_t *state, uint64_t step)
+{
+    uint64_t answer = UINT64_MAX;
+    size_t count = m58_run(state, M58_STATE_WORDS, &step, 1, &answer, 1, array, M58_BENCH_WORDS);
+    same("steps played", 1, count);
+    same("refusal", M58_REFUSED_NOTHING, M58_ANSWER_REFUSAL(answer));
+    return M58_ANSWER_VALUE(answer);
+}
+
+/* A load of as many words as the buffer has, each its own address, step by step: the state words carry it from call to call. */
+static void check_buffer(void)
+{
+    uint64_t state[M58_STATE_WORDS];
+    same("power-up", 1, m58_power_up(M58_BENCH_BOTTOM, state, M58_STATE_WORDS));
+    for (size_t i = 0; i < M58_BENCH_WORDS; i++)
+        array[i] = 0xFFFF;
+    played(state, M58_SUPPLY(1));
+    played(state, M58_WRITE(0x40, 0x60));
+    played(state, M58_WRITE(0x40, 0xD0));
+    /* one word more than the buffer has: a wrong count */
+    played(state, M58_WRITE(0x40, 0xE8));
+    played(state, M58_WRITE(0x40, M58_BUFFER_WORDS));
+    SAME(0xB0, played(state, M58_READ(0x40)));
+    played(state, M58_WRITE(0x40, 0x50));
+    played(state, M58_WRITE(0x40, 0xE8));
+    played(state, M58_WRITE(0x40, M58_BUFFER_WORDS - 1));
+    for (uint32_t i = 0; i < M58_BUFFER_WORDS; i++)
+        played(state, M58_WRITE(0x48 + i, 0x48 + i));
+    played(state, M58_WRITE(0x40, 0xD0));
+    for (uint32_t i = 0; i < M58_BUFFER_WORDS; i++) {
+        SAME(0xFFFF, array[0x48 + i]);
+        SAME(1, played(state, M58_WORK(1)));
+        SAME(0x48 + i, array[0x48 + i]);
+    }
+    SAME(0, played(state, M58_WORK(1)));
+    SAME(0xFFFF, array[0x47]);
+    SAME(0xFFFF, array[0x48 + M58_BUFFER_WORDS]);
+}
+
 int main(void)
 {
     array = calloc(M58_FULL_WORDS, sizeof *array);
@@ -125,6 +165,7 @@ int main(void)
     check_encoding();
     check_clamping();
     check_refusals();
+    check_buffer();
     free(array);
     printf("header_checks: %u checks, %u wrong\n", checks, wrong);
     return wrong != 0;

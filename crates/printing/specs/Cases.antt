@@ -8,7 +8,7 @@ use lib.Dec.{T, eqb}
 use lib.ListN.{length}
 use Rattle.semantics.specs.declared.Answer.{Answer}
 use Rattle.semantics.specs.declared.Answer.the-variants.{Word, Units, Done, Refused}
-use Rattle.semantics.specs.Working.{tabulate}
+use Rattle.semantics.specs.Tabulate.{tabulate}
 use Rattle.printing.specs.Text.{text, digitOf, digits, decimal, hex4, answerText, lineText, endText}
 use Rattle.printing.specs.Room.{placed, advanced}
 

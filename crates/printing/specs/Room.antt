@@ -9,8 +9,7 @@ use native.Mathlib.Omega.{arith}
 use lib.ListN.{length, getD, set, drop, length-set, length-append, length-drop, List·getD-eq-default, List·getD-append}
 use lib.Seq.{getD-set-same, getD-set-other, getD-append-add, getD-drop}
 use Rattle.semantics.specs.Numbers.{within, within-in, within-out, within-true, within-false}
-use Rattle.semantics.specs.Working.{tabulate}
-use Rattle.semantics.specs.Arrays.{length-tabulate, getD-tabulate, tabulate-is}
+use Rattle.semantics.specs.Tabulate.{tabulate, length-tabulate, getD-tabulate, tabulate-is}
 
 -- the byte at place i of a room after bytes were put at a place
 abbrev pub placedByte : List ℕ → ℕ → List ℕ → ℕ → ℕ
