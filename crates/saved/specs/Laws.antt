@@ -30,7 +30,7 @@ use Rattle.semantics.specs.declared.State.{State}
 use Rattle.semantics.specs.State.{activity, flagsOf, emptyBuffer, powerUp}
 use Rattle.semantics.specs.Reading.{bitIf}
 use Rattle.semantics.specs.WellFormed.{runningAlone, programAlone, eraseAlone, setupFits, runningFits, programFits, suspendedEraseFits, allFit, runningApart, programApart, apart, activityFormed, wellFormed}
-use Rattle.saved.specs.Saved.{partNumber, modeNumber, modeNumbered, bankNumber, bankNumbered, flagNumbered, setupWords, setupOf, runningWords, runningOf, programWords, programOf, eraseWords, eraseOf, listed, first, bankWords, activityWords, restOf, packed, lane, bufferWords, savedOf, loadedOf, same, isSaved, noState, stateOf, putInto}
+use Rattle.saved.specs.Saved.{partNumber, modeNumber, modeNumbered, bankNumber, bankNumbered, flagNumbered, setupWords, setupOf, runningWords, runningOf, programWords, programOf, eraseWords, eraseOf, listed, first, bankWords, activityWords, restOf, packed, lane, packedAt, laneAt, bufferWords, savedOf, loadedOf, same, isSaved, noState, stateOf, putInto}
 
 -- ---- lists
 
@@ -70,7 +70,7 @@ filled-all {d = d} {f = f} {n = n} {l = l} h p = listed-is d n f l (h .size) (λ
 
 -- the buffer, for the loop that takes four words of it from each saved word
 abbrev pub Taken : List ℕ → ℕ → List ℕ → Type 0
-Taken ws j bs = Filled 0 (λ i. lane (getD (drop 43 ws) (i / 4) 0) (i % 4)) 32 (4 * j) bs
+Taken ws j bs = Filled 0 (laneAt (drop 43 ws)) 32 (4 * j) bs
 
 pub taken-more : (ws bs : List ℕ) (j w : ℕ) → j < 8 → w ≡ getD ws (43 + j) 0 → Taken ws j bs
     → Taken ws (j + 1) (set (set (set (set bs (4 * j) (lane w 0)) (4 * j + 1) (lane w 1)) (4 * j + 2) (lane w 2)) (4 * j + 3) (lane w 3))
@@ -81,7 +81,7 @@ taken-more ws bs j w h q t =
     (one (4 * j) (4 * j + 1) refl (omega arith) (at 0 (4 * j) (omega arith) (omega arith)) t)))
   where
     f : ℕ → ℕ
-    f i = lane (getD (drop 43 ws) (i / 4) 0) (i % 4)
+    f = laneAt (drop 43 ws)
 
     at : (k i : ℕ) → i ≡ 4 * j + k → k < 4 → lane w k ≡ f i
     at k i e l = let d : i / 4 ≡ j = omega arith in let m : i % 4 ≡ k = omega arith in rw (d, m, getD-drop) (ap (λ (x : ℕ). lane x k) q)
@@ -125,10 +125,9 @@ banks-next banks l ws i x h p q =
     rw (p, ← e, n) (sets-next (bankWords banks) l 1 i h)
 
 -- the words of the buffer, one more
-pub buffer-next : (bs l ws : List ℕ) (j x : ℕ) → j < 8 → ws ≡ sets l 43 (take j (bufferWords bs)) → x ≡ packed (getD bs (4 * j) 0) (getD bs (4 * j + 1) 0) (getD bs (4 * j + 2) 0) (getD bs (4 * j + 3) 0)
-    → set ws (43 + j) x ≡ sets l 43 (take (j + 1) (bufferWords bs))
+pub buffer-next : (bs l ws : List ℕ) (j x : ℕ) → j < 8 → ws ≡ sets l 43 (take j (bufferWords bs)) → x ≡ packedAt bs j → set ws (43 + j) x ≡ sets l 43 (take (j + 1) (bufferWords bs))
 buffer-next bs l ws j x h p q =
-    let e : getD (bufferWords bs) j 0 ≡ x = listed-at 0 8 (λ j. packed (getD bs (4 * j) 0) (getD bs (4 * j + 1) 0) (getD bs (4 * j + 2) 0) (getD bs (4 * j + 3) 0)) j h ∙ sym q in
+    let e : getD (bufferWords bs) j 0 ≡ x = listed-at 0 8 (packedAt bs) j h ∙ sym q in
     let n : j + 1 ≡ suc j = omega arith in
     rw (p, ← e, n) (sets-next (bufferWords bs) l 43 j h)
 
@@ -172,37 +171,33 @@ flag-back false = refl
 
 -- ---- the buffer
 
-lane-0 : (a b c d : ℕ) → a < 65536 → b < 65536 → c < 65536 → lane (packed a b c d) 0 ≡ a
-lane-0 a b c d h k m = omega arith
-
-lane-1 : (a b c d : ℕ) → a < 65536 → b < 65536 → c < 65536 → lane (packed a b c d) 1 ≡ b
-lane-1 a b c d h k m = omega arith
-
-lane-2 : (a b c d : ℕ) → a < 65536 → b < 65536 → c < 65536 → lane (packed a b c d) 2 ≡ c
-lane-2 a b c d h k m = omega arith
-
-lane-3 : (a b c d : ℕ) → a < 65536 → b < 65536 → c < 65536 → lane (packed a b c d) 3 ≡ d
-lane-3 a b c d h k m = omega arith
+-- four words are got back
+lanes : (a b c d : ℕ) → a < 65536 → b < 65536 → c < 65536
+    → (lane (packed a b c d) 0 ≡ a) × (lane (packed a b c d) 1 ≡ b) × (lane (packed a b c d) 2 ≡ c) × (lane (packed a b c d) 3 ≡ d)
+lanes a b c d h k m = (omega arith, omega arith, omega arith, omega arith)
 
 -- the four of a word are that word
 pub packed-lanes : (w : ℕ) → packed (lane w 0) (lane w 1) (lane w 2) (lane w 3) ≡ w
 packed-lanes w = omega arith
 
-buffer-back : (bs : List ℕ) → length bs ≡ 32 → ((k : ℕ) → getD bs k 0 < 65536) → listed 32 (λ i. lane (getD (bufferWords bs) (i / 4) 0) (i % 4)) ≡ bs
-buffer-back bs h f = sym (listed-is 0 32 (λ i. lane (getD (bufferWords bs) (i / 4) 0) (i % 4)) bs h each)
+buffer-back : (bs : List ℕ) → length bs ≡ 32 → ((k : ℕ) → getD bs k 0 < 65536) → listed 32 (laneAt (bufferWords bs)) ≡ bs
+buffer-back bs h f = sym (listed-is 0 32 (laneAt (bufferWords bs)) bs h each)
   where
-    at : (j k : ℕ) → k < 4 → getD bs (4 * j + k) 0 ≡ lane (packed (getD bs (4 * j) 0) (getD bs (4 * j + 1) 0) (getD bs (4 * j + 2) 0) (getD bs (4 * j + 3) 0)) k
-    at j zero q = let e : 4 * j + 0 ≡ 4 * j = omega arith in rw e (sym (lane-0 (getD bs (4 * j) 0) _ _ _ (f _) (f _) (f _)))
-    at j (suc zero) q = sym (lane-1 _ (getD bs (4 * j + 1) 0) _ _ (f _) (f _) (f _))
-    at j (suc (suc zero)) q = sym (lane-2 _ _ (getD bs (4 * j + 2) 0) _ (f _) (f _) (f _))
-    at j (suc (suc (suc zero))) q = sym (lane-3 _ _ _ (getD bs (4 * j + 3) 0) (f _) (f _) (f _))
-    at j (suc (suc (suc (suc k)))) q = absurd (omega arith)
+    at : (j k : ℕ) → k < 4 → getD bs (4 * j + k) 0 ≡ lane (packedAt bs j) k
+    at j k q = pick k q (lanes (getD bs (4 * j) 0) (getD bs (4 * j + 1) 0) (getD bs (4 * j + 2) 0) (getD bs (4 * j + 3) 0) (f _) (f _) (f _))
+      where
+        pick : (k : ℕ) → k < 4 → (lane (packedAt bs j) 0 ≡ getD bs (4 * j) 0) × (lane (packedAt bs j) 1 ≡ getD bs (4 * j + 1) 0) × (lane (packedAt bs j) 2 ≡ getD bs (4 * j + 2) 0) × (lane (packedAt bs j) 3 ≡ getD bs (4 * j + 3) 0)
+            → getD bs (4 * j + k) 0 ≡ lane (packedAt bs j) k
+        pick zero q p = let e : 4 * j + 0 ≡ 4 * j = omega arith in rw e (sym (p .0))
+        pick (suc zero) q p = sym (p .1)
+        pick (suc (suc zero)) q p = sym (p .2)
+        pick (suc (suc (suc zero))) q p = sym (p .3)
+        pick (suc (suc (suc (suc k)))) q p = absurd (omega arith)
 
-    each : (k : ℕ) → k < 32 → getD bs k 0 ≡ lane (getD (bufferWords bs) (k / 4) 0) (k % 4)
+    each : (k : ℕ) → k < 32 → getD bs k 0 ≡ laneAt (bufferWords bs) k
     each k q =
         let e : k ≡ 4 * (k / 4) + k % 4 = omega arith in
-        ap (λ (i : ℕ). getD bs i 0) e ∙ at (k / 4) (k % 4) (omega arith)
-        ∙ ap (λ (w : ℕ). lane w (k % 4)) (sym (listed-at 0 8 (λ j. packed (getD bs (4 * j) 0) (getD bs (4 * j + 1) 0) (getD bs (4 * j + 2) 0) (getD bs (4 * j + 3) 0)) (k / 4) (omega arith)))
+        ap (λ (i : ℕ). getD bs i 0) e ∙ at (k / 4) (k % 4) (omega arith) ∙ ap (λ (w : ℕ). lane w (k % 4)) (sym (listed-at 0 8 (packedAt bs) (k / 4) (omega arith)))
 
 -- ---- the whole state
 

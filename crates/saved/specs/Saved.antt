@@ -155,11 +155,18 @@ packed a b c d = a + b * 65536 + c * 4294967296 + d * 281474976710656
 abbrev pub lane : ℕ → ℕ → ℕ
 lane w k = cond (eqb k 0) (w % 65536) (cond (eqb k 1) (w / 65536 % 65536) (cond (eqb k 2) (w / 4294967296 % 65536) (w / 281474976710656)))
 
+-- word j of the words of a buffer, and word i of the buffer that words say
+abbrev pub packedAt : List ℕ → ℕ → ℕ
+packedAt bs j = packed (getD bs (4 * j) 0) (getD bs (4 * j + 1) 0) (getD bs (4 * j + 2) 0) (getD bs (4 * j + 3) 0)
+
+abbrev pub laneAt : List ℕ → ℕ → ℕ
+laneAt ws i = lane (getD ws (i / 4) 0) (i % 4)
+
 abbrev pub bufferWords : List ℕ → List ℕ
-bufferWords bs = listed 8 (λ j. packed (getD bs (4 * j) 0) (getD bs (4 * j + 1) 0) (getD bs (4 * j + 2) 0) (getD bs (4 * j + 3) 0))
+bufferWords bs = listed 8 (packedAt bs)
 
 abbrev pub bufferIn : List ℕ → List ℕ
-bufferIn ws = listed 32 (λ i. lane (getD (drop 43 ws) (i / 4) 0) (i % 4))
+bufferIn ws = listed 32 (laneAt (drop 43 ws))
 
 -- word 0 the part; 1 to 16 the modes of the banks; 17 to 20 the set-up; 21 to 24 what runs; 25 to 28 the suspended program; 29 to 31 the suspended erase;
 -- 32 to 35 the flags SR5, SR4, SR3, SR1; 36 to 40 the protection words; 41 the configuration register; 42 the supply; 43 to 50 the buffer
