@@ -65,6 +65,10 @@ fn main() -> ExitCode {
     println!("{:42}{columns}", "");
     let mut bench = Bench::new(rounds);
     for workload in workloads() {
+        if workload.loads && !bench.other_takes_loads() {
+            println!("{}: left out, the other library is an older one", workload.name);
+            continue;
+        }
         for &a_call in &workload.calls {
             bench.measure(&workload, a_call);
         }
@@ -86,6 +90,8 @@ struct Workload {
     fill: Option<Range<usize>>,
     /// The words that the list burns, where words a second are printed.
     burned: Option<u32>,
+    /// The list has loads of the write buffer.
+    loads: bool,
 }
 
 /// All steps in one call.
@@ -105,7 +111,10 @@ fn workloads() -> Vec<Workload> {
         list("word programs", programs(), &[ALL, 3, 1]),
         list("programs with a poll", polled_programs(), &[ALL, 4, 1]),
         list("burn of 4 main blocks", burn(), &[ALL]),
-        burned("burn by loads", burn_by_loads(BLOCK), &[ALL, LOAD]),
+        Workload {
+            loads: true,
+            ..burned("burn by loads", burn_by_loads(BLOCK), &[ALL, LOAD])
+        },
         burned("burn by words", burn_by_words(BLOCK), &[ALL, 3]),
         list("mixed list", mixed(), &[ALL, 1]),
         list("erase by single units", slow_erase(), &[ALL]),
@@ -127,6 +136,7 @@ fn list(name: &'static str, steps: Vec<Step>, calls: &[usize]) -> Workload {
         calls: calls.to_vec(),
         fill: None,
         burned: None,
+        loads: false,
     }
 }
 
@@ -240,7 +250,7 @@ enum Player {
     Library([u64; library::STATE_WORDS]),
     Second(Device),
     Plain(Plain),
-    Other([u64; library::STATE_WORDS]),
+    Other(Vec<u64>),
     Fill,
 }
 
@@ -257,16 +267,23 @@ impl Player {
     fn all() -> [Player; 5] {
         let mut state = [0; library::STATE_WORDS];
         library::power_up(PART.number(), &mut state);
-        let mut other_state = [0; library::STATE_WORDS];
-        other::power_up(PART.number(), &mut other_state);
         [
             Player::Library(state),
             Player::Second(Device::power_up(PART.number())),
             Player::Plain(Plain::power_up(PART.number())),
-            Player::Other(other_state),
+            Player::Other(other_power_up()),
             Player::Fill,
         ]
     }
+}
+
+/// The other library's power-up: another version may have another number of
+/// state words, and takes no other.
+fn other_power_up() -> Vec<u64> {
+    (1..=1024)
+        .map(|count| vec![0; count])
+        .find_map(|mut state| (other::power_up(PART.number(), &mut state) == 1).then_some(state))
+        .expect("the other library powers up")
 }
 
 /// A list as the players take it: the second model the steps, the others their
@@ -355,6 +372,13 @@ impl Bench {
         }
         bench.play(&List::new(&list("unprotect", steps, &[]), ALL));
         bench
+    }
+
+    /// A library with fewer state words has no write buffer: it ignores E8h.
+    fn other_takes_loads(&self) -> bool {
+        self.sides.iter().any(|side| {
+            matches!(&side.player, Player::Other(state) if state.len() >= library::STATE_WORDS)
+        })
     }
 
     /// Plays a workload on all sides and prints the row of its ratios. The sides

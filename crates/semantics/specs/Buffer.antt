@@ -9,11 +9,15 @@ use lib.ListN.{length, getD, set, replicate, length-set, length-replicate, getD-
 use lib.Seq.{getD-set-same, getD-set-other}
 use borrow.Author.Tests.{lt-ltb, le-ltb, eqb-true, eqb-false, eq-eqb, ne-eqb}
 use Rattle.semantics.specs.Tabulate.{tabulate, length-tabulate, getD-tabulate, word-tabulate, tabulate-is}
-use Rattle.semantics.specs.State.{emptyBuffer, wordsIn}
+use Rattle.semantics.specs.State.{emptyBuffer}
 use Rattle.semantics.specs.WellFormed.{zeroFrom}
 use Rattle.semantics.specs.Writing.{firstLoaded}
 
 -- ---- the words of a load
+
+-- the first n words of the buffer, as the recorder has them
+unfoldable pub wordsIn : List ℕ → ℕ → List ℕ
+wordsIn bs n = tabulate n (λ i. getD bs i 0xFFFF)
 
 pub words-length : (bs : List ℕ) (n : ℕ) → length (wordsIn bs n) ≡ n
 unfolding wordsIn

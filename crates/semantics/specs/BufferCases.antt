@@ -18,7 +18,7 @@ use Rattle.semantics.specs.declared.SuspendedProgram.the-variants as sus
 use Rattle.semantics.specs.declared.SuspendedErase.{SuspendedErase}
 use Rattle.semantics.specs.declared.SuspendedErase.the-variants as suspended-erase
 use Rattle.semantics.specs.State.{withBuffer}
-use Rattle.semantics.specs.Cases.{_⟶_, Exchange, Case, plays, write, cycles, shows, works, supply, reset, unprotect, program, erase, reads, prepared, bench}
+use Rattle.semantics.specs.Cases.{_⟶_, Exchange, Case, plays, starts, write, cycles, shows, works, supply, reset, unprotect, protect, program, erase, reads, prepared, bench}
 use Rattle.semantics.specs.RefusalCases.{underWay, bad, good}
 
 -- ---- exchanges. Bench bottom: block 0 has the locations 0 to F, block 4 40 to 7F, block 5 80 to BF, all in bank 0, and block 19 400 to 43F, in bank 1
@@ -89,7 +89,7 @@ bufferCases =
     (prepared 0x40 ++ unprotect 0x80 ++ erase 0x40 ++ works 3 3 ++ write 0x40 0xB0 ++ loadOne 0x41 0x1234 ++ shows 0x40 0xD0 ++ write 0x40 0x50 ++ begun 0x80 1 ++ write 0x80 0xF0 ++ write 0x81 0xF1
     ++ write 0x80 0xD0 ++ shows 0x80 0x40 ++ works 1 1 ++ write 0x80 0xB0 ++ shows 0x80 0xC4 ++ write 0x80 0xD0 ++ works 9 1 ++ shows 0x80 0xC0 ++ write 0x80 0xD0 ++ works 65535 61 ++ write 0x40 0xFF
     ++ shows 0x40 0xFFFF ++ shows 0x7F 0xFFFF ++ shows 0x80 0x0000)
-    -- a unit ands, and does one word, the lowest first; K 0 does none
+    -- a unit ands, and does one word, the lowest first; work of 0 does none
     ∷ from 0x0FF0
     (prepared 0x40 ++ begun 0x40 2 ++ write 0x40 0xF0F0 ++ write 0x42 0x3333 ++ write 0x41 0x00FF ++ write 0x40 0xD0 ++ works 0 0 ++ works 1 1 ++ write 0x40 0xB0 ++ write 0x40 0xFF ++ shows 0x40 0x00F0
     ++ shows 0x41 0x0FF0 ++ shows 0x42 0x0FF0 ++ write 0x40 0xD0 ++ works 1 1 ++ write 0x40 0xB0 ++ shows 0x41 0x00F0 ++ shows 0x42 0x0FF0 ++ write 0x40 0xD0 ++ works 65535 1 ++ shows 0x42 0x0330
@@ -169,4 +169,43 @@ bufferCases =
     ∷ bad (loading setup.Nothing none (filled 1 1 31)) ∷ bad (loading setup.Program none (filled 1 1 31)) ∷ bad (loading (setup.BufferCount 4) none (filled 1 1 31)) ∷ bad (loading (setup.BufferFirst 4 2) none (filled 1 1 31))
     ∷ bad (loading (setup.BufferWords 0x40 2 0) none (filled 3 1 29)) ∷ bad (runs 0x40 2 0 none (filled 3 1 29)) ∷ bad (waits 0x40 2 0 none (filled 3 1 29)) ∷ bad (loading setup.Nothing none (replicate 31 0 ++ 1 ∷ []))
     ∷ good (loading (setup.BufferWords 0x40 2 0) none (filled 2 0 30))
+    -- E8h with SR5 and SR4 set, which stay
+    ∷ from 0xFFFF (prepared 0x40 ++ begun 0x40 0x20 ++ shows 0x40 0xB0 ++ loadOne 0x40 0x1234 ++ shows 0x40 0x30 ++ works 1 1 ++ write 0x40 0xFF ++ shows 0x40 0x1234)
+    -- the first word in a block below that of E8h
+    ∷ from 0xFFFF (prepared 0x40 ++ unprotect 0x80 ++ begun 0x80 0 ++ write 0x40 0x1234 ++ shows 0x40 0xB0)
+    -- at D0h supply and protection come before the suspended erase
+    ∷ from 0xFFFF (prepared 0x40 ++ erase 0x40 ++ write 0x40 0xB0 ++ supply false ++ loadOne 0x40 0x1234 ++ shows 0x40 0xD8)
+    ∷ from 0xFFFF (prepared 0x40 ++ erase 0x40 ++ write 0x40 0xB0 ++ protect 0x40 ++ loadOne 0x40 0x1234 ++ shows 0x40 0xD2)
+    -- work, supply steps and refused steps leave the words of a load, and of a buffer program, running or suspended
+    ∷ from 0xFFFF
+    (prepared 0x40 ++ begun 0x40 1 ++ write 0x40 1 ++ works 5 0 ++ (Write 0x1000000 0x1234 ⟶ Refused 3) ∷ supply false ++ supply true ++ write 0x41 2 ++ write 0x40 0xD0 ++ supply false ++ works 1 1
+    ++ write 0x40 0xB0 ++ works 5 0 ++ supply true ++ write 0x40 0xD0 ++ works 5 1 ++ write 0x40 0xFF ++ shows 0x40 1 ++ shows 0x41 2)
+    -- a wrong cycle's flags come beside those that were
+    ∷ from 0xFFFF (supply true ++ program 0x40 0x1234 ++ begun 0x40 0x20 ++ shows 0x40 0xB2)
+    ∷ from 0xFFFF (supply true ++ program 0x40 0x1234 ++ begun 0x40 0 ++ write 0x40 0 ++ write 0x40 0 ++ shows 0x40 0xB2)
+    -- and it is spent: FFh is no command there, as the count, the first word or a later one
+    ∷ from 0xFFFF (begun 0x40 0xFF ++ shows 0x40 0xB0)
+    ∷ from 0xFFFF (begun 0x0 15 ++ write 0x1 0xFF ++ shows 0x0 0xB0)
+    ∷ from 0xFFFF (begun 0x40 1 ++ write 0x40 1 ++ write 0x42 0xFF ++ shows 0x40 0xB0)
+    -- each right cycle puts its bank in status mode: the count, the first word, a later one, D0h
+    ∷ starts (loading (setup.BufferCount 4) none (filled 0 0 32)) (bench 0xFFFF) (write 0x40 0 ++ shows 0x40 0x80)
+    ∷ starts (loading (setup.BufferFirst 4 2) none (filled 0 0 32)) (bench 0xFFFF) (write 0x40 1 ++ shows 0x40 0x80)
+    ∷ starts (loading (setup.BufferWords 0x40 2 1) none (filled 2 1 30)) (bench 0xFFFF) (write 0x41 1 ++ shows 0x40 0x80)
+    ∷ starts (loading (setup.BufferWords 0x40 1 0) none (filled 1 1 31)) (bench 0xFFFF) (write 0x40 0xD0 ++ shows 0x40 0x98)
+    -- the location counts, and not the address: upper address lines are ignored in every cycle
+    ∷ from 0xFFFF
+    (prepared 0x40 ++ begun 0x8040 1 ++ write 0x4040 0x1111 ++ write 0xFFC041 0x2222 ++ write 0x4040 0xD0 ++ works 9 2 ++ write 0x40 0xFF ++ shows 0x40 0x1111 ++ shows 0x41 0x2222)
+    -- the lowest location first on a top part too
+    ∷ plays BenchTop (bench 0xFFFF)
+    (prepared 0x0 ++ begun 0x0 1 ++ write 0x0 1 ++ write 0x1 2 ++ write 0x0 0xD0 ++ works 1 1 ++ write 0x0 0xB0 ++ write 0x0 0xFF ++ shows 0x0 1 ++ shows 0x1 0xFFFF)
+    -- the bank of a buffer program at the end of its bank, and at the start of the next
+    ∷ from 0xFFFF (prepared 0x3FF ++ loadOne 0x3FF 0x1234 ++ shows 0x3FF 0x00)
+    ∷ from 0xFFFF (prepared 0x400 ++ loadOne 0x400 0x1234 ++ shows 0x400 0x00)
+    -- a small block ends at its own size
+    ∷ good (runs 0xE 2 0 none (filled 2 1 30)) ∷ bad (runs 0xF 2 0 none (filled 2 1 30))
+    -- spare places are 0 beside everything else that may be pending, run or be suspended
+    ∷ bad (loading setup.Erase none (filled 1 1 31)) ∷ bad (loading setup.Lock none (filled 1 1 31))
+    ∷ bad (withBuffer (underWay BenchBottom setup.Nothing (running.Program 0x40 1) suspended-program.Nothing none) (filled 1 1 31))
+    ∷ bad (withBuffer (underWay BenchBottom setup.Nothing (running.Erase 4 0) suspended-program.Nothing none) (filled 1 1 31))
+    ∷ bad (withBuffer (underWay BenchBottom setup.Nothing running.Idle (suspended-program.Program 0x40 1) none) (filled 1 1 31))
     ∷ []

@@ -12,6 +12,7 @@ use Rattle.geometry.specs.declared.Geometry.{Geometry}
 use Rattle.geometry.specs.Blocks.{geometryOf, words, location, blockOf}
 use Rattle.semantics.specs.declared.Step.{Step}
 use Rattle.semantics.specs.declared.Step.the-variants.{Read, Write, Work, Supply, Reset}
+use Rattle.semantics.specs.Numbers.{within}
 use Rattle.semantics.specs.Entries.{Entry, entry}
 use Rattle.semantics.specs.Recorder.{Operation, program, erase, buffer, Setup, program-setup, erase-setup, lock-setup, words-setup, accept, blockIn, Recorder, beginning, recorded, recordedAll, journalOf, event, applied}
 
@@ -46,10 +47,16 @@ module _ (g : Geometry) where
 
   -- a write of w to address a is the cycle that an operation is accepted at, after its set-up: of a program with its data at its location, of an erase with D0h in its block, of
   -- a buffer program with D0h in its block, after all its words
-  abbrev pub SecondCycle : Setup → ℕ → ℕ → Operation → Type 0
-  SecondCycle p a w (program l d) = (a < 16777216) × (p ≡ program-setup) × (location g a ≡ l) × (w ≡ d)
-  SecondCycle p a w (erase b) = (a < 16777216) × (p ≡ erase-setup) × (w % 256 ≡ 0xD0) × (blockOf g (location g a) ≡ b)
-  SecondCycle p a w (buffer l ws) = (a < 16777216) × (p ≡ words-setup l ws 0) × (w % 256 ≡ 0xD0) × (blockOf g (location g a) ≡ blockOf g l)
+  abbrev pub AcceptingCycle : Setup → ℕ → ℕ → Operation → Type 0
+  AcceptingCycle p a w (program l d) = (a < 16777216) × (p ≡ program-setup) × (location g a ≡ l) × (w ≡ d)
+  AcceptingCycle p a w (erase b) = (a < 16777216) × (p ≡ erase-setup) × (w % 256 ≡ 0xD0) × (blockOf g (location g a) ≡ b)
+  AcceptingCycle p a w (buffer l ws) = (a < 16777216) × (p ≡ words-setup l ws 0) × (w % 256 ≡ 0xD0) × (blockOf g (location g a) ≡ blockOf g l)
+
+  -- the words that an operation covers
+  abbrev pub Covers : Operation → ℕ → Type 0
+  Covers (program l w) L = L ≡ l
+  Covers (erase b) L = blockOf g L ≡ b
+  Covers (buffer l ws) L = within l (length ws) L ≡ true
 
   abbrev pub operation-of : Entry Operation → Operation
   operation-of (entry k u t) = k
@@ -74,7 +81,7 @@ module _ (g : Geometry) where
 -- ---- the claim
 
 -- "An entry stands only where, at its acceptance, supply was on and the last protection command for its block since power-up or reset had opened it.": entry n of
--- the journal, which is of the operation k, stands. The steps are those before its acceptance, the write that is its second cycle, and those after; when it came
+-- the journal, which is of the operation k, stands. The steps are those before its acceptance, the write that is its accepting cycle, and those after; when it came
 -- the journal had n entries. Which set-up was pending at a step is the recorder's, which has it from the steps before alone
 pub record Stands (g : Geometry) (k : Operation) (n : ℕ) (l : List Step) : Type 0 where
   pub before : List Step
@@ -82,7 +89,7 @@ pub record Stands (g : Geometry) (k : Operation) (n : ℕ) (l : List Step) : Typ
   pub word : ℕ
   pub later : List Step
   pub whole : l ≡ before ++ (Write address word ∷ later)
-  pub second-cycle : SecondCycle g (recordedAll g beginning before .conditions .setup) address word k
+  pub accepting-cycle : AcceptingCycle g (recordedAll g beginning before .conditions .setup) address word k
   pub accepts : event g (Write address word) (recordedAll g beginning before) ≡ accept k
   pub place : length (recordedAll g beginning before .journal) ≡ n
   pub supply-on : SupplyOn before
@@ -94,5 +101,7 @@ pub record Demand3 (p : Part) (l : List Step) (xs ys : List ℕ) : Type 0 where
   pub length-same : length ys ≡ length xs
   -- every word is the word at the start with the journal of the list applied in order of acceptance
   pub word : (L : ℕ) → L < words (geometryOf p) → getD ys L 0 ≡ applied (geometryOf p) (journalOf (geometryOf p) l) L (getD xs L 0)
-  -- and every entry of the journal stands
+  -- every entry of the journal covers words of its block alone
+  pub in-block : (k : Operation) (n : ℕ) → Holds (geometryOf p) k n (journalOf (geometryOf p) l) → (L : ℕ) → Covers (geometryOf p) k L → blockOf (geometryOf p) L ≡ blockIn (geometryOf p) k
+  -- and stands
   pub stands : (k : Operation) (n : ℕ) → Holds (geometryOf p) k n (journalOf (geometryOf p) l) → Stands (geometryOf p) k n l

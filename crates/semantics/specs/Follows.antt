@@ -36,8 +36,8 @@ use Rattle.semantics.specs.Numbers.{within, within-in, within-out, withi
 use Rattle.semantics.specs.declared.Place.{Place}
 use Rattle.semantics.specs.declared.View.{View}
 use Rattle.semantics.specs.State as state
-use Rattle.semantics.specs.State.{activity, withBuffer, runs, programSuspended, eraseSuspended, wordsIn, emptyBuffer}
-use Rattle.semantics.specs.Buffer.{words-length, words-word, words-first, words-later}
+use Rattle.semantics.specs.State.{activity, withBuffer, runs, programSuspended, eraseSuspended, emptyBuffer}
+use Rattle.semantics.specs.Buffer.{wordsIn, words-length, words-word, words-first, words-later}
 use Rattle.semantics.specs.View.{placeOf, viewAt, withView, withActivity}
 use Rattle.semantics.specs.WellFormed.{erasing}
 use Rattle.semantics.specs.Writing as writing

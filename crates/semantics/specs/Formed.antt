@@ -20,7 +20,7 @@ use Rattle.semantics.specs.declared.SuspendedProgram.the-variants as pro
 use Rattle.semantics.specs.declared.SuspendedErase.{SuspendedErase}
 use Rattle.semantics.specs.declared.SuspendedErase.the-variants as erase
 use Rattle.semantics.specs.Layout.{inside, only, fits}
-use Rattle.semantics.specs.State.{activity, runs, programSuspended, eraseSuspended, wordsIn}
+use Rattle.semantics.specs.State.{activity, runs, programSuspended, eraseSuspended}
 use Rattle.semantics.specs.WellFormed.{implies, pending, isEraseSetup, isErase, erasing, runningAlone, programAlone, eraseAlone, eraseFits, wordsFit, bufferFits, setupFits, runningFits, programFits, suspendedEraseFits, allFit, runningApart, programApart, apart, activityFormed}
 use Rattle.semantics.specs.Entries as entries
 use Rattle.semantics.specs.Entries.{Entry, entry, Live, live}
@@ -28,7 +28,7 @@ use Rattle.semantics.specs.Recorder as recorder
 use Rattle.semantics.specs.Recorder.{Operation, Conditions, base, len, put, kinds, isProgram, isAny}
 use Rattle.semantics.specs.Engine.{Engine, busy, stack, held?, Spans, Ready, Order, Inside, Lying, Sim, Matches, buffer-in, and-true-l, and-true-r, not-true, or-false-l}
 use Rattle.semantics.specs.Follows.{setupOf, addErase, addProgram, addRunning, underWayOf, under-way-program, under-way-any, Together, Lacking}
-use Rattle.semantics.specs.Buffer.{words-length}
+use Rattle.semantics.specs.Buffer.{wordsIn, words-length}
 
 and-both : {a b : Bool} → a ≡ true → b ≡ true → (a && b) ≡ true
 and-both p q = rw (p, q)

@@ -25,7 +25,7 @@ use Rattle.semantics.specs.Entries.{Entry, entry, Phase, running, suspen
 use Rattle.semantics.specs.Recorder.{Operation, program, erase, buffer, Setup, no-setup, program-setup, erase-setup, lock-setup, count-setup, first-setup, words-setup, Event, nothing, supplied, was-reset, units, suspend, resume-program, resume-erase, setup-is, unprotected-is, accept}
 use Rattle.semantics.specs.Recorder.{Conditions, conditions-after, rule, base, len, put, kinds, isProgram, isErase, isAny, blockIn, Recorder, beginning, recorded, recordedAll, journalOf, event, journal-after, first-cycle, confirm-cycle, cycle, acceptable}
 use Rattle.semantics.specs.Recorder.{Command, commandOf, suspend-command, resume-command, program-command, lock-command, erase-command, buffer-command, other-command}
-use Rattle.semantics.specs.Demand.{NoSupply, SupplyOn, protectionCode, ProtectionCommand, SecondCycle, operation-of, Holds, Undisturbed, LastUnprotected, at-this, at-later, Stands, Demand3}
+use Rattle.semantics.specs.Demand.{NoSupply, SupplyOn, protectionCode, ProtectionCommand, AcceptingCycle, Covers, operation-of, Holds, Undisturbed, LastUnprotected, at-this, at-later, Stands, Demand3}
 use Rattle.semantics.specs.Engine.{and-true-l, and-true-r, Lies, InK, buffer-in, Lying, Matches, After}
 use Rattle.semantics.specs.Theorem.{demand-3, reached, reached-length}
 
@@ -36,7 +36,7 @@ bit w i = w / 2 ^ i % 2
 module _ (g : Geometry) where
   abbrev OperationCommand : Operation → Setup → Step → Type 0
   OperationCommand k p (Read a) = ⊥
-  OperationCommand k p (Write a w) = SecondCycle g p a w k
+  OperationCommand k p (Write a w) = AcceptingCycle g p a w k
   OperationCommand k p (Work n) = ⊥
   OperationCommand k p (Supply on) = ⊥
   OperationCommand k p Reset = ⊥
@@ -249,6 +249,16 @@ module _ (g : Geometry) where
   lies-in sound (program l d) x L i = ap (λ (z : ℕ). blockOf g z) (omega arith)
   lies-in sound (erase b) x L i = only g sound b L (i .0) (i .1)
   lies-in sound (buffer l ws) x L i = buffer-in g sound l ws x L i
+
+  covers-in : Sound g → (k : Operation) → Lies g k → (L : ℕ) → Covers g k L → blockOf g L ≡ blockIn g k
+  covers-in sound (program l d) x L e = ap (blockOf g) e
+  covers-in sound (erase b) x L e = e
+  covers-in sound (buffer l ws) x L e = buffer-in g sound l ws x L (within-true l (length ws) L e)
+
+  lying-holds : (k : Operation) (n : ℕ) (j : List (Entry Operation)) → Lying g j → Holds g k n j → Lies g k
+  lying-holds k n [] x h = absurd h
+  lying-holds k n (entry i u t ∷ j) x (inl h) = subst (λ (o : Operation). Lies g o) (sym (h .0)) (x .0)
+  lying-holds k n (entry i u t ∷ j) x (inr h) = lying-holds k n j (x .1) h
 
   module _ (sound : Sound g) (L w : ℕ) where
     -- an entry of another block leaves the word
@@ -530,7 +540,7 @@ every-entry-stands g k n l h = go (split g k n beginning l (stands₀ g k n l h)
       word = w;
       later = r .later;
       whole = r .whole ∙ ap (λ (x : Step). r .before ++ (x ∷ r .later)) e;
-      second-cycle = subst (λ x. OperationCommand g k (recordedAll g beginning (r .before) .conditions .setup) x) e (r .command);
+      accepting-cycle = subst (λ x. OperationCommand g k (recordedAll g beginning (r .before) .conditions .setup) x) e (r .command);
       accepts = ap (λ (x : Step). event g x (recordedAll g beginning (r .before))) (sym e) ∙ r .accepts;
       place = r .place;
       supply-on = on (r .before) (supply-since g (r .before) beginning (r .supply-on));
@@ -549,6 +559,7 @@ pub demand-3-whole : (p : Part) (l : List Step) (xs : List ℕ) → length xs �
 demand-3-whole p l xs h = record {
   length-same = reached-length p l xs h ∙ sym h;
   word = demand-3 p l xs h;
+  in-block = λ k n x L c. covers-in (geometryOf p) (laws.sound p) k (lying-holds (geometryOf p) k n (journalOf (geometryOf p) l) (reached p l xs h .sim .lying) x) L c;
   stands = λ k n. every-entry-stands (geometryOf p) k n l;
 }
 

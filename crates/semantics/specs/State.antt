@@ -8,7 +8,6 @@ use Rattle.geometry.specs.declared.Part.{Part}
 use Rattle.geometry.specs.declared.Geometry.{Geometry}
 use Rattle.geometry.specs.Blocks.{geometryOf}
 use Rattle.protection.specs.Words.{allProtected}
-use Rattle.semantics.specs.Tabulate.{tabulate}
 use Rattle.semantics.specs.declared.Mode.{Mode}
 use Rattle.semantics.specs.declared.Mode.the-variants.{Array}
 use Rattle.semantics.specs.declared.Bank.{Bank}
@@ -101,10 +100,6 @@ eraseSuspended (erase.Erase b n) = true
 -- nothing in it
 unfoldable pub emptyBuffer : List ℕ
 emptyBuffer = replicate 32 0
-
--- the first n of its words
-unfoldable pub wordsIn : List ℕ → ℕ → List ℕ
-wordsIn bs n = tabulate n (λ i. getD bs i 0xFFFF)
 
 -- ---- flags
 

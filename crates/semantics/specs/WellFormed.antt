@@ -69,16 +69,20 @@ eraseAlone a = implies (eraseSuspended (a .erase)) (not (isErase (a .running)) &
 unfoldable pub eraseFits : Geometry → ℕ → ℕ → Bool
 eraseFits g b n = ltb b (blocks g) && ltb n (sizeOf g b)
 
+-- n words from location l on end within block b
+abbrev pub staysIn : Geometry → ℕ → ℕ → ℕ → Bool
+staysIn g b l n = leb (l + n) (startOf g b + sizeOf g b)
+
 -- document 02, item 1: "whose words lie in one block": n words from location l on; and the buffer holds them, "up to 32 words at once"
 unfoldable pub wordsFit : Geometry → ℕ → ℕ → Bool
-wordsFit g l n = ltb l (words g) && (leb (l + n) (startOf g (blockOf g l) + sizeOf g (blockOf g l)) && leb n 32)
+wordsFit g l n = ltb l (words g) && (staysIn g (blockOf g l) l n && leb n 32)
 
 -- "and are more than it has done"
 unfoldable pub bufferFits : Geometry → ℕ → ℕ → ℕ → Bool
 bufferFits g l n d = wordsFit g l n && ltb d n
 
--- "a load half done": its block is of the part, its number of words is one that a count can name, and from the first word on they lie in one block, and more of
--- them are named than cycles are due. Before the first word they need not fit the block: that is tested there
+-- "a load half done": its block is of the part, its number of words is one that a count can name, and from the first word on they lie in one block, and are more than
+-- the data cycles that are still due. Before the first word they need not fit the block: that is tested there
 unfoldable pub setupFits : Geometry → Setup → Bool
 setupFits g setup.Nothing = true
 setupFits g setup.Program = true

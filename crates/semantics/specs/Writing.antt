@@ -7,7 +7,7 @@ use mathlib.Core.List.{List}
 use lib.Dec.{ltb, leb, eqb}
 use lib.ListN.{set}
 use Rattle.geometry.specs.declared.Geometry.{Geometry}
-use Rattle.geometry.specs.Blocks.{blockOf, startOf, sizeOf}
+use Rattle.geometry.specs.Blocks.{blockOf}
 use Rattle.semantics.specs.declared.Mode.the-variants.{Array, Status, Signature, Query}
 use Rattle.semantics.specs.declared.Setup.{Setup}
 use Rattle.semantics.specs.declared.Setup.the-variants as setup
@@ -29,7 +29,7 @@ use Rattle.semantics.specs.State.{geometry, activity, withSetup, withRun
 use Rattle.semantics.specs.View.{placeOf, viewAt, withView, withActivity, withFlags, withConfiguration, withMode, withProtection, raise}
 use Rattle.semantics.specs.Numbers.{within}
 use Rattle.semantics.specs.Tabulate.{tabulate}
-use Rattle.semantics.specs.WellFormed.{erasing}
+use Rattle.semantics.specs.WellFormed.{erasing, staysIn}
 
 -- ---- the first cycle: "The command is data modulo 256. With no set-up pending:"
 
@@ -69,14 +69,18 @@ resumed a (program.Buffer l n d) = activity (a .setup) (running.Buffer l n d) pr
 unfoldable pub resume : Activity → Activity
 resume a = cond (runs (a .running)) a (resumed a (a .program))
 
+-- "nothing running, no program suspended"
+abbrev pub programFree : Activity → Bool
+programFree a = not (runs (a .running)) && not (programSuspended (a .program))
+
 -- "10h or 40h (program set-up) and 60h (lock set-up): nothing running, no program suspended. 20h (erase set-up): nothing running or suspended." Document 02, item 1: "E8h is
 -- taken when 40h is, whatever the flags"; the further cycles of a load are no set-up of their own
 unfoldable pub accepts : Activity → Setup → Bool
 accepts a setup.Nothing = false
-accepts a setup.Program = not (runs (a .running)) && not (programSuspended (a .program))
+accepts a setup.Program = programFree a
 accepts a setup.Erase = not (runs (a .running)) && (not (programSuspended (a .program)) && not (eraseSuspended (a .erase)))
-accepts a setup.Lock = not (runs (a .running)) && not (programSuspended (a .program))
-accepts a (setup.BufferCount b) = not (runs (a .running)) && not (programSuspended (a .program))
+accepts a setup.Lock = programFree a
+accepts a (setup.BufferCount b) = programFree a
 accepts a (setup.BufferFirst b n) = false
 accepts a (setup.BufferWords l n k) = false
 
@@ -149,9 +153,13 @@ settle v = pend v setup.Nothing
 -- looked at before it is confirmed
 
 -- document 01, "Rules that added parts share": "A command of more than two cycles ends at its first wrong cycle with SR5 and SR4; each of its cycles marks its bank as a second cycle
--- does": goes on as x where the cycle is right
+-- does"
+abbrev pub wrong : View → View
+wrong v = raise (settle v) (flagsOf true true false false)
+
+-- the load goes on as x where the cycle is right
 unfoldable pub loads : Bool → View → Setup → View
-loads right v x = cond right (pend v x) (raise (settle v) (flagsOf true true false false))
+loads right v x = cond right (pend v x) (wrong v)
 
 -- section 4.9: the count goes to the same block. "A count word above 31 is a wrong cycle": the whole word, number of words less one
 unfoldable pub countRight : ℕ → Place → ℕ → Bool
@@ -159,7 +167,7 @@ countRight b p w = eqb (p .block) b && leb w 31
 
 -- section 4.9: all addresses lie in one block. "and so is a first word from which so many would leave its block": n words from the place on
 unfoldable pub firstRight : Geometry → ℕ → ℕ → Place → Bool
-firstRight g b n p = eqb (p .block) b && leb (p .location + n) (startOf g b + sizeOf g b)
+firstRight g b n p = eqb (p .block) b && staysIn g b (p .location) n
 
 -- section 4.9: every address lies in the range of the words, which begins at the location of the first
 unfoldable pub laterRight : ℕ → ℕ → Place → Bool
@@ -172,7 +180,7 @@ confirmRight g l p w = eqb (w % 256) 0xD0 && eqb (p .block) (blockOf g l)
 -- "at D0h, supply, protection and suspended erase are tested as for a program": a buffer program runs with no word done
 unfoldable pub confirmCycle : Geometry → View → ℕ → ℕ → Place → ℕ → View
 confirmCycle g v l n p w =
-    cond (confirmRight g l p w) (programRuns (settle v) p (running.Buffer l n 0)) (raise (settle v) (flagsOf true true false false))
+    cond (confirmRight g l p w) (programRuns (settle v) p (running.Buffer l n 0)) (wrong v)
 
 -- the cycles after the first data cycle: so many are due before the confirming one
 unfoldable pub wordsCycle : Geometry → View → ℕ → ℕ → ℕ → Place → ℕ → View
@@ -192,15 +200,15 @@ cycle g v (setup.BufferWords l n due) p w = wordsCycle g v l n due p w
 
 -- ---- the buffer
 
--- the buffer stays where its words are still wanted, and else is empty
+-- the buffer stays where its words are still in use, and else is empty
 unfoldable pub keptIf : Bool → List ℕ → List ℕ
-keptIf wanted bs = cond wanted bs emptyBuffer
+keptIf used bs = cond used bs emptyBuffer
 
 -- "a word given none takes FFFFh": n words, the first of which is w, and 0 in the spare places
 unfoldable pub firstLoaded : ℕ → ℕ → List ℕ
 firstLoaded n w = tabulate 32 (λ i. cond (eqb i 0) w (cond (ltb i n) 0xFFFF 0))
 
--- "of two data for one word the later counts". Where the load is confirmed, the words are wanted as long as what runs after the cycle, r, runs
+-- "of two data for one word the later counts". Where the load is confirmed, its words are in use after the cycle where something, r, runs then
 unfoldable pub wordsLoaded : ℕ → ℕ → ℕ → Place → ℕ → Running → List ℕ → List ℕ
 wordsLoaded l n due p w r bs = cond (eqb due 0) (keptIf (runs r) bs) (keptIf (laterRight l n p) (set bs (p .location - l) w))
 

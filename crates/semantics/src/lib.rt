@@ -89,7 +89,8 @@ pub struct Place {
     pub block: u32,
 }
 
-// What a read or a write at a place sees of a state, and a write may change: of the modes that of the addressed bank, of the protection that of the addressed block.
+// What a read or a write at a place sees of a state, and a write may change: of the modes that of the addressed bank, of the protection that of the addressed block. The
+// buffer, which only the cycles of a load change, is not among it.
 pub struct View {
     pub mode: Mode,
     pub unprotected: bool,
