@@ -1,5 +1,5 @@
 // The 32 words of the write buffer (document 02, item 1): empty, loaded word by word, kept or emptied, and the test of its spare places.
-// Every function takes any words and any number. When a word is loaded or wanted is not said here.
+// Every function takes any words and any number. When a word is loaded, or in use, is not said here.
 ghost use mathlib.Core.Path.{_≡_};
 ghost use mathlib.Core.Bool.{cond};
 ghost use lib.Dec.{ltb, eqb};
@@ -38,11 +38,11 @@ pub fn zero_from(words: [u16; 32], n: u64) -> bool
     zero_after(words, n as usize)
 }
 
-// The words stay where they are wanted, and else are all 0.
-pub fn keep_if(words: &mut [u16; 32], wanted: bool)
-    ensures { λ _. ⌜ now (words .exit) ≡ keptIf wanted (now (words .entry)) ⌝ }
+// The words stay where they are in use, and else are all 0.
+pub fn keep_if(words: &mut [u16; 32], used: bool)
+    ensures { λ _. ⌜ now (words .exit) ≡ keptIf used (now (words .entry)) ⌝ }
 {
-    if wanted {
+    if used {
         return;
     }
     *words = empty();

@@ -267,7 +267,7 @@ fn erase_fits(part: Part, block: u32, done: u32) -> bool
 }
 
 // Words from a location on: they lie in one block of the part, and the buffer holds so many. Compared in 64 bits: the sum may not fit.
-pub fn words_fit(part: Part, start: u32, words: u32) -> bool
+fn words_fit(part: Part, start: u32, words: u32) -> bool
     ensures { λ r. ⌜ r ≡ wordsFit (geometryOf part) start words ⌝ }
 {
     let block = geometry::block_of(part, start);

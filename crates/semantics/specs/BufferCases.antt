@@ -6,14 +6,12 @@ use mathlib.Core.Bool.{true, false}
 use mathlib.Core.List.{List, [], _∷_, _++_}
 use lib.ListN.{replicate}
 use Rattle.geometry.specs.declared.Part.the-variants.{BenchBottom, BenchTop}
-use Rattle.semantics.specs.declared.Step.the-variants.{Read, Write, Work, Supply, Reset}
-use Rattle.semantics.specs.declared.Answer.the-variants.{Word, Units, Done, Refused}
+use Rattle.semantics.specs.declared.Step.the-variants.{Write}
+use Rattle.semantics.specs.declared.Answer.the-variants.{Refused}
 use Rattle.semantics.specs.declared.State.{State}
 use Rattle.semantics.specs.declared.Setup.{Setup}
 use Rattle.semantics.specs.declared.Setup.the-variants as setup
-use Rattle.semantics.specs.declared.Running.{Running}
 use Rattle.semantics.specs.declared.Running.the-variants as running
-use Rattle.semantics.specs.declared.SuspendedProgram.{SuspendedProgram}
 use Rattle.semantics.specs.declared.SuspendedProgram.the-variants as suspended-program
 use Rattle.semantics.specs.declared.SuspendedErase.{SuspendedErase}
 use Rattle.semantics.specs.declared.SuspendedErase.the-variants as suspended-erase

@@ -1,12 +1,12 @@
 -- "Spare storage, if any, is zero": no step leaves a word in a place of the buffer that is not in use.
 -- Assumes nothing.
-use mathlib.Core.Path.{_≡_, refl, sym, ap, _∙_, subst}
+use mathlib.Core.Path.{_≡_, refl, ap, _∙_}
 use mathlib.Core.List.{List}
-use mathlib.Core.Bool.{Bool, true, false, cond, not, _&&_, true≢false, false≢true}
-use Prim.Native.Nat.{ℕ, _+_, _-_, _≤_, _<_, _%_}
+use mathlib.Core.Bool.{Bool, true, false, cond, not, true≢false}
+use Prim.Native.Nat.{ℕ, _+_, _-_, _%_}
 use native.Mathlib.Omega.{arith}
 use lib.Dec.{ltb, eqb}
-use lib.ListN.{length, set, length-set, length-replicate}
+use lib.ListN.{length, set, length-set}
 use Rattle.geometry.specs.declared.Geometry.{Geometry}
 use Rattle.geometry.specs.Blocks.{sizeOf}
 use Rattle.semantics.specs.declared.Setup.{Setup}
@@ -31,8 +31,8 @@ use Rattle.semantics.specs.State as state
 use Rattle.semantics.specs.State.{activity, runs, emptyBuffer, noFlags}
 use Rattle.semantics.specs.View.{viewAt, withActivity, withFlags}
 use Rattle.semantics.specs.WellFormed.{erasing, setupPlaces, runningPlaces, programPlaces, placesUsed, zeroFrom}
-use Rattle.semantics.specs.Writing.{commandOf, suspended, resume, pend, setUp, accepts, clearStatus, firstCycle, programRuns, programCycle, eraseCycle, lockCommandOf, lockCycle, settle, loads, countRight, firstRight, laterRight, confirmRight, confirmCycle, wordsCycle, cycle, keptIf, firstLoaded, wordsLoaded, loaded, cycleAt, loadedAt, writtenAt}
-use Rattle.semantics.specs.Working.{unitsDone, runningAfter, bufferAfter}
+use Rattle.semantics.specs.Writing.{commandOf, suspended, resume, pend, setUp, accepts, clearStatus, firstCycle, programRuns, programCycle, eraseCycle, lockCommandOf, lockCycle, settle, loads, countRight, firstRight, laterRight, confirmRight, confirmCycle, wordsCycle, cycle, keptIf, firstLoaded, wordsLoaded, loaded, writtenAt}
+use Rattle.semantics.specs.Working.{runningAfter, bufferAfter}
 use Rattle.semantics.specs.Recorder.{isProgram}
 use Rattle.semantics.specs.Engine.{held?, Ready}
 use Rattle.semantics.specs.Buffer.{zero-empty, zero-set, zero-first}

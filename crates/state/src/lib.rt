@@ -17,31 +17,17 @@ use semantics::View;
 ghost use mathlib.Core.Path.{_≡_};
 ghost use Prim.Native.Nat.{_<_};
 ghost use Rattle.geometry.specs.Blocks.{geometryOf};
-ghost use Rattle.semantics.specs.State.{withControl, withProtection, withBuffer, withSupply, modeIn, flagsOf, noFlags, joined, powerUp};
+ghost use Rattle.semantics.specs.State.{withProtection, withSupply, modeIn, flagsOf, noFlags, joined, powerUp};
 ghost use Rattle.semantics.specs.View.{placeOf, viewAt, withView};
 ghost use Rattle.semantics.specs.WellFormed.{wellFormed};
 ghost use Rattle.semantics.specs.Steps.{stateRefusal, addressRefusal, countRefusal, stepRefusal, firstRefusal};
 
 // ---- one field changed
 
-pub fn with_control(mut s: State, x: Control) -> State
-    ensures { λ r. ⌜ r ≡ withControl s x ⌝ }
-{
-    s.control = x;
-    s
-}
-
 pub fn with_protection(mut s: State, x: [u64; 5]) -> State
     ensures { λ r. ⌜ r ≡ withProtection s x ⌝ }
 {
     s.unprotected = x;
-    s
-}
-
-pub fn with_buffer(mut s: State, x: [u16; 32]) -> State
-    ensures { λ r. ⌜ r ≡ withBuffer s x ⌝ }
-{
-    s.buffer = x;
     s
 }
 

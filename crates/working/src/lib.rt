@@ -91,7 +91,7 @@ pub fn work(part: Part, mut c: Control, buffer: &mut [u16; 32], array: &mut [u16
     Worked { control: c, units }
 }
 
-// The buffer after work on what ran: a buffer program's words are wanted as long as it runs.
+// The buffer after work on what ran: a buffer program's words are in use as long as it runs.
 fn release(buffer: &mut [u16; 32], before: Running, after: Running)
     ensures { λ _. ⌜ now (buffer .exit) ≡ bufferAfter before after (now (buffer .entry)) ⌝ }
 {
