@@ -1,4 +1,4 @@
-// What is under way on a device: the tests of it, its changes, and the units that it does. Each function takes every value, well formed or not.
+// What is under way on a device: the tests of it, and its changes. Each function takes every value, well formed or not.
 use geometry::Part;
 use semantics::Activity;
 use semantics::Running;
@@ -6,13 +6,12 @@ use semantics::Setup;
 use semantics::SuspendedErase;
 use semantics::SuspendedProgram;
 ghost use mathlib.Core.Path.{_≡_};
-ghost use Prim.Native.Nat.{_-_, _≤_};
 ghost use Rattle.geometry.specs.Blocks.{geometryOf};
 ghost use Rattle.semantics.specs.State.{withSetup, withRunning, runs, programSuspended, eraseSuspended};
 ghost use Rattle.semantics.specs.WellFormed.{pending, isEraseSetup, isErase, erasing, runningAlone, programAlone, eraseAlone, eraseFits, wordsFit, bufferFits, setupFits, runningFits, programFits, suspendedEraseFits, allFit, runningApart, programApart, apart, activityFormed, setupPlaces, runningPlaces, programPlaces, placesUsed};
 ghost use Rattle.semantics.specs.Reading.{runsIn};
 ghost use Rattle.semantics.specs.Writing.{suspended, resumedErase, resumed, resume, accepts};
-ghost use Rattle.semantics.specs.Working.{unitsLeft, unitsDone, runningAfter};
+ghost use Rattle.operation.specs.Rest.{isLoad, atRest};
 
 // ---- tests of one part of it
 
@@ -391,6 +390,34 @@ pub fn activity_formed(part: Part, a: Activity) -> bool
     running_alone(a) & (program_alone(a) & (erase_alone(a) & (all_fit(part, a) & apart(part, a))))
 }
 
+// ---- when that needs no further test
+
+// A load stands.
+fn is_load(s: Setup) -> bool
+    ensures { λ r. ⌜ r ≡ isLoad s ⌝ }
+{
+    match s {
+        Setup::Nothing => false,
+        Setup::Program => false,
+        Setup::Erase => false,
+        Setup::Lock => false,
+        Setup::BufferCount { .. } => true,
+        Setup::BufferFirst { .. } => true,
+        Setup::BufferWords { .. } => true,
+    }
+}
+
+// Nothing runs, is suspended or is loaded: so it is well formed and uses no place of the buffer. Nearly every call of one step finds it so, and is told by four tests.
+pub fn at_rest(a: Activity) -> bool
+    ensures { λ r. ⌜ r ≡ atRest a ⌝ }
+{
+    let setup = a.setup;
+    let running = a.running;
+    let program = a.program;
+    let erase = a.erase;
+    !is_load(setup) & (!runs(running) & (!program_suspended(program) & !erase_suspended(erase)))
+}
+
 // ---- the places of the buffer that it uses
 
 fn setup_places(s: Setup) -> u32
@@ -450,7 +477,7 @@ pub fn places_used(a: Activity) -> u64
     setup_places(setup) as u64 + (running_places(running) as u64 + program_places(program) as u64)
 }
 
-// ---- where it runs, and its units
+// ---- where it runs
 
 // What runs is in this bank.
 pub fn runs_in(part: Part, r: Running, bank: u32) -> bool
@@ -465,69 +492,5 @@ pub fn runs_in(part: Part, r: Running, bank: u32) -> bool
             words: _,
             done: _,
         } => geometry::bank_of(part, start) == bank,
-    }
-}
-
-// The difference, and 0 where b is the larger.
-fn less(a: u32, b: u32) -> u32
-    ensures { λ r. ⌜ r ≡ a - b ⌝ }
-{
-    if b < a { a - b } else { 0 }
-}
-
-// The units that are left.
-fn units_left(part: Part, r: Running) -> u32
-    ensures { λ x. ⌜ x ≡ unitsLeft (geometryOf part) r ⌝ }
-{
-    match r {
-        Running::Idle => 0,
-        Running::Program { .. } => 1,
-        Running::Erase { block, done } => less(geometry::block_size(part, block), done),
-        Running::Buffer {
-            start: _,
-            words,
-            done,
-        } => less(words, done),
-    }
-}
-
-// The units that are done of n.
-pub fn units_done(part: Part, r: Running, n: u32) -> u32
-    ensures { λ x. ⌜ x ≡ unitsDone (geometryOf part) r n ⌝ }
-    ensures limit { λ x. ⌜ x ≤ n ⌝ }
-{
-    let left = units_left(part, r);
-    if n < left { n } else { left }
-}
-
-// What runs after m units.
-pub fn running_after(part: Part, r: Running, m: u32) -> Running
-    ensures { λ x. ⌜ x ≡ runningAfter (geometryOf part) r m ⌝ }
-{
-    match r {
-        Running::Idle => r,
-        Running::Program { .. } => { if m < 1 { r } else { Running::Idle } }
-        // done + m is compared as a difference: the sum may not fit.
-        Running::Erase { block, done } => {
-            if m < less(geometry::block_size(part, block), done) {
-                Running::Erase {
-                    block,
-                    done: done + m,
-                }
-            } else {
-                Running::Idle
-            }
-        }
-        Running::Buffer { start, words, done } => {
-            if m < less(words, done) {
-                Running::Buffer {
-                    start,
-                    words,
-                    done: done + m,
-                }
-            } else {
-                Running::Idle
-            }
-        }
     }
 }

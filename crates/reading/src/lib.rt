@@ -11,7 +11,7 @@ ghost use mathlib.Core.Path.{_≡_};
 ghost use Prim.Native.Nat.{_≤_};
 ghost use lib.ListN.{getD};
 ghost use Rattle.geometry.specs.Blocks.{geometryOf};
-ghost use Rattle.semantics.specs.Reading.{bitIf, statusWord, deviceCode, signatureWord, queryWord, shown, readWord};
+ghost use Rattle.semantics.specs.Reading.{runsIn, bitIf, statusWord, deviceCode, signatureWord, queryWord, shown, readWord};
 
 // `n` where `on` holds, and else 0. The bound is what a sum of them asks.
 fn bit_if(on: bool, n: u16) -> u16
@@ -19,6 +19,16 @@ fn bit_if(on: bool, n: u16) -> u16
     ensures bound { λ r. ⌜ r ≤ n ⌝ }
 {
     if on { n } else { 0 }
+}
+
+// What runs is in this bank. Where nothing runs, no bank is looked up.
+fn busy_in(part: Part, r: Running, bank: u32) -> bool
+    ensures { λ x. ⌜ x ≡ runsIn (geometryOf part) r bank ⌝ }
+{
+    if operation::runs(r) {
+        return operation::runs_in(part, r, bank);
+    }
+    false
 }
 
 // The status word that a read in a bank shows, SR7 first.
@@ -29,7 +39,7 @@ pub fn status_word(part: Part, a: Activity, flags: Flags, bank: u32) -> u16
     let program = a.program;
     let erase = a.erase;
     let busy = operation::runs(running);
-    let here = operation::runs_in(part, running, bank);
+    let here = busy_in(part, running, bank);
     bit_if(!busy, 0x80)
         + bit_if(operation::erase_suspended(erase), 0x40)
         + bit_if(flags.sr5, 0x20)
@@ -98,7 +108,7 @@ fn shown(part: Part, mode: Mode, running: Running, bank: u32) -> Mode
 {
     match mode {
         Mode::Array => {
-            if operation::runs_in(part, running, bank) {
+            if busy_in(part, running, bank) {
                 return Mode::Status;
             }
             Mode::Array

@@ -15,8 +15,10 @@ use semantics::SuspendedErase;
 use semantics::SuspendedProgram;
 use semantics::View;
 ghost use mathlib.Core.Path.{_≡_};
+ghost use mathlib.Core.Bool.{cond};
 ghost use Prim.Native.Nat.{_<_};
-ghost use Rattle.geometry.specs.Blocks.{geometryOf};
+ghost use lib.Dec.{eqb};
+ghost use Rattle.geometry.specs.Blocks.{geometryOf, words};
 ghost use Rattle.semantics.specs.State.{withProtection, withSupply, modeIn, flagsOf, noFlags, joined, powerUp};
 ghost use Rattle.semantics.specs.View.{placeOf, viewAt, withView};
 ghost use Rattle.semantics.specs.WellFormed.{wellFormed};
@@ -162,7 +164,7 @@ pub fn reset(s: State) -> State
 
 // ---- refusals
 
-// Whether the state is well formed (document 01: well made).
+// Whether the state is well formed (document 01: well made). Where nothing runs, is suspended or is loaded, only the spare storage is left to test.
 pub fn well_formed(s: State) -> bool
     ensures { λ r. ⌜ r ≡ wellFormed s ⌝ }
 {
@@ -170,22 +172,32 @@ pub fn well_formed(s: State) -> bool
     let a = s.control.activity;
     let words = s.unprotected;
     let buffer = s.buffer;
+    if operation::at_rest(a) {
+        return protection::spare_zero(words) & buffer::zero_from(buffer, 0);
+    }
     operation::activity_formed(part, a)
         & (protection::spare_zero(words) & buffer::zero_from(buffer, operation::places_used(a)))
 }
 
-// The refusal of a state beside an array of n words, 0 where there is none: 1 for the length, or else 2 for the state.
+// The refusal beside an array of n words of a state of the part that is well formed or not, 0 where there is none: 1 for the length, or else 2 for the state.
+pub fn refusal_beside(part: Part, formed: bool, n: usize) -> u32
+    ensures { λ r. ⌜ r ≡ cond (eqb n (words (geometryOf part))) (cond formed 0 2) 1 ⌝ }
+{
+    if n != geometry::length_of(part) as usize {
+        return 1;
+    }
+    if formed {
+        return 0;
+    }
+    2
+}
+
+// The same of a state.
 pub fn state_refusal(s: State, n: usize) -> u32
     ensures { λ r. ⌜ r ≡ stateRefusal s n ⌝ }
 {
     let part = s.part;
-    if n != geometry::length_of(part) as usize {
-        return 1;
-    }
-    if well_formed(s) {
-        return 0;
-    }
-    2
+    refusal_beside(part, well_formed(s), n)
 }
 
 // The refusal of an address, 0 where there is none. It is 3 where the address is too large; 5, its location in no block, is not tested, since every location

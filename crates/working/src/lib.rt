@@ -4,10 +4,19 @@ use semantics::Control;
 use semantics::Running;
 use semantics::Worked;
 ghost use mathlib.Core.Path.{_≡_};
-ghost use Prim.Native.Nat.{min};
-ghost use Rattle.geometry.specs.Blocks.{geometryOf};
+ghost use mathlib.Core.List.{List};
+ghost use Prim.Native.Nat.{ℕ, _+_, _-_, min};
+ghost use Rattle.geometry.specs.declared.Geometry.{Geometry};
+ghost use Rattle.geometry.specs.Blocks.{geometryOf, startOf};
 ghost use Rattle.semantics.specs.Working.{unitsDone, arrayAfter, bufferAfter, workedOn};
 ghost use Rattle.working.specs.Array.{anded, filled, andedRun};
+ghost use Rattle.working.specs.Progress.{progressOf};
+
+// What runs after work, and the units that were done.
+pub struct Progress {
+    pub running: Running,
+    pub units: u32,
+}
 
 // The lesser of two.
 pub fn least(a: usize, b: usize) -> usize
@@ -49,33 +58,120 @@ fn and_run(array: &mut [u16], start: u32, buffer: &[u16], from: usize, to: usize
     }
 }
 
-// The array after m units of what runs. The buffer is borrowed, so that work on anything but a buffer program does not copy it.
-pub fn apply(part: Part, r: Running, buffer: &[u16; 32], m: u32, array: &mut [u16])
-    ensures { λ _. ⌜ now (array .exit) ≡ arrayAfter (geometryOf part) (now (buffer .entry)) r m (now (array .entry)) ⌝ }
+// ---- units of each kind of operation
+
+// The difference, and 0 where b is the larger.
+fn less(a: u32, b: u32) -> u32
+    ensures { λ r. ⌜ r ≡ a - b ⌝ }
 {
-    if m == 0 {
-        return;
+    if b < a { a - b } else { 0 }
+}
+
+// The lesser of the units that are asked for and those that are left.
+fn units_of(left: u32, n: u32) -> u32
+    ensures { λ r. ⌜ r ≡ min n left ⌝ }
+{
+    if n < left { n } else { left }
+}
+
+// A program's one unit.
+fn program_unit(location: u32, word: u16, array: &mut [u16], n: u32) -> Progress
+    ensures progress { λ r. ⌜ ((g : Geometry) → r ≡ progressOf g (Running.Program location word) n) ⌝ }
+    ensures array { λ r. ⌜ ((g : Geometry) (bs : List ℕ) → now (array .exit) ≡ arrayAfter g bs (Running.Program location word) (r .units) (now (array .entry))) ⌝ }
+{
+    if n == 0 {
+        let running = Running::Program { location, word };
+        return Progress { running, units: 0 };
     }
-    match r {
-        Running::Idle => {}
-        Running::Program { location, word } => and_word(array, location as usize, word),
-        Running::Erase { block, done } => {
-            let first = geometry::block_start(part, block) as usize;
-            let from = first + done as usize;
-            fill(array, from, from + m as usize);
-        }
-        Running::Buffer {
+    and_word(array, location as usize, word);
+    Progress {
+        running: Running::Idle,
+        units: 1,
+    }
+}
+
+// Units of an erase.
+fn erase_units(part: Part, block: u32, done: u32, array: &mut [u16], n: u32) -> Progress
+    ensures progress { λ r. ⌜ r ≡ progressOf (geometryOf part) (Running.Erase block done) n ⌝ }
+    ensures array { λ r. ⌜ ((bs : List ℕ) → now (array .exit) ≡ arrayAfter (geometryOf part) bs (Running.Erase block done) (r .units) (now (array .entry))) ⌝ }
+{
+    let left = less(geometry::block_size(part, block), done);
+    let units = units_of(left, n);
+    let from = geometry::block_start(part, block) as usize + done as usize;
+    fill(array, from, from + units as usize);
+    if units < left {
+        let running = Running::Erase {
+            block,
+            done: done + units,
+        };
+        return Progress { running, units };
+    }
+    Progress {
+        running: Running::Idle,
+        units,
+    }
+}
+
+// Units of a buffer program; the buffer is released where it ends.
+fn buffer_units(
+    start: u32,
+    words: u32,
+    done: u32,
+    buffer: &mut [u16; 32],
+    array: &mut [u16],
+    n: u32,
+) -> Progress
+    ensures progress { λ r. ⌜ ((g : Geometry) → r ≡ progressOf g (Running.Buffer start words done) n) ⌝ }
+    ensures buffer { λ r. ⌜ now (buffer .exit) ≡ bufferAfter (Running.Buffer start words done) (r .running) (now (buffer .entry)) ⌝ }
+    ensures array { λ r. ⌜ ((g : Geometry) → now (array .exit) ≡ arrayAfter g (now (buffer .entry)) (Running.Buffer start words done) (r .units) (now (array .entry))) ⌝ }
+{
+    let left = less(words, done);
+    let units = units_of(left, n);
+    let from = done as usize;
+    and_run(array, start, buffer, from, from + units as usize);
+    if units < left {
+        let running = Running::Buffer {
             start,
-            words: _,
-            done,
-        } => {
-            let from = done as usize;
-            and_run(array, start, buffer, from, from + m as usize);
+            words,
+            done: done + units,
+        };
+        return Progress { running, units };
+    }
+    buffer::keep_if(buffer, false);
+    Progress {
+        running: Running::Idle,
+        units,
+    }
+}
+
+// ---- work
+
+// Up to n units of what runs. The buffer is borrowed, so that work on anything but a buffer program does not copy it.
+pub fn advance(
+    part: Part,
+    r: Running,
+    buffer: &mut [u16; 32],
+    array: &mut [u16],
+    n: u32,
+) -> Progress
+    ensures progress { λ x. ⌜ x ≡ progressOf (geometryOf part) r n ⌝ }
+    ensures buffer { λ x. ⌜ now (buffer .exit) ≡ bufferAfter r (x .running) (now (buffer .entry)) ⌝ }
+    ensures array { λ x. ⌜ now (array .exit) ≡ arrayAfter (geometryOf part) (now (buffer .entry)) r (x .units) (now (array .entry)) ⌝ }
+{
+    match r {
+        Running::Idle => Progress {
+            running: Running::Idle,
+            units: 0,
+        },
+        Running::Program { location, word } => program_unit(location, word, array, n),
+        Running::Erase { block, done } => erase_units(part, block, done, array, n),
+        Running::Buffer { start, words, done } => {
+            buffer_units(start, words, done, buffer, array, n)
         }
     }
 }
 
-// Up to n units of what runs; the buffer is released where a buffer program ends.
+// The same on the control.
 pub fn work(part: Part, mut c: Control, buffer: &mut [u16; 32], array: &mut [u16], n: u32) -> Worked
     ensures worked { λ r. ⌜ r ≡ workedOn (geometryOf part) c n ⌝ }
     ensures buffer { λ r. ⌜ now (buffer .exit) ≡ bufferAfter (c .activity .running) (r .control .activity .running) (now (buffer .entry)) ⌝ }
@@ -83,22 +179,11 @@ pub fn work(part: Part, mut c: Control, buffer: &mut [u16; 32], array: &mut [u16
 {
     let a = c.activity;
     let running = a.running;
-    let units = operation::units_done(part, running, n);
-    apply(part, running, buffer, units, array);
-    let after = operation::running_after(part, running, units);
-    release(buffer, running, after);
+    let o = advance(part, running, buffer, array, n);
+    let after = o.running;
     c.activity = operation::with_running(a, after);
-    Worked { control: c, units }
-}
-
-// The buffer after work on what ran: a buffer program's words are in use as long as it runs.
-fn release(buffer: &mut [u16; 32], before: Running, after: Running)
-    ensures { λ _. ⌜ now (buffer .exit) ≡ bufferAfter before after (now (buffer .entry)) ⌝ }
-{
-    match before {
-        Running::Idle => {}
-        Running::Program { .. } => {}
-        Running::Erase { .. } => {}
-        Running::Buffer { .. } => buffer::keep_if(buffer, operation::runs(after)),
+    Worked {
+        control: c,
+        units: o.units,
     }
 }

@@ -15,7 +15,17 @@ ghost use mathlib.Core.Path.{_≡_};
 ghost use Prim.Native.Nat.{_-_};
 ghost use Rattle.geometry.specs.Blocks.{geometryOf};
 ghost use Rattle.semantics.specs.View.{withActivity, withMode, raise};
-ghost use Rattle.semantics.specs.Writing.{commandOf, pend, setUp, clearStatus, firstCycle, programRuns, eraseCycle, lockCommandOf, lockCycle, settle, loads, countRight, firstRight, laterRight, confirmRight, confirmCycle, wordsCycle, cycle, wordsLoaded, loaded, cycleAt, written};
+ghost use Rattle.semantics.specs.Writing.{commandOf, pend, clearStatus, firstCycle, programRuns, eraseCycle, lockCommandOf, lockCycle, settle, loads, countRight, firstRight, laterRight, confirmRight, confirmCycle, wordsCycle, cycle, wordsLoaded, loaded, cycleAt, written};
+ghost use Rattle.writing.specs.Changes.{setUpChange, commandChange, changeOf};
+
+// What a write changes of a state, where it is one thing alone: the mode of the addressed bank; the set-up, with that bank in status mode; what is under way, which of a
+// write that is ignored is as it was. Any other write is told by its view: 50h, and every cycle that goes on with a set-up or ends it.
+pub enum Change {
+    Mode(Mode),
+    Setup(Setup),
+    Activity(Activity),
+    View,
+}
 
 // ---- a view changed
 
@@ -81,17 +91,6 @@ fn pend(v: View, x: Setup) -> View
     with_mode(with_activity(v, operation::with_setup(a, x)), Mode::Status)
 }
 
-// A set-up cycle; one that is not accepted is ignored.
-fn set_up(v: View, x: Setup) -> View
-    ensures { λ r. ⌜ r ≡ setUp v x ⌝ }
-{
-    let a = v.control.activity;
-    if operation::accepts(a, x) {
-        return pend(v, x);
-    }
-    v
-}
-
 fn clear_status(mut v: View) -> View
     ensures { λ r. ⌜ r ≡ clearStatus v ⌝ }
 {
@@ -106,24 +105,47 @@ fn clear_status(mut v: View) -> View
     v
 }
 
-// The first cycle at a place: a load is of the block there.
+// A set-up cycle changes the set-up; one that is not accepted is ignored.
+fn set_up_change(a: Activity, x: Setup) -> Change
+    ensures { λ r. ⌜ r ≡ setUpChange a x ⌝ }
+{
+    if operation::accepts(a, x) {
+        return Change::Setup(x);
+    }
+    Change::Activity(a)
+}
+
+// What the first cycle at a place changes: a load is of the block there.
+fn command_change(a: Activity, p: Place, c: Command) -> Change
+    ensures { λ r. ⌜ r ≡ commandChange a p c ⌝ }
+{
+    match c {
+        Command::ReadArray => Change::Mode(Mode::Array),
+        Command::ReadStatus => Change::Mode(Mode::Status),
+        Command::ReadSignature => Change::Mode(Mode::Signature),
+        Command::ReadQuery => Change::Mode(Mode::Query),
+        Command::Suspend => Change::Activity(operation::suspended(a)),
+        Command::Resume => Change::Activity(operation::resume(a)),
+        Command::ClearStatus => Change::View,
+        Command::SetUpProgram => set_up_change(a, Setup::Program),
+        Command::SetUpErase => set_up_change(a, Setup::Erase),
+        Command::SetUpLock => set_up_change(a, Setup::Lock),
+        Command::SetUpBuffer => set_up_change(a, Setup::BufferCount { block: p.block }),
+        Command::Unknown => Change::Activity(a),
+    }
+}
+
+// The first cycle at a place.
 fn first_cycle(v: View, p: Place, c: Command) -> View
     ensures { λ r. ⌜ r ≡ firstCycle v p c ⌝ }
 {
     let a = v.control.activity;
-    match c {
-        Command::ReadArray => with_mode(v, Mode::Array),
-        Command::ReadStatus => with_mode(v, Mode::Status),
-        Command::ReadSignature => with_mode(v, Mode::Signature),
-        Command::ReadQuery => with_mode(v, Mode::Query),
-        Command::Suspend => with_activity(v, operation::suspended(a)),
-        Command::Resume => with_activity(v, operation::resume(a)),
-        Command::ClearStatus => clear_status(v),
-        Command::SetUpProgram => set_up(v, Setup::Program),
-        Command::SetUpErase => set_up(v, Setup::Erase),
-        Command::SetUpLock => set_up(v, Setup::Lock),
-        Command::SetUpBuffer => set_up(v, Setup::BufferCount { block: p.block }),
-        Command::Unknown => v,
+    let change = command_change(a, p, c);
+    match change {
+        Change::Mode(mode) => with_mode(v, mode),
+        Change::Setup(x) => pend(v, x),
+        Change::Activity(x) => with_activity(v, x),
+        Change::View => clear_status(v),
     }
 }
 
@@ -326,6 +348,17 @@ fn cycle(part: Part, v: View, p: Place, word: u16) -> View
             words_cycle(part, v, start, words, due, p, word)
         }
     }
+}
+
+// What a write of a word changes at a place.
+pub fn change_of(a: Activity, p: Place, word: u16) -> Change
+    ensures { λ r. ⌜ r ≡ changeOf a p word ⌝ }
+{
+    let setup = a.setup;
+    if operation::pending(setup) {
+        return Change::View;
+    }
+    command_change(a, p, command_of(word % 256))
 }
 
 // What a write of a word makes of what it sees of the state at a place.

@@ -6,11 +6,11 @@ use Rattle.reading.proofs.shown.Tie as tie
 
 returns : tie.Need-returns
 unfolding shown
-returns c = rw (c .before .before .enum-told .given .1, ← c .before .runs-in .ensures, c .if1 .taken)
+returns c = rw (c .before .before .enum-told .given .1, ← c .before .busy-in .ensures, c .if1 .taken)
 
 returns-2 : tie.Need-returns-2
 unfolding shown
-returns-2 c = rw (c .before .before .enum-told .given .1, ← c .before .runs-in .ensures, c .if1 .left)
+returns-2 c = rw (c .before .before .enum-told .given .1, ← c .before .busy-in .ensures, c .if1 .left)
 
 returns-3 : tie.Need-returns-3
 unfolding shown

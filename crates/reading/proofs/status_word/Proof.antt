@@ -7,8 +7,8 @@ use Rattle.reading.proofs.status_word.Tie as tie
 runs-requires : tie.Need-runs-requires
 runs-requires c κs = search needs
 
-runs-in-requires : tie.Need-runs-in-requires
-runs-in-requires c κs = search needs
+busy-in-requires : tie.Need-busy-in-requires
+busy-in-requires c κs = search needs
 
 bit-if-requires : tie.Need-bit-if-requires
 bit-if-requires c κs = search needs
@@ -75,7 +75,7 @@ returns c =
       c .before .before .before .before .before .before .before .bit-if2 .ensures .0,
       c .before .before .before .before .before .before .before .before .erase-suspended .ensures,
       c .before .before .before .before .before .before .before .before .before .bit-if .ensures .0,
-      c .before .before .before .before .before .before .before .before .before .before .runs-in .ensures,
+      c .before .before .before .before .before .before .before .before .before .before .busy-in .ensures,
       c .before .before .before .before .before .before .before .before .before .before .before .runs .ensures,
     )
 
@@ -84,7 +84,7 @@ status-word-spec =
     tie.close
     (tie.spec
     runs-requires
-    runs-in-requires
+    busy-in-requires
     bit-if-requires
     erase-suspended-requires
     bit-if-requires-2

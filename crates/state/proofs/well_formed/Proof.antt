@@ -1,31 +1,33 @@
--- `state::well_formed` meets its contract: by the three tests that it joins. Assumes nothing.
-use borrow.Author.Needs.{needs}
+-- `state::well_formed` meets its contract: at rest by the laws of that, else by the three tests that it joins. Assumes nothing.
 use Rattle.semantics.specs.WellFormed.{wellFormed}
+use Rattle.operation.specs.Rest.{at-rest-formed, at-rest-unused}
+use mathlib.Core.Path.{sym, _∙_}
+use Rattle.geometry.specs.Blocks.{geometryOf}
+use borrow.Author.Needs.{needs}
 use Rattle.state.proofs.well_formed.Statement.{statement}
 use Rattle.state.proofs.well_formed.Tie as tie
 
-activity-formed-requires : tie.Need-activity-formed-requires
-activity-formed-requires c κs = search needs
-
-spare-zero-requires : tie.Need-spare-zero-requires
-spare-zero-requires c κs = search needs
-
-places-used-requires : tie.Need-places-used-requires
-places-used-requires c κs = search needs
-
-zero-from-requires : tie.Need-zero-from-requires
-zero-from-requires c κs = search needs
-
 returns : tie.Need-returns
 unfolding wellFormed
-returns c = simp (c .before .before .before .activity-formed .ensures, c .before .before .spare-zero .ensures, c .zero-from .ensures, c .before .places-used .ensures)
+returns c =
+    let s = c .before .before .before .before .before .before .before .args .s in
+    let a = sym (c .before .before .before .at-rest .ensures) ∙ c .before .before .if1 .taken in
+    simp (at-rest-formed (geometryOf (s .part)) (s .control .activity) a, at-rest-unused (s .control .activity) a, c .before .spare-zero .ensures, c .zero-from .ensures)
+
+returns-2 : tie.Need-returns-2
+unfolding wellFormed
+returns-2 c = simp (c .before .before .before .activity-formed .ensures, c .before .before .spare-zero2 .ensures, c .zero-from2 .ensures, c .before .places-used .ensures)
 
 pub well-formed-spec : {M : Type 1} → statement M
 well-formed-spec =
     tie.close
     (tie.spec
-    activity-formed-requires
-    spare-zero-requires
-    places-used-requires
-    zero-from-requires
-    returns)
+    (λ c κs. search needs)
+    (λ c κs. search needs)
+    (λ c κs. search needs)
+    returns
+    (λ c κs. search needs)
+    (λ c κs. search needs)
+    (λ c κs. search needs)
+    (λ c κs. search needs)
+    returns-2)

@@ -1,0 +1,228 @@
+-- What a write changes of a state, where it is one thing alone, and that this is what the definition of a write gives. Assumes nothing.
+use Prim.Native.Nat.{ℕ, _+_, _-_, _%_}
+use mathlib.Core.Bool.{Bool, true, false, not, cond, true≢false, false≢true}
+use mathlib.Core.List.{List}
+use mathlib.Core.Path.{_≡_, refl, sym, ap, _∙_, subst}
+use lib.Dec.{eqb}
+use lib.ListN.{set}
+use Rattle.geometry.specs.declared.Geometry.{Geometry}
+use Rattle.protection.specs.Words.{withUnprotected}
+use Rattle.semantics.specs.declared.Bank.{Bank}
+use Rattle.semantics.specs.declared.Mode.{Mode}
+use Rattle.semantics.specs.declared.Mode.the-variants.{Array, Status, Signature, Query}
+use Rattle.semantics.specs.declared.Setup.{Setup}
+use Rattle.semantics.specs.declared.Setup.the-variants as setup
+use Rattle.semantics.specs.declared.Running.{Running}
+use Rattle.semantics.specs.declared.Running.the-variants as running
+use Rattle.semantics.specs.declared.Activity.{Activity}
+use Rattle.semantics.specs.declared.Control.{Control}
+use Rattle.semantics.specs.declared.Command.{Command}
+use Rattle.semantics.specs.declared.Command.the-variants as command
+use Rattle.semantics.specs.declared.LockCommand.{LockCommand}
+use Rattle.semantics.specs.declared.LockCommand.the-variants as lock
+use Rattle.semantics.specs.declared.State.{State}
+use Rattle.semantics.specs.declared.Place.{Place}
+use Rattle.semantics.specs.declared.View.{View}
+use Rattle.semantics.specs.State.{geometry, activity, withSetup, withRunning, withActivity, runs, flagsOf, noFlags}
+use Rattle.semantics.specs.View.{viewAt, withView, withMode, raise}
+use Rattle.semantics.specs.Modes.{view-back}
+use Rattle.semantics.specs.View as view
+use Rattle.semantics.specs.WellFormed.{pending, erasing}
+use Rattle.semantics.specs.Writing.{commandOf, suspended, resume, accepts, pend, setUp, clearStatus, firstCycle, programRuns, eraseCycle, lockCycle, lockCommandOf, settle, wrong, loads, countRight, firstRight, laterRight, confirmRight, confirmCycle, wordsCycle, cycle, loaded, cycleAt, writtenAt}
+use Rattle.writing.specs.declared.Change.{Change}
+use Rattle.writing.specs.declared.Change.the-variants as change
+
+abbrev pub setUpChange : Activity → Setup → Change
+setUpChange a x = cond (accepts a x) (change.Setup x) (change.Activity a)
+
+abbrev pub commandChange : Activity → Place → Command → Change
+commandChange a p command.ReadArray = change.Mode Array
+commandChange a p command.ReadStatus = change.Mode Status
+commandChange a p command.ReadSignature = change.Mode Signature
+commandChange a p command.ReadQuery = change.Mode Query
+commandChange a p command.Suspend = change.Activity (suspended a (a .running))
+commandChange a p command.Resume = change.Activity (resume a)
+commandChange a p command.ClearStatus = change.View
+commandChange a p command.SetUpProgram = setUpChange a setup.Program
+commandChange a p command.SetUpErase = setUpChange a setup.Erase
+commandChange a p command.SetUpLock = setUpChange a setup.Lock
+commandChange a p command.SetUpBuffer = setUpChange a (setup.BufferCount (p .block))
+commandChange a p command.Unknown = change.Activity a
+
+abbrev pub changeOf : Activity → Place → ℕ → Change
+changeOf a p w = cond (pending (a .setup)) change.View (commandChange a p (commandOf (w % 256)))
+
+-- ---- the first cycle, by what it changes
+
+abbrev pub firstBy : View → Change → View
+firstBy v (change.Mode m) = withMode v m
+firstBy v (change.Setup x) = pend v x
+firstBy v (change.Activity a) = view.withActivity v a
+firstBy v change.View = clearStatus v
+
+first-set-up : (v : View) (x : Setup) → firstBy v (setUpChange (v .control .activity) x) ≡ setUp v x
+unfolding setUp
+first-set-up v x = go (accepts (v .control .activity) x)
+  where
+    go : (t : Bool) → firstBy v (cond t (change.Setup x) (change.Activity (v .control .activity))) ≡ cond t (pend v x) v
+    go true = refl
+    go false = refl
+
+pub first-is : (v : View) (p : Place) (c : Command) → firstBy v (commandChange (v .control .activity) p c) ≡ firstCycle v p c
+unfolding firstCycle
+first-is v p command.ReadArray = refl
+first-is v p command.ReadStatus = refl
+first-is v p command.ReadSignature = refl
+first-is v p command.ReadQuery = refl
+first-is v p command.Suspend = refl
+first-is v p command.Resume = refl
+first-is v p command.ClearStatus = refl
+first-is v p command.SetUpProgram = first-set-up v setup.Program
+first-is v p command.SetUpErase = first-set-up v setup.Erase
+first-is v p command.SetUpLock = first-set-up v setup.Lock
+first-is v p command.SetUpBuffer = first-set-up v (setup.BufferCount (p .block))
+first-is v p command.Unknown = refl
+
+-- ---- the state after a write, where it changes one thing
+
+-- the state with bank k in a mode
+abbrev pub withBank : State → ℕ → Mode → State
+withBank s k m = record { part = s .part; banks = set (s .banks) k (record { mode = m }); unprotected = s .unprotected; control = s .control; buffer = s .buffer }
+
+-- the state with that thing changed at a place
+abbrev pub putChange : State → Place → Change → State
+putChange s p (change.Mode m) = withBank s (p .bank) m
+putChange s p (change.Setup x) = withBank (withActivity s (withSetup (s .control .activity) x)) (p .bank) Status
+putChange s p (change.Activity a) = withActivity s a
+putChange s p change.View = s
+
+-- a mode, and a block's protection, put back as it was
+banks-back : (s : State) (p : Place) → set (s .banks) (p .bank) (record { mode = viewAt s p .mode }) ≡ s .banks
+banks-back s p = ap (λ (t : State). t .banks) (view-back s p)
+
+protection-back : (s : State) (p : Place) → withUnprotected (s .unprotected) (p .block) (viewAt s p .unprotected) ≡ s .unprotected
+protection-back s p = ap (λ (t : State). t .unprotected) (view-back s p)
+
+put-view : (s : State) (p : Place) (k : Change) → (k ≡ change.View → ⊥) → withView s p (firstBy (viewAt s p) k) ≡ putChange s p k
+put-view s p (change.Mode m) h = rw (protection-back s p)
+put-view s p (change.Setup x) h = rw (protection-back s p)
+put-view s p (change.Activity a) h = rw (protection-back s p, banks-back s p)
+put-view s p change.View h = absurd (h refl)
+
+nothing-pending : (g : Geometry) (c : Setup) (p : Place) (w : ℕ) (r : Running) (bs : List ℕ) → pending c ≡ false → (c ≡ setup.Nothing) × (loaded g c p w r bs ≡ bs)
+unfolding loaded
+nothing-pending g setup.Nothing p w r bs h = (refl, refl)
+nothing-pending g setup.Program p w r bs h = absurd (true≢false h)
+nothing-pending g setup.Erase p w r bs h = absurd (true≢false h)
+nothing-pending g setup.Lock p w r bs h = absurd (true≢false h)
+nothing-pending g (setup.BufferCount b) p w r bs h = absurd (true≢false h)
+nothing-pending g (setup.BufferFirst b n) p w r bs h = absurd (true≢false h)
+nothing-pending g (setup.BufferWords l n d) p w r bs h = absurd (true≢false h)
+
+-- a write that changes one thing alone changes that
+pub change-put : (s : State) (p : Place) (w : ℕ) (k : Change) → k ≡ changeOf (s .control .activity) p w → (k ≡ change.View → ⊥) → putChange s p k ≡ writtenAt s p w
+unfolding writtenAt cycle
+change-put s p w k e h = go (pending (s .control .activity .setup)) refl
+  where
+    a : Activity
+    a = s .control .activity
+
+    go : (t : Bool) → pending (a .setup) ≡ t → putChange s p k ≡ writtenAt s p w
+    go true q = absurd (h (e ∙ rw q))
+    go false q =
+        let n = nothing-pending (geometry s) (a .setup) p w (cycleAt s p w .control .activity .running) (s .buffer) q in
+        let c : k ≡ commandChange a p (commandOf (w % 256)) = e ∙ rw q in
+        let f : firstBy (viewAt s p) k ≡ cycleAt s p w = ap (firstBy (viewAt s p)) c ∙ first-is (viewAt s p) p (commandOf (w % 256)) ∙ rw (n .0) in
+        sym (put-view s p k h) ∙ ap (withView s p) f ∙ rw (n .1)
+
+-- ---- a cycle that is told by its view leaves what is suspended, and the supply
+
+-- the control with the set-up, what runs, the flags and the configuration register of a view
+abbrev pub settledIn : Control → View → Control
+settledIn c v = record {
+  activity = activity (v .control .activity .setup) (v .control .activity .running) (c .activity .program) (c .activity .erase);
+  flags = v .control .flags;
+  configuration = v .control .configuration;
+  supply = c .supply;
+}
+
+abbrev Left : View → View → Type 0
+Left v x =
+    (x .control .activity .program ≡ v .control .activity .program) × (x .control .activity .erase ≡ v .control .activity .erase) × (x .control .supply ≡ v .control .supply)
+
+either : (b : Bool) (v x y : View) → Left v x → Left v y → Left v (cond b x y)
+either true v x y p q = p
+either false v x y p q = q
+
+same : (v : View) → Left v v
+same v = (refl, refl, refl)
+
+-- the first of three tests that holds decides
+three : (v x y z u : View) → Left v x → Left v y → Left v z → Left v u → (a b c : Bool) → Left v (cond a x (cond b y (cond c z u)))
+three v x y z u p q r s a b c = either a v x (cond b y (cond c z u)) p (either b v y (cond c z u) q (either c v z u r s))
+
+program-left : (v : View) (p : Place) (r : Running) → Left v (programRuns v p r)
+unfolding programRuns
+program-left v p r =
+    three v (raise v (flagsOf false true true false)) (raise v (flagsOf false true false true)) (raise v (flagsOf false true false false))
+    (view.withActivity v (withRunning (v .control .activity) r)) (same v) (same v) (same v) (same v)
+    (not (v .control .supply)) (not (v .unprotected)) (erasing (v .control .activity .erase) (p .block))
+
+erase-left : (v : View) (p : Place) (c : ℕ) → Left v (eraseCycle v p c)
+unfolding eraseCycle
+erase-left v p c =
+    three v (raise v (flagsOf true true false false)) (raise v (flagsOf true false true false)) (raise v (flagsOf true false false true))
+    (view.withActivity v (withRunning (v .control .activity) (running.Erase (p .block) 0))) (same v) (same v) (same v) (same v)
+    (not (eqb c 0xD0)) (not (v .control .supply)) (not (v .unprotected))
+
+lock-left : (v : View) (p : Place) (c : LockCommand) → Left v (lockCycle v p c)
+unfolding lockCycle
+lock-left v p lock.Protect = same v
+lock-left v p lock.Unprotect = same v
+lock-left v p lock.Configure = same v
+lock-left v p lock.Unknown = same v
+
+loads-left : (b : Bool) (v : View) (x : Setup) → Left v (loads b v x)
+unfolding loads settle
+loads-left b v x = either b v (pend v x) (wrong v) (same v) (same v)
+
+confirm-left : (g : Geometry) (v : View) (l n : ℕ) (p : Place) (w : ℕ) → Left v (confirmCycle g v l n p w)
+unfolding confirmCycle settle
+confirm-left g v l n p w = either (confirmRight g l p w) v (programRuns (settle v) p (running.Buffer l n 0)) (wrong v) (program-left (settle v) p (running.Buffer l n 0)) (same v)
+
+cycle-left : (g : Geometry) (v : View) (c : Setup) (p : Place) (w : ℕ) → pending c ≡ true → Left v (cycle g v c p w)
+unfolding cycle settle wordsCycle
+cycle-left g v setup.Nothing p w h = absurd (false≢true h)
+cycle-left g v setup.Program p w h = program-left (settle v) p (running.Program (p .location) w)
+cycle-left g v setup.Erase p w h = erase-left (settle v) p (w % 256)
+cycle-left g v setup.Lock p w h = lock-left (settle v) p (lockCommandOf (w % 256))
+cycle-left g v (setup.BufferCount b) p w h = loads-left (countRight b p w) v (setup.BufferFirst b (w + 1))
+cycle-left g v (setup.BufferFirst b n) p w h = loads-left (firstRight g b n p) v (setup.BufferWords (p .location) n (n - 1))
+cycle-left g v (setup.BufferWords l n d) p w h =
+    let x : Setup = setup.BufferWords l n (d - 1) in
+    either (eqb d 0) v (confirmCycle g v l n p w) (loads (laterRight l n p) v x) (confirm-left g v l n p w) (loads-left (laterRight l n p) v x)
+
+clear-left : (v : View) → Left v (clearStatus v)
+unfolding clearStatus
+clear-left v = either (runs (v .control .activity .running)) v v (view.withFlags v noFlags) (same v) (same v)
+
+pub view-settled : (s : State) (p : Place) (w : ℕ) → change.View ≡ changeOf (s .control .activity) p w → settledIn (s .control) (cycleAt s p w) ≡ cycleAt s p w .control
+unfolding cycle
+view-settled s p w e =
+    let v : View = cycleAt s p w in
+    let l = left (pending (a .setup)) refl in
+    let x = sym (l .0) in
+    let y = sym (l .1) in
+    let z = sym (l .2) in
+    λ j. record { activity = activity (v .control .activity .setup) (v .control .activity .running) (x j) (y j); flags = v .control .flags; configuration = v .control .configuration; supply = z j }
+  where
+    a : Activity
+    a = s .control .activity
+
+    left : (t : Bool) → pending (a .setup) ≡ t → Left (viewAt s p) (cycleAt s p w)
+    left true q = cycle-left (geometry s) (viewAt s p) (a .setup) p w q
+    left false q =
+        let n = nothing-pending (geometry s) (a .setup) p w (a .running) (s .buffer) q in
+        let k : change.View ≡ commandChange a p (commandOf (w % 256)) = e ∙ rw q in
+        let f : clearStatus (viewAt s p) ≡ cycleAt s p w = ap (firstBy (viewAt s p)) k ∙ first-is (viewAt s p) p (commandOf (w % 256)) ∙ rw (n .0) in
+        subst (Left (viewAt s p)) f (clear-left (viewAt s p))
