@@ -2,17 +2,20 @@
 use Prim.Native.Nat.{ℕ, zero, suc, _≤_, _<_}
 use mathlib.Core.List.{List, [], _∷_, _++_}
 use mathlib.Core.Path.{_≡_, refl, sym, ap, _∙_, subst, subst₂}
-use mathlib.Core.Bool.{cond}
+use mathlib.Core.Bool.{Bool}
 use native.Mathlib.Omega.{arith}
-use lib.Dec.{eqb}
 use lib.ListN.{length, getD, take, set, length-set}
 use lib.Seq.{take-length}
-use borrow.Author.Tests.{eq-eqb, ne-eqb}
+use Rattle.geometry.specs.declared.Part.{Part}
+use Rattle.geometry.specs.Blocks.{geometryOf}
+use Rattle.geometry.specs.Laws.{sound, location-lt, part-bank-lt}
 use Rattle.semantics.specs.declared.State.{State}
 use Rattle.semantics.specs.declared.Next.{Next}
 use Rattle.semantics.specs.declared.Step.{Step}
 use Rattle.semantics.specs.declared.Answer.{Answer}
-use Rattle.semantics.specs.declared.Answer.the-variants.{Done, Refused}
+use Rattle.semantics.specs.declared.Answer.the-variants.{Word, Units, Done, Refused}
+use Rattle.semantics.specs.declared.Step.the-variants.{Read, Write, Work, Supply, Reset}
+use Rattle.semantics.specs.declared.Place.{Place}
 use Rattle.semantics.specs.declared.Decoded.{Decoded}
 use Rattle.semantics.specs.declared.Decoded.the-variants.{Valid, Invalid}
 use Rattle.semantics.specs.Steps.{stepOf, Machine, after, afterAll, answersOf, fresh}
@@ -20,10 +23,18 @@ use Rattle.semantics.specs.Encoding.{decode}
 use Rattle.semantics.specs.Demand.{Demand3}
 use Rattle.semantics.specs.Standing.{demand-3-whole}
 use Rattle.semantics.specs.Invariant.{length-kept}
-use Rattle.semantics.specs.Held.{Held, Does, held-next}
+use Rattle.semantics.specs.Held.{Held, Does, held-next, does-refused, does-read, does-write, does-work, does-supply, does-reset}
+use Rattle.semantics.specs.State.{geometry, setActivity, withControl, withBuffer, withRunning, withSupply, powerUp}
+use Rattle.semantics.specs.Reading.{readWord}
+use Rattle.semantics.specs.Writing.{cycleAt, writtenAt}
+use Rattle.semantics.specs.Working.{arrayAfter, bufferAfter, workedOn}
+use Rattle.working.specs.declared.Progress.{Progress}
+use Rattle.working.specs.Progress.{progressOf}
 use Rattle.device.specs.declared.Device.{Device}
 use Rattle.device.specs.declared.Outcome.{Outcome}
 use Rattle.device.specs.Outcomes.{holding, outcomeOf, outcome, arrayOut}
+use Rattle.playback.specs.declared.Task.the-variants as task
+use Rattle.playback.specs.Tasks.{Means}
 use Rattle.playback.specs.Playback.{goOn, playable, answerCode, roomAfter, machineOf, Journaled, Played}
 
 -- ---- lists of steps
@@ -170,13 +181,43 @@ going-next c s₀ codes room xs i s answers array x t a ys g p q e f = record {
   array-long = ap length (f .1) ∙ length-kept s array x ∙ g .array-long;
 }
 
--- ---- the answer of a step, before its kind is looked at: that of a refused one, or of one that is done
+-- ---- a turn: the number at hand is played, by the task that it asks
 
-abbrev pub refusedOrDone : ℕ → Answer
-refusedOrDone e = cond (eqb e 0) Done (Refused e)
+-- the state t, the answer a and the array ys are what the step that a number encodes makes of the state and the array
+abbrev pub Plays : State → List ℕ → ℕ → State → Answer → List ℕ → Type 0
+Plays s xs code t a ys = (x : Step) × ((decode code ≡ Valid x) × Does s xs x t a ys)
 
-pub is-refused : (e : ℕ) (a b : Answer) → (e ≡ 0 → ⊥) → b ≡ refusedOrDone e → a ≡ b → a ≡ Refused e
-is-refused e a b h f k = k ∙ f ∙ rw (ne-eqb e 0 h)
+pub going-on : (c : ℕ) (s₀ : State) (codes room xs : List ℕ) (i : ℕ) (s : State) (answers array : List ℕ) (t : State) (a : Answer) (ys : List ℕ) → Going c s₀ codes room xs i s answers array
+    → i < length codes → i < length room → Plays s array (getD codes i 0) t a ys → Going c s₀ codes room xs (suc i) t (set answers i (answerCode a)) ys
+going-on c s₀ codes room xs i s answers array t a ys g p q f = going-next c s₀ codes room xs i s answers array (f .0) t a ys g p q (f .1 .0) (f .1 .1)
 
-pub is-done : (e : ℕ) (a b : Answer) → e ≡ 0 → b ≡ refusedOrDone e → a ≡ b → a ≡ Done
-is-done e a b h f k = k ∙ f ∙ rw (eq-eqb e 0 h)
+-- a write names a bank of the part
+pub write-bank : (c : ℕ) (q : Part) (code : ℕ) (p : Place) (w : ℕ) → Means c (geometryOf q) code (task.Write p w) → p .bank < 16
+write-bank c q code p w m = rw (m .1 .0) (part-bank-lt q _ (location-lt (geometryOf q) (sound q) (m .0)))
+
+module _ (c : ℕ) (s : State) (xs : List ℕ) (r : Held c s xs) (code : ℕ) (t : State) (a : Answer) (ys : List ℕ) where
+  pub plays-refused : (e : ℕ) → Means c (geometry s) code (task.Refused e) → t ≡ s → a ≡ Refused e → ys ≡ xs → Plays s xs code t a ys
+  plays-refused e m i j k = (m .0, (m .1 .0, does-refused c s xs r (m .0) _ e refl (sym (m .1 .1)) t a ys (m .1 .2) i j k))
+
+  pub plays-read : (b w : ℕ) → Means c (geometry s) code (task.Read b) → w ≡ readWord s xs b → t ≡ s → a ≡ Word w → ys ≡ xs → Plays s xs code t a ys
+  plays-read b w m i j k l = (Read b, (m .0, does-read c s xs r (Read b) _ _ refl refl t a ys b w (m .1) refl i j k l))
+
+  pub plays-write : (p : Place) (w : ℕ) → Means c (geometry s) code (task.Write p w) → t ≡ writtenAt s p w → a ≡ Done → ys ≡ xs → Plays s xs code t a ys
+  unfolding writtenAt
+  plays-write p w m i j k =
+      let x : Step = Write (m .0) w in
+      (x, (m .1 .1 .0, does-write c s xs r x _ _ refl refl t a ys (m .0) w p (cycleAt s p w) _ _ _ (m .1 .1 .1) refl (m .1 .0) refl refl refl refl i j k))
+
+  pub plays-work : (n : ℕ) (o : Progress) (bs : List ℕ) → Means c (geometry s) code (task.Work n) → o ≡ progressOf (geometry s) (s .control .activity .running) n
+      → bs ≡ bufferAfter (s .control .activity .running) (o .running) (s .buffer)
+      → t ≡ withBuffer (withControl s (setActivity (s .control) (withRunning (s .control .activity) (o .running)))) bs → a ≡ Units (o .units)
+      → ys ≡ arrayAfter (geometry s) (s .buffer) (s .control .activity .running) (o .units) xs → Plays s xs code t a ys
+  unfolding workedOn
+  plays-work n o bs m i j k l h =
+      (Work n, (m .0, does-work c s xs r (Work n) _ _ refl refl t a ys n (workedOn (geometry s) (s .control) n) bs (m .1) refl refl (j ∙ rw i) (k ∙ rw i) (l ∙ rw i) (h ∙ rw i)))
+
+  pub plays-supply : (on : Bool) → Means c (geometry s) code (task.Supply on) → t ≡ withSupply s on → a ≡ Done → ys ≡ xs → Plays s xs code t a ys
+  plays-supply on m i j k = (Supply on, (m .0, does-supply c s xs r (Supply on) _ _ refl refl t a ys on (m .1) refl i j k))
+
+  pub plays-reset : Means c (geometry s) code task.Reset → t ≡ withSupply (powerUp (s .part)) (s .control .supply) → a ≡ Done → ys ≡ xs → Plays s xs code t a ys
+  plays-reset m i j k = (Reset, (m .0, does-reset c s xs r Reset _ _ refl refl t a ys (m .1) refl i j k))

@@ -1,2 +1,3 @@
 pub mod Playback
+pub mod Tasks
 pub mod Laws

@@ -1,24 +1,42 @@
 // A list of encoded steps played on a device and a borrowed array, with the answers written into borrowed room. Demand 3 stands in its contract.
 use device::Device;
+use geometry::Part;
+use semantics::Activity;
 use semantics::Answer;
 use semantics::Bank;
 use semantics::Control;
 use semantics::Decoded;
+use semantics::Place;
 use semantics::Running;
 use semantics::Setup;
 use semantics::State;
 use semantics::Step;
 use semantics::View;
-use semantics::Worked;
+use working::Progress;
+use writing::Change;
 ghost use mathlib.Core.Path.{_≡_};
+ghost use Rattle.geometry.specs.Blocks.{geometryOf};
+ghost use Rattle.semantics.specs.State.{setActivity, withSetup, withRunning};
 ghost use Rattle.semantics.specs.Encoding.{decode};
+ghost use Rattle.writing.specs.Changes.{settledIn};
 ghost use Rattle.playback.specs.Playback.{answerCode, Played};
-ghost use Rattle.playback.specs.Laws.{refusedOrDone};
+ghost use Rattle.playback.specs.Tasks.{allowed, taskOf};
 
 // How many steps were played, and the device after them.
 pub struct RunEnd {
     pub played: usize,
     pub device: Device,
+}
+
+// What a number asks of a list: its end, where it encodes no step; a refusal; or a step that is not refused, a write with the place that it names.
+pub enum Task {
+    End,
+    Refused(u32),
+    Read(u32),
+    Write(Place, u16),
+    Work(u32),
+    Supply(bool),
+    Reset,
 }
 
 // The step that a number encodes, if it encodes one.
@@ -67,14 +85,99 @@ pub fn answer_code(a: Answer) -> u64
     }
 }
 
-// The answer of a step that is refused with a number, or, where that is 0, of one that is done.
-fn refused_or_done(e: u32) -> Answer
-    ensures { λ r. ⌜ r ≡ refusedOrDone e ⌝ }
+// A step that is not refused.
+fn allowed(part: Part, x: Step) -> Task
+    ensures { λ r. ⌜ r ≡ allowed (geometryOf part) x ⌝ }
 {
-    if e == 0 {
-        return Answer::Done;
+    match x {
+        Step::Read(address) => Task::Read(address),
+        Step::Write(address, word) => Task::Write(state::place_of(part, address), word),
+        Step::Work(count) => Task::Work(count),
+        Step::Supply(on) => Task::Supply(on),
+        Step::Reset => Task::Reset,
     }
-    Answer::Refused(e)
+}
+
+// What a number asks, where `refused` is what the state and the array are refused for.
+fn task_of(refused: u32, part: Part, code: u64) -> Task
+    ensures { λ r. ⌜ r ≡ taskOf refused (geometryOf part) code ⌝ }
+{
+    let Decoded::Valid(x) = decoded(code) else {
+        return Task::End;
+    };
+    if refused != 0 {
+        return Task::Refused(refused);
+    }
+    let e = state::step_refusal(part, x);
+    if e == 0 {
+        return allowed(part, x);
+    }
+    Task::Refused(e)
+}
+
+// ---- fields that are read and written where the state stands
+
+fn activity_in(c: Control) -> Activity
+    ensures { λ r. ⌜ r ≡ c .activity ⌝ }
+{
+    let a = c.activity;
+    a
+}
+
+fn running_in(c: Control) -> Running
+    ensures { λ r. ⌜ r ≡ c .activity .running ⌝ }
+{
+    let a = c.activity;
+    a.running
+}
+
+// The control with another set-up, or with something else under way.
+fn with_setup(mut c: Control, x: Setup) -> Control
+    ensures { λ r. ⌜ r ≡ setActivity c (withSetup (c .activity) x) ⌝ }
+{
+    let a = c.activity;
+    c.activity = operation::with_setup(a, x);
+    c
+}
+
+fn with_activity(mut c: Control, a: Activity) -> Control
+    ensures { λ r. ⌜ r ≡ setActivity c a ⌝ }
+{
+    c.activity = a;
+    c
+}
+
+// What is under way after work.
+fn advanced(c: Control, o: Progress) -> Activity
+    ensures { λ r. ⌜ r ≡ withRunning (c .activity) (o .running) ⌝ }
+{
+    let a = c.activity;
+    let r = o.running;
+    operation::with_running(a, r)
+}
+
+// The control after a cycle that is told by its view: what is suspended, and the supply, no such cycle changes.
+fn settled(c: Control, v: View) -> Control
+    ensures { λ r. ⌜ r ≡ settledIn c v ⌝ }
+{
+    let before = c.activity;
+    let after = v.control.activity;
+    let flags = v.control.flags;
+    let setup = after.setup;
+    let running = after.running;
+    let program = before.program;
+    let erase = before.erase;
+    Control {
+        activity: Activity {
+            setup,
+            running,
+            program,
+            erase,
+        },
+        flags,
+        configuration: v.control.configuration,
+        supply: c.supply,
+    }
 }
 
 // The addressed bank, as a view has it.
@@ -83,37 +186,6 @@ fn bank_in(v: View) -> Bank
 {
     let mode = v.mode;
     Bank { mode }
-}
-
-// The set-up that is pending.
-fn setup_in(c: Control) -> Setup
-    ensures { λ r. ⌜ r ≡ c .activity .setup ⌝ }
-{
-    let a = c.activity;
-    a.setup
-}
-
-// The control of a view, and that after work.
-fn control_in(v: View) -> Control
-    ensures { λ r. ⌜ r ≡ v .control ⌝ }
-{
-    let c = v.control;
-    c
-}
-
-fn control_after(o: Worked) -> Control
-    ensures { λ r. ⌜ r ≡ o .control ⌝ }
-{
-    let c = o.control;
-    c
-}
-
-// What runs after a write.
-fn running_in(v: View) -> Running
-    ensures { λ r. ⌜ r ≡ v .control .activity .running ⌝ }
-{
-    let a = v.control.activity;
-    a.running
 }
 
 // The end of a list.
@@ -128,44 +200,50 @@ fn ended(played: usize, state: State) -> RunEnd
 
 // Plays the steps that the numbers encode, one after the other, and writes the answer of each into its place of the room; stops at the first number that
 // encodes no step, and where the room ends. A list goes on with the device that is given back. What is refused whatever the step is, is tested once; the
-// state stands once, and is changed where it stands: what a write makes of its view is put back field by field.
+// state stands once, and is changed where it stands, no more of it than the step changes.
 pub fn run(device: Device, steps: &[u64], answers: &mut [u64], array: &mut [u16]) -> RunEnd
     ensures { λ r. ⌜ Played device (now (steps .entry)) (now (answers .entry)) (now (array .entry)) r (now (answers .exit)) (now (array .exit)) ⌝ }
 {
     let mut s = device.state;
-    let refused = state::state_refusal(s, array.len());
+    let refused = state::refusal_beside(s.part, state::well_formed(s), array.len());
     let n = working::least(steps.len(), answers.len());
-    let mut i: usize = 0;
-    while i < n {
-        let Decoded::Valid(x) = decoded(steps[i]) else {
-            return ended(i, s);
-        };
+    for i in 0..n {
         let part = s.part;
-        let e = state::first_refusal(refused, state::step_refusal(part, x));
-        let mut answer = refused_or_done(e);
-        if e == 0 {
-            match x {
-                Step::Read(address) => answer = Answer::Word(reading::read_word(s, array, address)),
-                Step::Write(address, word) => {
-                    let p = state::place_of(part, address);
-                    let setup = setup_in(s.control);
-                    let v = writing::view_after(s, p, word);
-                    s.control = control_in(v);
-                    s.banks[p.bank as usize] = bank_in(v);
-                    protection::set_block(&mut s.unprotected, p.block, v.unprotected);
-                    writing::load_buffer(part, setup, p, word, running_in(v), &mut s.buffer);
+        let task = task_of(refused, part, steps[i]);
+        let mut answer = Answer::Done;
+        match task {
+            Task::End => return ended(i, s),
+            Task::Refused(e) => answer = Answer::Refused(e),
+            Task::Read(address) => answer = Answer::Word(reading::read_word(s, array, address)),
+            Task::Write(p, word) => {
+                let change = writing::change_of(activity_in(s.control), p, word);
+                match change {
+                    Change::First(mode, x) => {
+                        s.control = with_setup(s.control, x);
+                        s.banks[p.bank as usize] = Bank { mode };
+                    }
+                    Change::Activity(a) => s.control = with_activity(s.control, a),
+                    Change::View => {
+                        let v = writing::told_view(s, p, word);
+                        writing::load_buffer(part, s.control, p, word, v, &mut s.buffer);
+                        s.control = settled(s.control, v);
+                        s.banks[p.bank as usize] = bank_in(v);
+                        protection::set_block(&mut s.unprotected, p.block, v.unprotected);
+                    }
                 }
-                Step::Work(count) => {
-                    let o = working::work(part, s.control, &mut s.buffer, array, count);
-                    s.control = control_after(o);
-                    answer = Answer::Units(o.units);
-                }
-                Step::Supply(on) => s.control.supply = on,
-                Step::Reset => s = state::reset(s),
             }
+            Task::Work(count) => {
+                let r = running_in(s.control);
+                let o = working::advance(part, r, &mut s.buffer, array, count);
+                let mut c = s.control;
+                c.activity = advanced(s.control, o);
+                s.control = c;
+                answer = Answer::Units(o.units);
+            }
+            Task::Supply(on) => s.control.supply = on,
+            Task::Reset => s = state::reset(s),
         }
         answers[i] = answer_code(answer);
-        i += 1;
     }
-    ended(i, s)
+    ended(n, s)
 }

@@ -8,9 +8,11 @@ use semantics::Running;
 use semantics::State;
 use semantics::View;
 ghost use mathlib.Core.Path.{_≡_};
+ghost use mathlib.Core.Bool.{not, _&&_};
 ghost use Prim.Native.Nat.{_≤_};
 ghost use lib.ListN.{getD};
 ghost use Rattle.geometry.specs.Blocks.{geometryOf};
+ghost use Rattle.semantics.specs.State.{runs};
 ghost use Rattle.semantics.specs.Reading.{runsIn, bitIf, statusWord, deviceCode, signatureWord, queryWord, shown, readWord};
 
 // `n` where `on` holds, and else 0. The bound is what a sum of them asks.
@@ -31,6 +33,16 @@ fn busy_in(part: Part, r: Running, bank: u32) -> bool
     false
 }
 
+// Something runs, in a bank other than this.
+fn busy_elsewhere(part: Part, r: Running, bank: u32) -> bool
+    ensures { λ x. ⌜ x ≡ (runs r && not (runsIn (geometryOf part) r bank)) ⌝ }
+{
+    if operation::runs(r) {
+        return !operation::runs_in(part, r, bank);
+    }
+    false
+}
+
 // The status word that a read in a bank shows, SR7 first.
 pub fn status_word(part: Part, a: Activity, flags: Flags, bank: u32) -> u16
     ensures { λ r. ⌜ r ≡ statusWord (geometryOf part) a flags bank ⌝ }
@@ -38,16 +50,14 @@ pub fn status_word(part: Part, a: Activity, flags: Flags, bank: u32) -> u16
     let running = a.running;
     let program = a.program;
     let erase = a.erase;
-    let busy = operation::runs(running);
-    let here = busy_in(part, running, bank);
-    bit_if(!busy, 0x80)
+    bit_if(!operation::runs(running), 0x80)
         + bit_if(operation::erase_suspended(erase), 0x40)
         + bit_if(flags.sr5, 0x20)
         + bit_if(flags.sr4, 0x10)
         + bit_if(flags.sr3, 0x08)
         + bit_if(operation::program_suspended(program), 0x04)
         + bit_if(flags.sr1, 0x02)
-        + bit_if(busy & !here, 0x01)
+        + bit_if(busy_elsewhere(part, running, bank), 0x01)
 }
 
 fn device_code(part: Part) -> u16

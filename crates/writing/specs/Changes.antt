@@ -1,4 +1,4 @@
--- What a write changes of a state, where it is one thing alone, and that this is what the definition of a write gives. Assumes nothing.
+-- What a write changes of a state, where that is little, and that this is what the definition of a write gives. Assumes nothing.
 use Prim.Native.Nat.{ℕ, _+_, _-_, _%_}
 use mathlib.Core.Bool.{Bool, true, false, not, cond, true≢false, false≢true}
 use mathlib.Core.List.{List}
@@ -33,13 +33,13 @@ use Rattle.writing.specs.declared.Change.{Change}
 use Rattle.writing.specs.declared.Change.the-variants as change
 
 abbrev pub setUpChange : Activity → Setup → Change
-setUpChange a x = cond (accepts a x) (change.Setup x) (change.Activity a)
+setUpChange a x = cond (accepts a x) (change.First Status x) (change.Activity a)
 
 abbrev pub commandChange : Activity → Place → Command → Change
-commandChange a p command.ReadArray = change.Mode Array
-commandChange a p command.ReadStatus = change.Mode Status
-commandChange a p command.ReadSignature = change.Mode Signature
-commandChange a p command.ReadQuery = change.Mode Query
+commandChange a p command.ReadArray = change.First Array (a .setup)
+commandChange a p command.ReadStatus = change.First Status (a .setup)
+commandChange a p command.ReadSignature = change.First Signature (a .setup)
+commandChange a p command.ReadQuery = change.First Query (a .setup)
 commandChange a p command.Suspend = change.Activity (suspended a (a .running))
 commandChange a p command.Resume = change.Activity (resume a)
 commandChange a p command.ClearStatus = change.View
@@ -52,11 +52,45 @@ commandChange a p command.Unknown = change.Activity a
 abbrev pub changeOf : Activity → Place → ℕ → Change
 changeOf a p w = cond (pending (a .setup)) change.View (commandChange a p (commandOf (w % 256)))
 
+-- a cycle that is told by its view: by the set-up that is pending, or 50h where none is
+abbrev pub toldCycle : Geometry → View → Setup → Place → ℕ → View
+toldCycle g v setup.Nothing p w = clearStatus v
+toldCycle g v setup.Program p w = cycle g v setup.Program p w
+toldCycle g v setup.Erase p w = cycle g v setup.Erase p w
+toldCycle g v setup.Lock p w = cycle g v setup.Lock p w
+toldCycle g v (setup.BufferCount b) p w = cycle g v (setup.BufferCount b) p w
+toldCycle g v (setup.BufferFirst b n) p w = cycle g v (setup.BufferFirst b n) p w
+toldCycle g v (setup.BufferWords l n d) p w = cycle g v (setup.BufferWords l n d) p w
+
+abbrev pub toldAt : State → Place → ℕ → View
+toldAt s p w = toldCycle (geometry s) (viewAt s p) (s .control .activity .setup) p w
+
+pub told-pending : (g : Geometry) (v : View) (c : Setup) (p : Place) (w : ℕ) → pending c ≡ true → toldCycle g v c p w ≡ cycle g v c p w
+told-pending g v setup.Nothing p w h = absurd (false≢true h)
+told-pending g v setup.Program p w h = refl
+told-pending g v setup.Erase p w h = refl
+told-pending g v setup.Lock p w h = refl
+told-pending g v (setup.BufferCount b) p w h = refl
+told-pending g v (setup.BufferFirst b n) p w h = refl
+told-pending g v (setup.BufferWords l n d) p w h = refl
+
+pub nothing-pending : (c : Setup) → pending c ≡ false → c ≡ setup.Nothing
+nothing-pending setup.Nothing h = refl
+nothing-pending setup.Program h = absurd (true≢false h)
+nothing-pending setup.Erase h = absurd (true≢false h)
+nothing-pending setup.Lock h = absurd (true≢false h)
+nothing-pending (setup.BufferCount b) h = absurd (true≢false h)
+nothing-pending (setup.BufferFirst b n) h = absurd (true≢false h)
+nothing-pending (setup.BufferWords l n d) h = absurd (true≢false h)
+
+pub cycle-first : (g : Geometry) (v : View) (c : Setup) (p : Place) (w : ℕ) → pending c ≡ false → firstCycle v p (commandOf (w % 256)) ≡ cycle g v c p w
+unfolding cycle
+cycle-first g v c p w h = sym (ap (λ (x : Setup). cycle g v x p w) (nothing-pending c h))
+
 -- ---- the first cycle, by what it changes
 
 abbrev pub firstBy : View → Change → View
-firstBy v (change.Mode m) = withMode v m
-firstBy v (change.Setup x) = pend v x
+firstBy v (change.First m x) = withMode (pend v x) m
 firstBy v (change.Activity a) = view.withActivity v a
 firstBy v change.View = clearStatus v
 
@@ -64,7 +98,7 @@ first-set-up : (v : View) (x : Setup) → firstBy v (setUpChange (v .control .ac
 unfolding setUp
 first-set-up v x = go (accepts (v .control .activity) x)
   where
-    go : (t : Bool) → firstBy v (cond t (change.Setup x) (change.Activity (v .control .activity))) ≡ cond t (pend v x) v
+    go : (t : Bool) → firstBy v (cond t (change.First Status x) (change.Activity (v .control .activity))) ≡ cond t (pend v x) v
     go true = refl
     go false = refl
 
@@ -83,18 +117,22 @@ first-is v p command.SetUpLock = first-set-up v setup.Lock
 first-is v p command.SetUpBuffer = first-set-up v (setup.BufferCount (p .block))
 first-is v p command.Unknown = refl
 
--- ---- the state after a write, where it changes one thing
+-- ---- the state after a write that changes little
 
 -- the state with bank k in a mode
 abbrev pub withBank : State → ℕ → Mode → State
 withBank s k m = record { part = s .part; banks = set (s .banks) k (record { mode = m }); unprotected = s .unprotected; control = s .control; buffer = s .buffer }
 
--- the state with that thing changed at a place
+-- the state with that changed at a place
 abbrev pub putChange : State → Place → Change → State
-putChange s p (change.Mode m) = withBank s (p .bank) m
-putChange s p (change.Setup x) = withBank (withActivity s (withSetup (s .control .activity) x)) (p .bank) Status
+putChange s p (change.First m x) = withBank (withActivity s (withSetup (s .control .activity) x)) (p .bank) m
 putChange s p (change.Activity a) = withActivity s a
 putChange s p change.View = s
+
+abbrev pub told : Change → Bool
+told (change.First m x) = false
+told (change.Activity a) = false
+told change.View = true
 
 -- a mode, and a block's protection, put back as it was
 banks-back : (s : State) (p : Place) → set (s .banks) (p .bank) (record { mode = viewAt s p .mode }) ≡ s .banks
@@ -103,37 +141,42 @@ banks-back s p = ap (λ (t : State). t .banks) (view-back s p)
 protection-back : (s : State) (p : Place) → withUnprotected (s .unprotected) (p .block) (viewAt s p .unprotected) ≡ s .unprotected
 protection-back s p = ap (λ (t : State). t .unprotected) (view-back s p)
 
-put-view : (s : State) (p : Place) (k : Change) → (k ≡ change.View → ⊥) → withView s p (firstBy (viewAt s p) k) ≡ putChange s p k
-put-view s p (change.Mode m) h = rw (protection-back s p)
-put-view s p (change.Setup x) h = rw (protection-back s p)
+put-view : (s : State) (p : Place) (k : Change) → told k ≡ false → withView s p (firstBy (viewAt s p) k) ≡ putChange s p k
+put-view s p (change.First m x) h = rw (protection-back s p)
 put-view s p (change.Activity a) h = rw (protection-back s p, banks-back s p)
-put-view s p change.View h = absurd (h refl)
+put-view s p change.View h = absurd (true≢false h)
 
-nothing-pending : (g : Geometry) (c : Setup) (p : Place) (w : ℕ) (r : Running) (bs : List ℕ) → pending c ≡ false → (c ≡ setup.Nothing) × (loaded g c p w r bs ≡ bs)
-unfolding loaded
-nothing-pending g setup.Nothing p w r bs h = (refl, refl)
-nothing-pending g setup.Program p w r bs h = absurd (true≢false h)
-nothing-pending g setup.Erase p w r bs h = absurd (true≢false h)
-nothing-pending g setup.Lock p w r bs h = absurd (true≢false h)
-nothing-pending g (setup.BufferCount b) p w r bs h = absurd (true≢false h)
-nothing-pending g (setup.BufferFirst b n) p w r bs h = absurd (true≢false h)
-nothing-pending g (setup.BufferWords l n d) p w r bs h = absurd (true≢false h)
-
--- a write that changes one thing alone changes that
-pub change-put : (s : State) (p : Place) (w : ℕ) (k : Change) → k ≡ changeOf (s .control .activity) p w → (k ≡ change.View → ⊥) → putChange s p k ≡ writtenAt s p w
-unfolding writtenAt cycle
+-- a write that changes little changes that
+pub change-put : (s : State) (p : Place) (w : ℕ) (k : Change) → k ≡ changeOf (s .control .activity) p w → told k ≡ false → putChange s p k ≡ writtenAt s p w
+unfolding writtenAt loaded
 change-put s p w k e h = go (pending (s .control .activity .setup)) refl
   where
     a : Activity
     a = s .control .activity
 
     go : (t : Bool) → pending (a .setup) ≡ t → putChange s p k ≡ writtenAt s p w
-    go true q = absurd (h (e ∙ rw q))
+    go true q = let v : k ≡ change.View = e ∙ rw q in absurd (true≢false (sym (ap told v) ∙ h))
     go false q =
-        let n = nothing-pending (geometry s) (a .setup) p w (cycleAt s p w .control .activity .running) (s .buffer) q in
+        let n = nothing-pending (a .setup) q in
         let c : k ≡ commandChange a p (commandOf (w % 256)) = e ∙ rw q in
-        let f : firstBy (viewAt s p) k ≡ cycleAt s p w = ap (firstBy (viewAt s p)) c ∙ first-is (viewAt s p) p (commandOf (w % 256)) ∙ rw (n .0) in
-        sym (put-view s p k h) ∙ ap (withView s p) f ∙ rw (n .1)
+        let f : firstBy (viewAt s p) k ≡ cycleAt s p w =
+        ap (firstBy (viewAt s p)) c ∙ first-is (viewAt s p) p (commandOf (w % 256)) ∙ cycle-first (geometry s) (viewAt s p) (a .setup) p w q in
+        sym (put-view s p k h) ∙ ap (withView s p) f ∙ rw n
+
+-- one that is told by its view is what that says
+pub change-told : (s : State) (p : Place) (w : ℕ) → change.View ≡ changeOf (s .control .activity) p w → toldAt s p w ≡ cycleAt s p w
+change-told s p w e = go (pending (s .control .activity .setup)) refl
+  where
+    a : Activity
+    a = s .control .activity
+
+    go : (t : Bool) → pending (a .setup) ≡ t → toldAt s p w ≡ cycleAt s p w
+    go true q = told-pending (geometry s) (viewAt s p) (a .setup) p w q
+    go false q =
+        let n = nothing-pending (a .setup) q in
+        let c : change.View ≡ commandChange a p (commandOf (w % 256)) = e ∙ rw q in
+        ap (λ (x : Setup). toldCycle (geometry s) (viewAt s p) x p w) n ∙ ap (firstBy (viewAt s p)) c ∙ first-is (viewAt s p) p (commandOf (w % 256))
+        ∙ cycle-first (geometry s) (viewAt s p) (a .setup) p w q
 
 -- ---- a cycle that is told by its view leaves what is suspended, and the supply
 
@@ -190,39 +233,34 @@ confirm-left : (g : Geometry) (v : View) (l n : ℕ) (p : Place) (w : ℕ) → L
 unfolding confirmCycle settle
 confirm-left g v l n p w = either (confirmRight g l p w) v (programRuns (settle v) p (running.Buffer l n 0)) (wrong v) (program-left (settle v) p (running.Buffer l n 0)) (same v)
 
-cycle-left : (g : Geometry) (v : View) (c : Setup) (p : Place) (w : ℕ) → pending c ≡ true → Left v (cycle g v c p w)
-unfolding cycle settle wordsCycle
-cycle-left g v setup.Nothing p w h = absurd (false≢true h)
-cycle-left g v setup.Program p w h = program-left (settle v) p (running.Program (p .location) w)
-cycle-left g v setup.Erase p w h = erase-left (settle v) p (w % 256)
-cycle-left g v setup.Lock p w h = lock-left (settle v) p (lockCommandOf (w % 256))
-cycle-left g v (setup.BufferCount b) p w h = loads-left (countRight b p w) v (setup.BufferFirst b (w + 1))
-cycle-left g v (setup.BufferFirst b n) p w h = loads-left (firstRight g b n p) v (setup.BufferWords (p .location) n (n - 1))
-cycle-left g v (setup.BufferWords l n d) p w h =
-    let x : Setup = setup.BufferWords l n (d - 1) in
-    either (eqb d 0) v (confirmCycle g v l n p w) (loads (laterRight l n p) v x) (confirm-left g v l n p w) (loads-left (laterRight l n p) v x)
-
 clear-left : (v : View) → Left v (clearStatus v)
 unfolding clearStatus
 clear-left v = either (runs (v .control .activity .running)) v v (view.withFlags v noFlags) (same v) (same v)
 
-pub view-settled : (s : State) (p : Place) (w : ℕ) → change.View ≡ changeOf (s .control .activity) p w → settledIn (s .control) (cycleAt s p w) ≡ cycleAt s p w .control
-unfolding cycle
-view-settled s p w e =
-    let v : View = cycleAt s p w in
-    let l = left (pending (a .setup)) refl in
+told-left : (g : Geometry) (v : View) (c : Setup) (p : Place) (w : ℕ) → Left v (toldCycle g v c p w)
+unfolding cycle settle wordsCycle
+told-left g v setup.Nothing p w = clear-left v
+told-left g v setup.Program p w = program-left (settle v) p (running.Program (p .location) w)
+told-left g v setup.Erase p w = erase-left (settle v) p (w % 256)
+told-left g v setup.Lock p w = lock-left (settle v) p (lockCommandOf (w % 256))
+told-left g v (setup.BufferCount b) p w = loads-left (countRight b p w) v (setup.BufferFirst b (w + 1))
+told-left g v (setup.BufferFirst b n) p w = loads-left (firstRight g b n p) v (setup.BufferWords (p .location) n (n - 1))
+told-left g v (setup.BufferWords l n d) p w =
+    let x : Setup = setup.BufferWords l n (d - 1) in
+    either (eqb d 0) v (confirmCycle g v l n p w) (loads (laterRight l n p) v x) (confirm-left g v l n p w) (loads-left (laterRight l n p) v x)
+
+pub told-settled : (s : State) (p : Place) (w : ℕ) → settledIn (s .control) (toldAt s p w) ≡ toldAt s p w .control
+told-settled s p w =
+    let v : View = toldAt s p w in
+    let l = told-left (geometry s) (viewAt s p) (s .control .activity .setup) p w in
     let x = sym (l .0) in
     let y = sym (l .1) in
     let z = sym (l .2) in
     λ j. record { activity = activity (v .control .activity .setup) (v .control .activity .running) (x j) (y j); flags = v .control .flags; configuration = v .control .configuration; supply = z j }
-  where
-    a : Activity
-    a = s .control .activity
 
-    left : (t : Bool) → pending (a .setup) ≡ t → Left (viewAt s p) (cycleAt s p w)
-    left true q = cycle-left (geometry s) (viewAt s p) (a .setup) p w q
-    left false q =
-        let n = nothing-pending (geometry s) (a .setup) p w (a .running) (s .buffer) q in
-        let k : change.View ≡ commandChange a p (commandOf (w % 256)) = e ∙ rw q in
-        let f : clearStatus (viewAt s p) ≡ cycleAt s p w = ap (firstBy (viewAt s p)) k ∙ first-is (viewAt s p) p (commandOf (w % 256)) ∙ rw (n .0) in
-        subst (Left (viewAt s p)) f (clear-left (viewAt s p))
+-- the state after a write that is told by its view v, with the protection words u and the buffer bs that it leaves
+pub told-put : (s : State) (p : Place) (w : ℕ) (v : View) (u bs : List ℕ) → change.View ≡ changeOf (s .control .activity) p w → v ≡ toldAt s p w
+    → u ≡ withUnprotected (s .unprotected) (p .block) (v .unprotected) → bs ≡ loaded (geometry s) (s .control .activity .setup) p w (v .control .activity .running) (s .buffer)
+    → _≡_ {A = State} (record { part = s .part; banks = set (s .banks) (p .bank) (record { mode = v .mode }); unprotected = u; control = settledIn (s .control) v; buffer = bs }) (writtenAt s p w)
+unfolding writtenAt
+told-put s p w v u bs e f h i = rw (i, h, f, told-settled s p w, change-told s p w e)

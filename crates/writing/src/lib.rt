@@ -3,6 +3,7 @@
 use geometry::Part;
 use semantics::Activity;
 use semantics::Command;
+use semantics::Control;
 use semantics::Flags;
 use semantics::LockCommand;
 use semantics::Mode;
@@ -16,13 +17,12 @@ ghost use Prim.Native.Nat.{_-_};
 ghost use Rattle.geometry.specs.Blocks.{geometryOf};
 ghost use Rattle.semantics.specs.View.{withActivity, withMode, raise};
 ghost use Rattle.semantics.specs.Writing.{commandOf, pend, clearStatus, firstCycle, programRuns, eraseCycle, lockCommandOf, lockCycle, settle, loads, countRight, firstRight, laterRight, confirmRight, confirmCycle, wordsCycle, cycle, wordsLoaded, loaded, cycleAt, written};
-ghost use Rattle.writing.specs.Changes.{setUpChange, commandChange, changeOf};
+ghost use Rattle.writing.specs.Changes.{setUpChange, commandChange, changeOf, toldCycle, toldAt};
 
-// What a write changes of a state, where it is one thing alone: the mode of the addressed bank; the set-up, with that bank in status mode; what is under way, which of a
-// write that is ignored is as it was. Any other write is told by its view: 50h, and every cycle that goes on with a set-up or ends it.
+// What a write changes of a state, where that is little: the mode of the addressed bank and the set-up; or what is under way, which of a write that is ignored is as
+// it was. Any other write is told by its view: 50h, and every cycle that goes on with a set-up or ends it.
 pub enum Change {
-    Mode(Mode),
-    Setup(Setup),
+    First(Mode, Setup),
     Activity(Activity),
     View,
 }
@@ -110,7 +110,7 @@ fn set_up_change(a: Activity, x: Setup) -> Change
     ensures { λ r. ⌜ r ≡ setUpChange a x ⌝ }
 {
     if operation::accepts(a, x) {
-        return Change::Setup(x);
+        return Change::First(Mode::Status, x);
     }
     Change::Activity(a)
 }
@@ -119,11 +119,12 @@ fn set_up_change(a: Activity, x: Setup) -> Change
 fn command_change(a: Activity, p: Place, c: Command) -> Change
     ensures { λ r. ⌜ r ≡ commandChange a p c ⌝ }
 {
+    let setup = a.setup;
     match c {
-        Command::ReadArray => Change::Mode(Mode::Array),
-        Command::ReadStatus => Change::Mode(Mode::Status),
-        Command::ReadSignature => Change::Mode(Mode::Signature),
-        Command::ReadQuery => Change::Mode(Mode::Query),
+        Command::ReadArray => Change::First(Mode::Array, setup),
+        Command::ReadStatus => Change::First(Mode::Status, setup),
+        Command::ReadSignature => Change::First(Mode::Signature, setup),
+        Command::ReadQuery => Change::First(Mode::Query, setup),
         Command::Suspend => Change::Activity(operation::suspended(a)),
         Command::Resume => Change::Activity(operation::resume(a)),
         Command::ClearStatus => Change::View,
@@ -142,8 +143,7 @@ fn first_cycle(v: View, p: Place, c: Command) -> View
     let a = v.control.activity;
     let change = command_change(a, p, c);
     match change {
-        Change::Mode(mode) => with_mode(v, mode),
-        Change::Setup(x) => pend(v, x),
+        Change::First(mode, x) => with_mode(pend(v, x), mode),
         Change::Activity(x) => with_activity(v, x),
         Change::View => clear_status(v),
     }
@@ -313,15 +313,15 @@ fn words_cycle(part: Part, v: View, start: u32, words: u32, due: u32, p: Place, 
 
 // ---- a write
 
-// The cycle at a place, by the set-up that is pending. A program and a load take the whole word, any other its low byte.
-fn cycle(part: Part, v: View, p: Place, word: u16) -> View
-    ensures { λ r. ⌜ r ≡ cycle (geometryOf part) v (v .control .activity .setup) p word ⌝ }
+// A cycle that is told by its view, at a place: by the set-up that is pending, or 50h where none is. A program and a load take the whole word, any other its low byte.
+fn told_cycle(part: Part, v: View, p: Place, word: u16) -> View
+    ensures { λ r. ⌜ r ≡ toldCycle (geometryOf part) v (v .control .activity .setup) p word ⌝ }
 {
     let a = v.control.activity;
     let setup = a.setup;
     let c = word % 256;
     match setup {
-        Setup::Nothing => first_cycle(v, p, command_of(c)),
+        Setup::Nothing => clear_status(v),
         Setup::Program => {
             let location = p.location;
             program_runs(settle(v), p, Running::Program { location, word })
@@ -361,6 +361,26 @@ pub fn change_of(a: Activity, p: Place, word: u16) -> Change
     command_change(a, p, command_of(word % 256))
 }
 
+// The same of a state.
+pub fn told_view(s: State, p: Place, word: u16) -> View
+    ensures { λ r. ⌜ r ≡ toldAt s p word ⌝ }
+{
+    let part = s.part;
+    told_cycle(part, state::view_at(s, p), p, word)
+}
+
+// The cycle at a place.
+fn cycle(part: Part, v: View, p: Place, word: u16) -> View
+    ensures { λ r. ⌜ r ≡ cycle (geometryOf part) v (v .control .activity .setup) p word ⌝ }
+{
+    let a = v.control.activity;
+    let setup = a.setup;
+    if operation::pending(setup) {
+        return told_cycle(part, v, p, word);
+    }
+    first_cycle(v, p, command_of(word % 256))
+}
+
 // What a write of a word makes of what it sees of the state at a place.
 pub fn view_after(s: State, p: Place, word: u16) -> View
     ensures { λ r. ⌜ r ≡ cycleAt s p word ⌝ }
@@ -392,18 +412,14 @@ fn load_words(
     }
 }
 
-// What a cycle at a place makes of the buffer, by the set-up that was pending, where `running` runs after it. The buffer stands where it is: a cycle that is no load's
-// does not copy it.
-pub fn load_buffer(
-    part: Part,
-    setup: Setup,
-    p: Place,
-    word: u16,
-    running: Running,
-    buffer: &mut [u16; 32],
-)
-    ensures { λ _. ⌜ now (buffer .exit) ≡ loaded (geometryOf part) setup p word running (now (buffer .entry)) ⌝ }
+// What a cycle at a place makes of the buffer, from the control before it to the view after it. The buffer stands where it is: a cycle that is no load's does not copy it.
+pub fn load_buffer(part: Part, c: Control, p: Place, word: u16, v: View, buffer: &mut [u16; 32])
+    ensures { λ _. ⌜ now (buffer .exit) ≡ loaded (geometryOf part) (c .activity .setup) p word (v .control .activity .running) (now (buffer .entry)) ⌝ }
 {
+    let before = c.activity;
+    let after = v.control.activity;
+    let setup = before.setup;
+    let running = after.running;
     match setup {
         Setup::Nothing => {}
         Setup::Program => {}
@@ -426,13 +442,10 @@ pub fn written(s: State, address: u32, word: u16) -> State
     ensures { λ r. ⌜ r ≡ written s address word ⌝ }
 {
     let part = s.part;
-    let before = s.control.activity;
-    let setup = before.setup;
+    let c = s.control;
     let p = state::place_of(part, address);
     let v = view_after(s, p, word);
-    let after = v.control.activity;
-    let running = after.running;
     let mut next = state::with_view(s, p, v);
-    load_buffer(part, setup, p, word, running, &mut next.buffer);
+    load_buffer(part, c, p, word, v, &mut next.buffer);
     next
 }

@@ -1,53 +1,71 @@
 -- `playback::run` meets its contract. The invariant: the first i numbers have been played, and what the state and the array are refused for is as it was
--- (`Going`). One step more is what the code made of the state, by the way that it came. Assumes nothing.
+-- (`Going`). One number more is played by the task that it asks, and a write by what it changes. Assumes nothing.
 use mathlib.Core.Logic.{⊎-elim}
-use mathlib.Core.Path.{_≡_, sym, ap, _∙_}
-use Prim.Native.Nat.{_-_, min}
+use mathlib.Core.Path.{_≡_, refl, sym, _∙_}
+use Prim.Native.Nat.{_-_, _≤_, min}
 use native.Mathlib.Omega.{arith}
 use native.Mathlib.Numerals.{add-one}
 use borrow.Author.Needs.{needs}
 use lib.ListN.{length}
-use Rattle.semantics.specs.Held.{does-refused, does-read, does-write, does-work, does-supply, does-reset}
-use Rattle.playback.specs.Laws.{Going, going-none, going-next, sofar-end, is-refused, is-done}
+use Rattle.semantics.specs.Steps.{stateRefusal}
+use Rattle.writing.specs.Changes.{change-put, told-put}
+use Rattle.playback.specs.Tasks.{task-means}
+use Rattle.playback.specs.Laws.{Going, going-none, going-on, sofar-end, write-bank, plays-refused, plays-read, plays-write, plays-work, plays-supply, plays-reset}
 use Rattle.playback.proofs.Fits.{five, sixteen, thirty-two}
 use Rattle.playback.proofs.run.Statement.{statement}
 use Rattle.playback.proofs.run.Tie as tie
 
 abbrev Inv-loop : tie.InvT-loop
-Inv-loop steps answers₀ array₀ s₀ refused n i₀ answers array s i = Going refused s₀ steps answers₀ array₀ i s answers array × (n ≡ min (length steps) (length answers₀))
+Inv-loop steps answers₀ array₀ s₀ refused n i₀ answers array s i = Going refused s₀ steps answers₀ array₀ i s answers array × (n ≡ min (length steps) (length answers₀)) × (i ≤ n)
 
 abbrev μ-loop : tie.MeasureT-loop
 μ-loop steps answers₀ array₀ s₀ refused n i₀ answers array s i = n - i
 
 loop-holds : tie.Need-loop-holds Inv-loop μ-loop
+unfolding stateRefusal
 loop-holds c =
-    let d = c .before .before .before .before .before .before .args .device in
-    let p = c .before .before .before .before .before .before .good .0 in
-    (going-none _ _ _ _ _ (record { same = c .before .state-refusal .ensures; sixteen = sixteen d _ p; five = five d _ p; thirty-two = thirty-two d _ p }), c .least .ensures)
+    let d = c .before .before .before .before .before .before .before .args .device in
+    let p = c .before .before .before .before .before .before .before .good .0 in
+    let xs = c .before .before .before .before .before .before .before .args .array .now in
+    let e : c .before .refusal-beside .result ≡ stateRefusal (d .state) (length xs) = rw (← c .before .before .well-formed .ensures) (c .before .refusal-beside .ensures) in
+    (going-none _ _ _ _ _ (record { same = e; sixteen = sixteen d _ p; five = five d _ p; thirty-two = thirty-two d _ p }), c .least .ensures, omega arith)
 
 returns : tie.Need-returns Inv-loop μ-loop
-returns c = rw (c .ended .ensures) (sofar-end _ _ _ _ _ _ _ _ (c .before .before .before .before .before .before .loop .inv .0 .sofar) (λ p q. sym (c .before .before .before .decoded .ensures) ∙ c .before .enum-told .given .1))
+returns c =
+    let l = c .before .before .before .before .before .before .loop in
+    rw (c .ended .ensures) (sofar-end _ _ _ _ _ _ _ _ (l .inv .0 .sofar) (λ p q. task-means _ _ _ _ (sym (c .before .enum-told .given .1) ∙ c .before .before .before .task-of .ensures)))
+
+element-set-from-s : tie.Need-element-set-from-s Inv-loop μ-loop
+element-set-from-s c = let t = c .before .before .before .before .before .before .before .before .before .before in write-bank _ (t .before .before .before .before .before .loop .s .part) _ _ _ (task-means _ _ _ _ (sym (t .task3 .given .1) ∙ t .before .before .task-of .ensures))
+
+element-set-from-s-2 : tie.Need-element-set-from-s-2 Inv-loop μ-loop
+element-set-from-s-2 c = let t = c .before .before .before .before .before .before .before .before .before .before .before .before .before .before in write-bank _ (t .before .before .before .before .before .loop .s .part) _ _ _ (task-means _ _ _ _ (sym (t .task3 .given .1) ∙ t .before .before .task-of .ensures))
 
 loop-again : tie.Need-loop-again Inv-loop μ-loop
 loop-again c =
-    let l = c .before .before .before .before .before .before .before .before .before .before .before .loop in
+    let l = c .before .before .before .before .before .loop in
     let g = l .inv .0 in
-    let d = c .before .before .before .before .step-refusal .ensures in
-    let e = c .before .before .before .first-refusal .ensures in
-    let f = c .before .before .refused-or-done .ensures in (
+    let h = g .held in
+    let k = c .before .before .task-of .ensures in (
       rw (add-one, c .answer-code .ensures)
-          (going-next _ _ _ _ _ _ _ _ _ _ _ _ _ g (omega arith) (omega arith) (sym (c .before .before .before .before .before .before .before .before .decoded .ensures) ∙ c .before .before .before .before .before .before .x .given .1)
-          (⊎-elim (λ w. does-read _ _ _ (g .held) _ _ _ d e _ _ _ _ _ (w .0 .taken) (w .2 .given .1) (w .5 .ensures) (w .7) (w .8) (w .6))
-          (⊎-elim (λ w. does-write _ _ _ (g .held) _ _ _ d e _ _ _ _ _ _ _ _ _ _ (w .0 .taken) (w .2 .given .1) (w .4 .ensures .0) (w .7 .ensures) (w .9 .ensures) (w .12 .ensures) (w .15 .ensures ∙ rw (w .6 .ensures, w .13 .ensures)) (w .17 ∙ rw (w .8 .ensures)) (is-done _ _ _ (w .0 .taken) f (w .18)) (w .16))
-          (⊎-elim (λ w. does-work _ _ _ (g .held) _ _ _ d e _ _ _ _ _ _ (w .0 .taken) (w .2 .given .1) (w .7 .ensures .0) (w .7 .ensures .1 .0) (w .12 ∙ rw (w .10 .ensures)) (w .13) (w .11 ∙ w .7 .ensures .1 .1))
-          (⊎-elim (λ w. does-supply _ _ _ (g .held) _ _ _ d e _ _ _ _ (w .0 .taken) (w .2 .given .1) (w .6) (is-done _ _ _ (w .0 .taken) f (w .7)) (w .5))
-          (⊎-elim (λ w. does-reset _ _ _ (g .held) _ _ _ d e _ _ _ (w .0 .taken) (w .2 .given .1) (w .5 ∙ w .3 .ensures) (is-done _ _ _ (w .0 .taken) f (w .6)) (w .4))
-          (λ w. does-refused _ _ _ (g .held) _ _ _ d e _ _ _ (w .0 .left) (w .2) (is-refused _ _ _ (w .0 .left) f (w .3)) (w .1)))))) (c .before .if1 .came))),
+          (going-on _ _ _ _ _ _ _ _ _ _ _ _ g (omega arith) (omega arith)
+          (⊎-elim (λ w. plays-refused _ _ _ h _ _ _ _ _ (task-means _ _ _ _ (sym (w .1 .given .1) ∙ k)) (w .4) (w .5) (w .3))
+          (⊎-elim (λ w. plays-read _ _ _ h _ _ _ _ _ _ (task-means _ _ _ _ (sym (w .1 .given .1) ∙ k)) (w .4 .ensures) (w .6) (w .7) (w .5))
+          (⊎-elim (λ w. plays-write _ _ _ h _ _ _ _ _ _ (task-means _ _ _ _ (sym (w .1 .given .1) ∙ k)) (w .13 ∙ rw (w .10 .ensures) (change-put _ _ _ _ (sym (w .7 .given .1) ∙ (rw (w .4 .ensures) at (w .5 .ensures))) refl)) (w .14) (w .12))
+          (⊎-elim (λ w. plays-write _ _ _ h _ _ _ _ _ _ (task-means _ _ _ _ (sym (w .1 .given .1) ∙ k)) (w .12 ∙ rw (w .10 .ensures) (change-put _ _ _ _ (sym (w .7 .given .1) ∙ (rw (w .4 .ensures) at (w .5 .ensures))) refl)) (w .13) (w .11))
+          (⊎-elim (λ w. plays-write _ _ _ h _ _ _ _ _ _ (task-means _ _ _ _ (sym (w .1 .given .1) ∙ k)) (w .19 ∙ rw (w .13 .ensures, w .14 .ensures) (told-put _ _ _ _ _ _ (sym (w .7 .given .1) ∙ (rw (w .4 .ensures) at (w .5 .ensures))) (w .8 .ensures) (w .17 .ensures) (w .11 .ensures))) (w .20) (w .18))
+          (⊎-elim (λ w. plays-work _ _ _ h _ _ _ _ _ _ _ (task-means _ _ _ _ (sym (w .1 .given .1) ∙ k)) (rw (w .4 .ensures) at (w .7 .ensures .0)) (rw (w .4 .ensures) at (w .7 .ensures .1 .0)) (w .14 ∙ rw (w .12 .ensures)) (w .15) (w .13 ∙ (rw (w .4 .ensures) at (w .7 .ensures .1 .1))))
+          (⊎-elim (λ w. plays-supply _ _ _ h _ _ _ _ _ (task-means _ _ _ _ (sym (w .1 .given .1) ∙ k)) (w .5) (w .6) (w .4))
+          (λ w. plays-reset _ _ _ h _ _ _ _ (task-means _ _ _ _ (sym (w .1 .given .1) ∙ k)) (w .4 ∙ w .2 .ensures) (w .5) (w .3)))))))) (c .before .match .came))),
       l .inv .1,
+      omega arith,
     )
 
 returns-2 : tie.Need-returns-2 Inv-loop μ-loop
-returns-2 c = rw (c .ended2 .ensures) (sofar-end _ _ _ _ _ _ _ _ (c .before .before .loop .inv .0 .sofar) (λ p q. absurd (omega arith)))
+returns-2 c =
+    let l = c .before .before .loop in
+    let e : l .i ≡ c .before .before .before .least .result = omega arith in
+    rw (c .ended2 .ensures, ← e) (sofar-end _ _ _ _ _ _ _ _ (l .inv .0 .sofar) (λ p q. absurd (omega arith)))
 
 pub run-spec : {M : Type 1} → statement M
 run-spec =
@@ -57,19 +75,26 @@ run-spec =
     μ-loop
     (λ c κs. search needs)
     (λ c κs. search needs)
+    (λ c κs. search needs)
     loop-holds
     (λ c. search needs)
     (λ c. search needs)
     (λ c κs. search needs)
     (λ c. search needs)
-    (λ c. search needs)
     (λ c κs. search needs)
     (λ c. search needs)
     (λ c. search needs)
     returns
+    (λ c. search needs)
+    (λ c. search needs)
+    (λ c κs. search needs)
+    (λ c. search needs)
     (λ c κs. search needs)
     (λ c κs. search needs)
+    (λ c. search needs)
     (λ c κs. search needs)
+    (λ c. search needs)
+    element-set-from-s
     (λ c. search needs)
     (λ c κs. search needs)
     (λ c. search needs)
@@ -77,13 +102,11 @@ run-spec =
     (λ c κs. search needs)
     (λ c κs. search needs)
     (λ c κs. search needs)
+    (λ c. search needs)
+    element-set-from-s-2
     (λ c κs. search needs)
     (λ c. search needs)
-    (λ c. search needs)
     (λ c κs. search needs)
-    (λ c κs. search needs)
-    (λ c κs. search needs)
-    (λ c. search needs)
     (λ c κs. search needs)
     (λ c κs. search needs)
     (λ c. search needs)

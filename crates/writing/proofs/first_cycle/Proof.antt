@@ -1,21 +1,18 @@
 -- `writing::first_cycle` meets its contract: by what it changes. Assumes nothing.
-use mathlib.Core.Path.{_≡_, sym, ap, _∙_}
+use mathlib.Core.Path.{sym, ap, _∙_}
 use Rattle.writing.specs.Changes.{firstBy, first-is}
 use borrow.Author.Needs.{needs}
 use Rattle.writing.proofs.first_cycle.Statement.{statement}
 use Rattle.writing.proofs.first_cycle.Tie as tie
 
 returns : tie.Need-returns
-returns c = c .with-mode .ensures ∙ sym (ap (firstBy _) (sym (c .before .before .before .before .command-change .ensures) ∙ c .before .before .change .given .1)) ∙ first-is _ _ _
+returns c = rw (c .with-mode .ensures, c .before .pend .ensures) (sym (ap (firstBy _) (sym (c .before .before .before .before .before .command-change .ensures) ∙ c .before .before .before .change .given .1)) ∙ first-is _ _ _)
 
 returns-2 : tie.Need-returns-2
-returns-2 c = c .pend .ensures ∙ sym (ap (firstBy _) (sym (c .before .before .before .before .command-change .ensures) ∙ c .before .before .change2 .given .1)) ∙ first-is _ _ _
+returns-2 c = c .with-activity .ensures ∙ sym (ap (firstBy _) (sym (c .before .before .before .before .command-change .ensures) ∙ c .before .before .change2 .given .1)) ∙ first-is _ _ _
 
 returns-3 : tie.Need-returns-3
-returns-3 c = c .with-activity .ensures ∙ sym (ap (firstBy _) (sym (c .before .before .before .before .command-change .ensures) ∙ c .before .before .change3 .given .1)) ∙ first-is _ _ _
-
-returns-4 : tie.Need-returns-4
-returns-4 c = c .clear-status .ensures ∙ sym (ap (firstBy _) (sym (c .before .before .before .command-change .ensures) ∙ c .before .enum-told .given .1)) ∙ first-is _ _ _
+returns-3 c = c .clear-status .ensures ∙ sym (ap (firstBy _) (sym (c .before .before .before .command-change .ensures) ∙ c .before .enum-told .given .1)) ∙ first-is _ _ _
 
 pub first-cycle-spec : {M : Type 1} → statement M
 first-cycle-spec =
@@ -24,7 +21,6 @@ first-cycle-spec =
     (λ c κs. search needs)
     (λ c. search needs)
     (λ c κs. search needs)
-    (λ c. search needs)
     (λ c κs. search needs)
     (λ c. search needs)
     (λ c κs. search needs)
@@ -32,5 +28,4 @@ first-cycle-spec =
     (λ c κs. search needs)
     returns
     returns-2
-    returns-3
-    returns-4)
+    returns-3)

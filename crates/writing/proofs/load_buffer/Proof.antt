@@ -4,36 +4,6 @@ use borrow.Author.Needs.{needs}
 use Rattle.writing.proofs.load_buffer.Statement.{statement}
 use Rattle.writing.proofs.load_buffer.Tie as tie
 
-enum-told : tie.Need-enum-told
-enum-told c = search needs
-
-enum-told-2 : tie.Need-enum-told-2
-enum-told-2 c = search needs
-
-enum-told-3 : tie.Need-enum-told-3
-enum-told-3 c = search needs
-
-enum-told-4 : tie.Need-enum-told-4
-enum-told-4 c = search needs
-
-enum-told-5 : tie.Need-enum-told-5
-enum-told-5 c = search needs
-
-enum-known-setup : tie.Need-enum-known-setup
-enum-known-setup c = search needs
-
-first-right-requires : tie.Need-first-right-requires
-first-right-requires c κs = search needs
-
-first-loaded-requires : tie.Need-first-loaded-requires
-first-loaded-requires c κs = search needs
-
-enum-known-setup-2 : tie.Need-enum-known-setup-2
-enum-known-setup-2 c = search needs
-
-load-words-requires : tie.Need-load-words-requires
-load-words-requires c κs = search needs
-
 returns : tie.Need-returns
 unfolding loaded
 returns c = rw (c .enum-told .given .1)
@@ -70,16 +40,16 @@ pub load-buffer-spec : {M : Type 1} → statement M
 load-buffer-spec =
     tie.close
     (tie.spec
-    enum-told
-    enum-told-2
-    enum-told-3
-    enum-told-4
-    enum-told-5
-    enum-known-setup
-    first-right-requires
-    first-loaded-requires
-    enum-known-setup-2
-    load-words-requires
+    (λ c. search needs)
+    (λ c. search needs)
+    (λ c. search needs)
+    (λ c. search needs)
+    (λ c. search needs)
+    (λ c. search needs)
+    (λ c κs. search needs)
+    (λ c κs. search needs)
+    (λ c. search needs)
+    (λ c κs. search needs)
     returns
     returns-2
     returns-3

@@ -4,28 +4,16 @@ use borrow.Author.Needs.{needs}
 use Rattle.writing.proofs.written.Statement.{statement}
 use Rattle.writing.proofs.written.Tie as tie
 
-place-of-requires : tie.Need-place-of-requires
-place-of-requires c κs = search needs
-
-view-after-requires : tie.Need-view-after-requires
-view-after-requires c κs = search needs
-
-with-view-requires : tie.Need-with-view-requires
-with-view-requires c κs = search needs
-
-load-buffer-requires : tie.Need-load-buffer-requires
-load-buffer-requires c κs = search needs
-
 returns : tie.Need-returns
 unfolding written writtenAt
-returns c = rw (c .load-buffer .ensures, c .before .before .with-view .ensures, c .before .before .before .before .view-after .ensures, c .before .before .before .before .before .place-of .ensures .0)
+returns c = rw (c .load-buffer .ensures, c .before .before .with-view .ensures, c .before .before .before .view-after .ensures, c .before .before .before .before .place-of .ensures .0)
 
 pub written-spec : {M : Type 1} → statement M
 written-spec =
     tie.close
     (tie.spec
-    place-of-requires
-    view-after-requires
-    with-view-requires
-    load-buffer-requires
+    (λ c κs. search needs)
+    (λ c κs. search needs)
+    (λ c κs. search needs)
+    (λ c κs. search needs)
     returns)
