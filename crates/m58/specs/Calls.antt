@@ -15,9 +15,9 @@ use Rattle.device.specs.Outcomes.{holding}
 use Rattle.playback.specs.Playback.{playable, machineOf, Played}
 use Rattle.saved.specs.Saved.{savedOf, isSaved, stateOf}
 
--- power-up wants the number of a part, and room for 51 words
+-- power-up wants the number of a part, and room for 25 words
 unfoldable pub powersUp : ℕ → List ℕ → Bool
-powersUp part room = leb part 3 && eqb (length room) 51
+powersUp part room = leb part 3 && eqb (length room) 25
 
 unfoldable pub poweredUp : ℕ → List ℕ → List ℕ
 poweredUp part room = cond (powersUp part room) (savedOf (powerUp (partNumbered part))) room

@@ -73,7 +73,7 @@ module _ (ws : List ℕ) {codes room xs : List ℕ} {s : State} {r : RunEnd} {an
   pub ran-saved : {after : List ℕ} → isSaved ws ≡ true → Fitting (r .device .state) → after ≡ putInto ws (savedOf (r .device .state)) → Ran ws codes room xs (r .played) after answers array
   unfolding putInto
   ran-saved {after} h f e =
-      let k : after ≡ savedOf (r .device .state) = e ∙ rw (eq-eqb (length ws) 51 (saved-length ws h)) in
+      let k : after ≡ savedOf (r .device .state) = e ∙ rw (eq-eqb (length ws) 25 (saved-length ws h)) in
       record {
         played = played-as;
         kept = rw h (k ∙ ap savedOf state-is);

@@ -1,5 +1,5 @@
 // What C programs call. Each function takes every number and every slice, which C hands over as a pointer and a length.
-// A device is kept as the 51 words of the crate saved; a step, and an answer, is a number of 64 bits (crate playback).
+// A device is kept as the 25 words of the crate saved; a step, and an answer, is a number of 64 bits (crate playback).
 use device::Device;
 ghost use mathlib.Core.Path.{_≡_};
 ghost use Rattle.geometry.specs.Blocks.{lookupOf};
@@ -39,7 +39,7 @@ pub extern "C" fn m58_lookup_bank(part: u32, address: u32) -> u32
 
 // ---- the device
 
-// Saves power-up of a part, by its number, and answers 1; writes nothing and answers 0 where there is no such part, or not room for just 51 words.
+// Saves power-up of a part, by its number, and answers 1; writes nothing and answers 0 where there is no such part, or not room for just 25 words.
 #[no_mangle]
 pub extern "C" fn m58_power_up(part: u32, state: &mut [u64]) -> u32
     ensures { λ r. ⌜ r ≡ bitIf (powersUp part (now (state .entry))) 1 ⌝ }
@@ -48,7 +48,7 @@ pub extern "C" fn m58_power_up(part: u32, state: &mut [u64]) -> u32
     if part > 3 {
         return 0;
     }
-    if state.len() != 51 {
+    if state.len() != 25 {
         return 0;
     }
     let d = Device::power_up(geometry::part_numbered(part));

@@ -1,16 +1,16 @@
 -- Laws of the saved words: a state whose numbers fit their types is got back from its words, and words that are no saved state say one that the device refuses.
 -- Assumes nothing.
-use Prim.Native.Nat.{ℕ, zero, suc, _+_, _*_, _/_, _%_, _<_, _≤_}
-use mathlib.Core.Bool.{Bool, true, false, _&&_}
-use mathlib.Core.List.{List, [], _∷_}
+use Prim.Native.Nat.{ℕ, zero, suc, _+_, _*_, _/_, _%_, _^_, _<_, _≤_}
+use mathlib.Core.Bool.{Bool, true, false, cond, _&&_}
+use mathlib.Core.List.{List, [], _∷_, _++_}
 use mathlib.Core.Path.{_≡_, refl, sym, ap, _∙_, subst}
-use native.Mathlib.Nat.{mod-eq-of-lt}
+use native.Mathlib.Nat.{mod-eq-of-lt, div-eq-of-lt, mod-add-div', add-mul-mod-self-right, add-mul-div-right}
 use native.Mathlib.Omega.{arith}
-use lib.Dec.{eqb}
-use lib.ListN.{length, getD, take, drop, set, length-set, replicate}
-use lib.Seq.{getD-set-same, getD-set-other, getD-drop, sets}
+use lib.Dec.{eqb, ltb}
+use lib.ListN.{length, getD, take, drop, set, length-set, length-drop, replicate}
+use lib.Seq.{drop-cons, getD-set-same, getD-set-other, getD-drop, sets}
 use borrow.Author.Count.{below-none, below-more}
-use borrow.Author.Tests.{eq-eqb, eqb-true}
+use borrow.Author.Tests.{eq-eqb, ne-eqb, eqb-true, eqb-false}
 use Rattle.geometry.specs.declared.Part.{Part}
 use Rattle.geometry.specs.declared.Part.the-variants.{FullBottom, FullTop, BenchBottom, BenchTop}
 use Rattle.geometry.specs.Blocks.{partNumbered}
@@ -18,6 +18,7 @@ use Rattle.protection.specs.Words.{spareZero, allProtected}
 use Rattle.semantics.specs.declared.Mode.{Mode}
 use Rattle.semantics.specs.declared.Mode.the-variants.{Array, Status, Signature, Query}
 use Rattle.semantics.specs.declared.Bank.{Bank}
+use Rattle.semantics.specs.declared.Flags.{Flags}
 use Rattle.semantics.specs.declared.Setup.{Setup}
 use Rattle.semantics.specs.declared.Setup.the-variants as setup
 use Rattle.semantics.specs.declared.Running.{Running}
@@ -30,7 +31,7 @@ use Rattle.semantics.specs.declared.State.{State}
 use Rattle.semantics.specs.State.{activity, flagsOf, emptyBuffer, powerUp}
 use Rattle.semantics.specs.Reading.{bitIf}
 use Rattle.semantics.specs.WellFormed.{runningAlone, programAlone, eraseAlone, setupFits, runningFits, programFits, suspendedEraseFits, allFit, runningApart, programApart, apart, activityFormed, wellFormed}
-use Rattle.saved.specs.Saved.{partNumber, modeNumber, modeNumbered, bankNumber, bankNumbered, flagNumbered, setupWords, setupOf, runningWords, runningOf, programWords, programOf, eraseWords, eraseOf, listed, first, bankWords, activityWords, restOf, packed, lane, packedAt, laneAt, bufferWords, savedOf, loadedOf, same, isSaved, noState, stateOf, putInto}
+use Rattle.saved.specs.Saved.{partNumber, modeNumber, modeNumbered, bankNumber, bankNumbered, flagNumbered, setupNumbers, setupOf, runningNumbers, runningOf, programNumbers, programOf, eraseNumbers, eraseOf, flagNumbers, joined, inHalves, ofHalves, bytes, fromByte, listed, first, modesWord, modesIn, bankWords, activityWords, activityOf, flagsIn, controlWord, restOf, packed, lane, packedAt, laneAt, bufferWords, savedOf, loadedOf, same, isSaved, noState, stateOf, putInto}
 
 -- ---- lists
 
@@ -46,7 +47,11 @@ listed-at d zero f i h = absurd (omega arith)
 listed-at d (suc n) f zero h = refl
 listed-at d (suc n) f (suc i) h = listed-at d n (λ k. f (suc k)) i (omega arith)
 
--- a list of n elements of which those below i are filled in, for the loops
+listed-same : {A : Type 0} (n : ℕ) (f g : ℕ → A) → ((k : ℕ) → k < n → f k ≡ g k) → listed n f ≡ listed n g
+listed-same zero f g e = refl
+listed-same (suc n) f g e = λ j. e 0 (omega arith) j ∷ listed-same n (λ k. f (suc k)) (λ k. g (suc k)) (λ k q. e (suc k) (omega arith)) j
+
+-- a list of n elements of which those below i are filled in, for the loop over the buffer
 pub record Filled {A : Type 0} (d : A) (f : ℕ → A) (n i : ℕ) (l : List A) : Type 0 where
   pub within : i ≤ n
   pub size : length l ≡ n
@@ -70,9 +75,9 @@ filled-all {d = d} {f = f} {n = n} {l = l} h p = listed-is d n f l (h .size) (λ
 
 -- the buffer, for the loop that takes four words of it from each saved word
 abbrev pub Taken : List ℕ → ℕ → List ℕ → Type 0
-Taken ws j bs = Filled 0 (laneAt (drop 43 ws)) 32 (4 * j) bs
+Taken ws j bs = Filled 0 (laneAt (drop 17 ws)) 32 (4 * j) bs
 
-pub taken-more : (ws bs : List ℕ) (j w : ℕ) → j < 8 → w ≡ getD ws (43 + j) 0 → Taken ws j bs
+pub taken-more : (ws bs : List ℕ) (j w : ℕ) → j < 8 → w ≡ getD ws (17 + j) 0 → Taken ws j bs
     → Taken ws (j + 1) (set (set (set (set bs (4 * j) (lane w 0)) (4 * j + 1) (lane w 1)) (4 * j + 2) (lane w 2)) (4 * j + 3) (lane w 3))
 taken-more ws bs j w h q t =
     one (4 * j + 3) (4 * (j + 1)) (omega arith) (omega arith) (at 3 (4 * j + 3) refl (omega arith))
@@ -81,7 +86,7 @@ taken-more ws bs j w h q t =
     (one (4 * j) (4 * j + 1) refl (omega arith) (at 0 (4 * j) (omega arith) (omega arith)) t)))
   where
     f : ℕ → ℕ
-    f = laneAt (drop 43 ws)
+    f = laneAt (drop 17 ws)
 
     at : (k i : ℕ) → i ≡ 4 * j + k → k < 4 → lane w k ≡ f i
     at k i e l = let d : i / 4 ≡ j = omega arith in let m : i % 4 ≡ k = omega arith in rw (d, m, getD-drop) (ap (λ (x : ℕ). lane x k) q)
@@ -111,36 +116,29 @@ same-true (x ∷ k) (y ∷ l) h = go (eqb x y) refl h (same-true k l)
 -- ---- stores
 
 -- one store more of a run of them
-pub sets-next : (vs l : List ℕ) (i k : ℕ) → k < length vs → set (sets l i (take k vs)) (i + k) (getD vs k 0) ≡ sets l i (take (suc k) vs)
-sets-next [] l i k h = absurd (omega arith)
-sets-next (v ∷ vs) l i zero h = let e : i + 0 ≡ i = omega arith in rw e
-sets-next (v ∷ vs) l i (suc k) h = let e : i + suc k ≡ suc i + k = omega arith in rw e (sets-next vs (set l i v) (suc i) k (omega arith))
+pub sets-next : {A : Type 0} (d : A) (vs l : List A) (i k : ℕ) → k < length vs → set (sets l i (take k vs)) (i + k) (getD vs k d) ≡ sets l i (take (suc k) vs)
+sets-next d [] l i k h = absurd (omega arith)
+sets-next d (v ∷ vs) l i zero h = let e : i + 0 ≡ i = omega arith in rw e
+sets-next d (v ∷ vs) l i (suc k) h = let e : i + suc k ≡ suc i + k = omega arith in rw e (sets-next d vs (set l i v) (suc i) k (omega arith))
 
--- the words of banks, one more
-pub banks-next : (banks : List Bank) (l ws : List ℕ) (i x : ℕ) → i < 16 → ws ≡ sets l 1 (take i (bankWords banks)) → x ≡ bankNumber (getD banks i (record { mode = Array }))
-    → set ws (1 + i) x ≡ sets l 1 (take (i + 1) (bankWords banks))
-banks-next banks l ws i x h p q =
-    let e : getD (bankWords banks) i 0 ≡ x = listed-at 0 16 (λ k. bankNumber (getD banks k (record { mode = Array }))) i h ∙ sym q in
-    let n : i + 1 ≡ suc i = omega arith in
-    rw (p, ← e, n) (sets-next (bankWords banks) l 1 i h)
+-- the same for a list of f at each number, where x is the next
+pub listed-next : {A : Type 0} (d : A) (n : ℕ) (f : ℕ → A) (l now : List A) (i k : ℕ) (x : A) → k < n → length (listed n f) ≡ n → now ≡ sets l i (take k (listed n f)) → x ≡ f k
+    → set now (i + k) x ≡ sets l i (take (k + 1) (listed n f))
+listed-next d n f l now i k x h m p q =
+    let e : getD (listed n f) k d ≡ x = listed-at d n f k h ∙ sym q in
+    let a : k + 1 ≡ suc k = omega arith in
+    rw (p, ← e, a) (sets-next d (listed n f) l i k (omega arith))
 
--- the words of the buffer, one more
-pub buffer-next : (bs l ws : List ℕ) (j x : ℕ) → j < 8 → ws ≡ sets l 43 (take j (bufferWords bs)) → x ≡ packedAt bs j → set ws (43 + j) x ≡ sets l 43 (take (j + 1) (bufferWords bs))
-buffer-next bs l ws j x h p q =
-    let e : getD (bufferWords bs) j 0 ≡ x = listed-at 0 8 (packedAt bs) j h ∙ sym q in
-    let n : j + 1 ≡ suc j = omega arith in
-    rw (p, ← e, n) (sets-next (bufferWords bs) l 43 j h)
-
--- room for 51 words after the stores of a state's words, group by group
-pub stored : (s : State) (l₀ l₁ l₂ l₃ l₄ : List ℕ) (n : ℕ) → length l₀ ≡ 51 → n ≡ partNumber (s .part) → l₁ ≡ sets (set l₀ 0 n) 1 (bankWords (s .banks)) → l₂ ≡ sets l₁ 17 (activityWords (s .control .activity))
-    → l₃ ≡ sets l₂ 32 (restOf s) → l₄ ≡ sets l₃ 43 (bufferWords (s .buffer)) → l₄ ≡ putInto l₀ (savedOf s)
+-- room for 25 words after the stores of a state's words, group by group
+pub stored : (s : State) (l₀ l₁ l₂ l₃ l₄ : List ℕ) (n : ℕ) → length l₀ ≡ 25 → n ≡ partNumber (s .part) → l₁ ≡ sets (set l₀ 0 n) 1 (bankWords (s .banks)) → l₂ ≡ sets l₁ 3 (activityWords (s .control .activity))
+    → l₃ ≡ sets l₂ 11 (restOf s) → l₄ ≡ sets l₃ 17 (bufferWords (s .buffer)) → l₄ ≡ putInto l₀ (savedOf s)
 unfolding savedOf putInto
 stored s l₀ l₁ l₂ l₃ l₄ n h p q r t u =
-    u ∙ ap (λ (l : List ℕ). sets l 43 (bufferWords (s .buffer))) (t ∙ ap (λ (l : List ℕ). sets l 32 (restOf s)) (r ∙ ap (λ (l : List ℕ). sets l 17 (activityWords (s .control .activity))) q)) ∙ ap (all l₀) p
-    ∙ subst (λ (l : List ℕ). all l (partNumber (s .part)) ≡ savedOf s) (first-all 51 l₀ h) refl ∙ rw (eq-eqb (length l₀) 51 h)
+    u ∙ ap (λ (l : List ℕ). sets l 17 (bufferWords (s .buffer))) (t ∙ ap (λ (l : List ℕ). sets l 11 (restOf s)) (r ∙ ap (λ (l : List ℕ). sets l 3 (activityWords (s .control .activity))) q)) ∙ ap (all l₀) p
+    ∙ subst (λ (l : List ℕ). all l (partNumber (s .part)) ≡ savedOf s) (first-all 25 l₀ h) refl ∙ rw (eq-eqb (length l₀) 25 h)
   where
     all : List ℕ → ℕ → List ℕ
-    all l x = sets (sets (sets (sets (set l 0 x) 1 (bankWords (s .banks))) 17 (activityWords (s .control .activity))) 32 (restOf s)) 43 (bufferWords (s .buffer))
+    all l x = sets (sets (sets (sets (set l 0 x) 1 (bankWords (s .banks))) 3 (activityWords (s .control .activity))) 11 (restOf s)) 17 (bufferWords (s .buffer))
 
 -- ---- a field and back
 
@@ -150,24 +148,129 @@ part-back FullTop = refl
 part-back BenchBottom = refl
 part-back BenchTop = refl
 
-mode-back : (m : Mode) → modeNumbered (modeNumber m) ≡ m
-mode-back Array = refl
-mode-back Status = refl
-mode-back Signature = refl
-mode-back Query = refl
-
 bank-back : (b : Bank) → bankNumbered (bankNumber b) ≡ b
-bank-back b = λ j. record { mode = mode-back (b .mode) j }
-
-banks-back : (l : List Bank) → length l ≡ 16 → listed 16 (λ k. bankNumbered (bankNumber (getD l k (record { mode = Array })))) ≡ l
-banks-back l h =
-    sym
-    (listed-is (record { mode = Array }) 16 (λ k. bankNumbered (bankNumber (getD l k (record { mode = Array })))) l h
-    (λ k q. sym (bank-back (getD l k (record { mode = Array })))))
+bank-back b = λ j. record { mode = go (b .mode) j }
+  where
+    go : (m : Mode) → modeNumbered (modeNumber m % 4) ≡ m
+    go Array = refl
+    go Status = refl
+    go Signature = refl
+    go Query = refl
 
 flag-back : (b : Bool) → flagNumbered (bitIf b 1) ≡ b
 flag-back true = refl
 flag-back false = refl
+
+pub bank-small : (b : Bank) → bankNumber b < 4
+bank-small b = go (b .mode)
+  where
+    go : (m : Mode) → modeNumber m < 4
+    go Array = omega arith
+    go Status = omega arith
+    go Signature = omega arith
+    go Query = omega arith
+
+pub bit-small : (b : Bool) → bitIf b 1 < 2
+bit-small true = omega arith
+bit-small false = omega arith
+
+-- ---- two numbers in one
+
+first-back : (m x y : ℕ) → x < m → joined m x y % m ≡ x
+first-back m x y h = add-mul-mod-self-right x y m ∙ mod-eq-of-lt h
+
+second-back : (m x y : ℕ) → x < m → joined m x y / m ≡ y
+second-back m x y h = add-mul-div-right x y (omega arith) ∙ rw (div-eq-of-lt h) (omega arith)
+
+-- a number is two others in one where its rest and its quotient are these
+pub joined-eq : (m w x y : ℕ) → x < m → eqb w (joined m x y) ≡ (eqb (w % m) x && eqb (w / m) y)
+joined-eq m w x y h = go (eqb (w % m) x) (eqb (w / m) y) refl refl
+  where
+    go : (s t : Bool) → eqb (w % m) x ≡ s → eqb (w / m) y ≡ t → eqb w (joined m x y) ≡ (s && t)
+    go true true p q = eq-eqb w (joined m x y) (sym (mod-add-div' w m) ∙ (λ j. joined m (eqb-true (w % m) x p j) (eqb-true (w / m) y q j)))
+    go true false p q = ne-eqb w (joined m x y) (λ e. eqb-false (w / m) y q (ap (λ (v : ℕ). v / m) e ∙ second-back m x y h))
+    go false t p q = ne-eqb w (joined m x y) (λ e. eqb-false (w % m) x p (ap (λ (v : ℕ). v % m) e ∙ first-back m x y h))
+
+-- ---- bytes
+
+-- each number is a byte
+abbrev pub Bytes : List ℕ → Type 0
+Bytes [] = Unit {0}
+Bytes (x ∷ l) = (x < 256) × Bytes l
+
+bytes-listed : (n : ℕ) (f : ℕ → ℕ) → ((k : ℕ) → f k < 256) → Bytes (listed n f)
+bytes-listed zero f h = tt
+bytes-listed (suc n) f h = (h 0, bytes-listed n (λ k. f (suc k)) (λ k. h (suc k)))
+
+-- n bytes are so small
+pub bytes-small : (n : ℕ) (l : List ℕ) → length l ≤ n → Bytes l → bytes l < 256 ^ n
+bytes-small zero [] h b = omega arith
+bytes-small zero (x ∷ l) h b = absurd (omega arith)
+bytes-small (suc n) [] h b = omega (arith, bytes-small n [] (omega arith) tt)
+bytes-small (suc n) (x ∷ l) h b = omega (arith, bytes-small n l (omega arith) (b .1), b .0)
+
+byte-back : (l : List ℕ) → Bytes l → (k : ℕ) → fromByte k (bytes l) % 256 ≡ getD l k 0
+byte-back [] b zero = refl
+byte-back [] b (suc k) = byte-back [] b k
+byte-back (x ∷ l) b zero = first-back 256 x (bytes l) (b .0)
+byte-back (x ∷ l) b (suc k) = rw (second-back 256 x (bytes l) (b .0)) (byte-back l (b .1) k)
+
+pub from-next : (k w : ℕ) → fromByte (suc k) w ≡ fromByte k w / 256
+from-next zero w = refl
+from-next (suc k) w = from-next k (w / 256)
+
+bytes-drop : (i : ℕ) (l : List ℕ) → Bytes l → Bytes (drop i l)
+bytes-drop zero l b = b
+bytes-drop (suc i) [] b = tt
+bytes-drop (suc i) (x ∷ l) b = bytes-drop i l (b .1)
+
+-- ---- the modes of eight banks
+
+module _ (l : List Bank) (i : ℕ) where
+  abbrev pub bank : ℕ → Bank
+  bank k = getD l (i + k) (record { mode = Array })
+
+  abbrev pub modeNumbers : List ℕ
+  modeNumbers = listed 8 (λ k. bankNumber (bank k))
+
+  modes-bytes : Bytes modeNumbers
+  modes-bytes = bytes-listed 8 (λ k. bankNumber (bank k)) (λ k. omega (arith, bank-small (bank k)))
+
+  modes-back : modesIn (modesWord l i) ≡ listed 8 bank
+  modes-back = listed-same 8 (λ k. bankNumbered (fromByte k (modesWord l i))) bank (λ k q. byte (fromByte k (modesWord l i)) ∙ ap bankNumbered (byte-back modeNumbers modes-bytes k ∙ listed-at 0 8 (λ k. bankNumber (bank k)) k q) ∙ bank-back (bank k))
+    where
+      byte : (w : ℕ) → bankNumbered w ≡ bankNumbered (w % 256)
+      byte w = let e : w % 4 ≡ w % 256 % 4 = omega arith in rw e
+
+  -- for the loop from the highest bank down: seven bytes leave room for one more
+  pub modes-small : (k : ℕ) → 0 < k → bytes (drop k modeNumbers) < 72057594037927936
+  modes-small k h = bytes-small 7 (drop k modeNumbers) (rw length-drop (omega arith)) (bytes-drop k modeNumbers modes-bytes)
+
+  pub modes-next : (k x w : ℕ) → k < 8 → w ≡ bytes (drop (suc k) modeNumbers) → x ≡ bankNumber (bank k) → joined 256 x w ≡ bytes (drop k modeNumbers)
+  modes-next k x w h p q = rw (drop-cons modeNumbers k 0 h) (λ j. joined 256 ((q ∙ sym (listed-at 0 8 (λ k. bankNumber (bank k)) k h)) j) (p j))
+
+banks-back : (l : List Bank) → length l ≡ 16 → modesIn (modesWord l 0) ++ modesIn (modesWord l 8) ≡ l
+banks-back l h = (λ j. modes-back l 0 j ++ modes-back l 8 j) ∙ sym (listed-is (record { mode = Array }) 16 (λ k. getD l k (record { mode = Array })) l h (λ k q. refl))
+
+-- ---- the flags
+
+flags-bytes : (f : Flags) → Bytes (flagNumbers f)
+flags-bytes f = (byte (f .sr5), (byte (f .sr4), (byte (f .sr3), (byte (f .sr1), tt))))
+  where
+    byte : (b : Bool) → bitIf b 1 < 256
+    byte b = omega (arith, bit-small b)
+
+flags-back : (f : Flags) → flagsIn (bytes (flagNumbers f)) ≡ f
+flags-back f = λ j. flagsOf (at 0 (f .sr5) refl j) (at 1 (f .sr4) refl j) (at 2 (f .sr3) refl j) (at 3 (f .sr1) refl j)
+  where
+    byte : (w : ℕ) → flagNumbered w ≡ flagNumbered (w % 256)
+    byte w = let e : w % 2 ≡ w % 256 % 2 = omega arith in rw e
+
+    at : (k : ℕ) (b : Bool) → getD (flagNumbers f) k 0 ≡ bitIf b 1 → flagNumbered (fromByte k (bytes (flagNumbers f))) ≡ b
+    at k b e = byte (fromByte k (bytes (flagNumbers f))) ∙ ap flagNumbered (byte-back (flagNumbers f) (flags-bytes f) k ∙ e) ∙ flag-back b
+
+pub flags-small : (f : Flags) → bytes (flagNumbers f) < 4294967296
+flags-small f = bytes-small 4 (flagNumbers f) (omega arith) (flags-bytes f)
 
 -- ---- the buffer
 
@@ -199,9 +302,9 @@ buffer-back bs h f = sym (listed-is 0 32 (laneAt (bufferWords bs)) bs h each)
         let e : k ≡ 4 * (k / 4) + k % 4 = omega arith in
         ap (λ (i : ℕ). getD bs i 0) e ∙ at (k / 4) (k % 4) (omega arith) ∙ ap (λ (w : ℕ). lane w (k % 4)) (sym (listed-at 0 8 (packedAt bs) (k / 4) (omega arith)))
 
--- ---- the whole state
+-- ---- what is under way
 
--- the numbers of what is under way fit their types
+-- its numbers fit their types
 abbrev pub SetupFitting : Setup → Type 0
 SetupFitting setup.Nothing = Unit {0}
 SetupFitting setup.Program = Unit {0}
@@ -238,7 +341,7 @@ pub record Fitting (s : State) : Type 0 where
   pub places : length (s .buffer) ≡ 32
   pub buffer : (k : ℕ) → getD (s .buffer) k 0 < 65536
 
-setup-back : (s : Setup) → SetupFitting s → setupOf (getD (setupWords s) 0 0) (getD (setupWords s) 1 0) (getD (setupWords s) 2 0) (getD (setupWords s) 3 0) ≡ s
+setup-back : (s : Setup) → SetupFitting s → setupOf (getD (setupNumbers s) 0 0) (getD (setupNumbers s) 1 0) (getD (setupNumbers s) 2 0) (getD (setupNumbers s) 3 0) ≡ s
 setup-back setup.Nothing h = refl
 setup-back setup.Program h = refl
 setup-back setup.Erase h = refl
@@ -247,38 +350,94 @@ setup-back (setup.BufferCount b) h = rw (mod-eq-of-lt h)
 setup-back (setup.BufferFirst b n) h = rw (mod-eq-of-lt (h .0), mod-eq-of-lt (h .1))
 setup-back (setup.BufferWords l n k) h = rw (mod-eq-of-lt (h .0), mod-eq-of-lt (h .1), mod-eq-of-lt (h .2))
 
-running-back : (r : Running) → RunningFitting r → runningOf (getD (runningWords r) 0 0) (getD (runningWords r) 1 0) (getD (runningWords r) 2 0) (getD (runningWords r) 3 0) ≡ r
+running-back : (r : Running) → RunningFitting r → runningOf (getD (runningNumbers r) 0 0) (getD (runningNumbers r) 1 0) (getD (runningNumbers r) 2 0) (getD (runningNumbers r) 3 0) ≡ r
 running-back running.Idle h = refl
 running-back (running.Program l w) h = rw (mod-eq-of-lt (h .0), mod-eq-of-lt (h .1))
 running-back (running.Erase b n) h = rw (mod-eq-of-lt (h .0), mod-eq-of-lt (h .1))
 running-back (running.Buffer l n d) h = rw (mod-eq-of-lt (h .0), mod-eq-of-lt (h .1), mod-eq-of-lt (h .2))
 
-program-back : (p : SuspendedProgram) → ProgramFitting p → programOf (getD (programWords p) 0 0) (getD (programWords p) 1 0) (getD (programWords p) 2 0) (getD (programWords p) 3 0) ≡ p
+program-back : (p : SuspendedProgram) → ProgramFitting p → programOf (getD (programNumbers p) 0 0) (getD (programNumbers p) 1 0) (getD (programNumbers p) 2 0) (getD (programNumbers p) 3 0) ≡ p
 program-back program.Nothing h = refl
 program-back (program.Program l w) h = rw (mod-eq-of-lt (h .0), mod-eq-of-lt (h .1))
 program-back (program.Buffer l n d) h = rw (mod-eq-of-lt (h .0), mod-eq-of-lt (h .1), mod-eq-of-lt (h .2))
 
-erase-back : (e : SuspendedErase) → EraseFitting e → eraseOf (getD (eraseWords e) 0 0) (getD (eraseWords e) 1 0) (getD (eraseWords e) 2 0) ≡ e
+erase-back : (e : SuspendedErase) → EraseFitting e → eraseOf (getD (eraseNumbers e) 0 0) (getD (eraseNumbers e) 1 0) (getD (eraseNumbers e) 2 0) ≡ e
 erase-back erase.Nothing h = refl
 erase-back (erase.Erase b n) h = rw (mod-eq-of-lt (h .0), mod-eq-of-lt (h .1))
+
+-- ---- four numbers in two words
+
+-- those that go in a lower half fit it
+abbrev pub Halves : List ℕ → Type 0
+Halves l = (getD l 0 0 < 4294967296) × (getD l 2 0 < 4294967296)
+
+-- which they do for every value that is made of numbers
+either : {A : Type 0} (P : A → Type 0) (t : Bool) {a b : A} → P a → P b → P (cond t a b)
+either P true p q = p
+either P false p q = q
+
+pub setup-halves : (k a b c : ℕ) → Halves (setupNumbers (setupOf k a b c))
+setup-halves k a b c =
+    either H (ltb k 4) (either H (eqb k 0) (omega arith, omega arith) (either H (eqb k 1) (omega arith, omega arith) (either H (eqb k 2) (omega arith, omega arith) (omega arith, omega arith))))
+    (either H (eqb k 4) (omega arith, omega arith) (either H (eqb k 5) (omega arith, omega arith) (omega arith, omega arith)))
+  where
+    H : Setup → Type 0
+    H s = Halves (setupNumbers s)
+
+pub running-halves : (k a b c : ℕ) → Halves (runningNumbers (runningOf k a b c))
+running-halves k a b c = either H (eqb k 0) (omega arith, omega arith) (either H (eqb k 1) (omega arith, omega arith) (either H (eqb k 2) (omega arith, omega arith) (omega arith, omega arith)))
+  where
+    H : Running → Type 0
+    H r = Halves (runningNumbers r)
+
+pub program-halves : (k a b c : ℕ) → Halves (programNumbers (programOf k a b c))
+program-halves k a b c = either H (eqb k 0) (omega arith, omega arith) (either H (eqb k 1) (omega arith, omega arith) (omega arith, omega arith))
+  where
+    H : SuspendedProgram → Type 0
+    H p = Halves (programNumbers p)
+
+pub erase-halves : (k a b : ℕ) → Halves (eraseNumbers (eraseOf k a b))
+erase-halves k a b = either (λ (e : SuspendedErase). Halves (eraseNumbers e)) (eqb k 0) (omega arith, omega arith) (omega arith, omega arith)
+
+-- a value is got back from its two words
+module _ {A : Type 0} (numbers : A → List ℕ) (of : ℕ → ℕ → ℕ → ℕ → A) (halves : (k a b c : ℕ) → Halves (numbers (of k a b c))) where
+  halves-back : (s : A) → of (getD (numbers s) 0 0) (getD (numbers s) 1 0) (getD (numbers s) 2 0) (getD (numbers s) 3 0) ≡ s
+      → ofHalves of (getD (inHalves (numbers s)) 0 0) (getD (inHalves (numbers s)) 1 0) ≡ s
+  halves-back s e =
+      let l : List ℕ = numbers s in
+      let h : Halves l = subst (λ (t : A). Halves (numbers t)) e (halves (getD l 0 0) (getD l 1 0) (getD l 2 0) (getD l 3 0)) in
+      (λ j. of (first-back 4294967296 (getD l 0 0) (getD l 1 0) (h .0) j) (second-back 4294967296 (getD l 0 0) (getD l 1 0) (h .0) j) (first-back 4294967296 (getD l 2 0) (getD l 3 0) (h .1) j) (second-back 4294967296 (getD l 2 0) (getD l 3 0) (h .1) j))
+      ∙ e
+
+-- ---- the whole state
+
+activity-back : (s : State) → Fitting s → activityOf (savedOf s) ≡ s .control .activity
+unfolding savedOf
+activity-back s h = λ j. activity
+    (halves-back setupNumbers setupOf setup-halves (s .control .activity .setup) (setup-back (s .control .activity .setup) (h .setup)) j)
+    (halves-back runningNumbers runningOf running-halves (s .control .activity .running) (running-back (s .control .activity .running) (h .running)) j)
+    (halves-back programNumbers programOf program-halves (s .control .activity .program) (program-back (s .control .activity .program) (h .program)) j)
+    (halves-back eraseNumbers (λ k a b c. eraseOf k a b) (λ k a b c. erase-halves k a b) (s .control .activity .erase) (erase-back (s .control .activity .erase) (h .erase)) j)
 
 -- a state is got back from its words
 pub loaded-saved : (s : State) → Fitting s → loadedOf (savedOf s) ≡ s
 unfolding savedOf loadedOf
-loaded-saved s h = λ j. record {
-  part = part-back (s .part) j;
-  banks = banks-back (s .banks) (h .banks) j;
-  unprotected = first-all 5 (s .unprotected) (h .unprotected) j;
-  control = record {
-    activity =
-        activity (setup-back (s .control .activity .setup) (h .setup) j) (running-back (s .control .activity .running) (h .running) j) (program-back (s .control .activity .program) (h .program) j)
-        (erase-back (s .control .activity .erase) (h .erase) j);
-    flags = flagsOf (flag-back (s .control .flags .sr5) j) (flag-back (s .control .flags .sr4) j) (flag-back (s .control .flags .sr3) j) (flag-back (s .control .flags .sr1) j);
-    configuration = mod-eq-of-lt (h .configuration) j;
-    supply = flag-back (s .control .supply) j;
-  };
-  buffer = buffer-back (s .buffer) (h .places) (h .buffer) j;
-}
+loaded-saved s h =
+    let k = s .control in
+    let b = bitIf (k .supply) 1 in
+    let low = second-back 4294967296 (bytes (flagNumbers (k .flags))) (joined 65536 (k .configuration) b) (flags-small (k .flags)) in
+    λ j. record {
+      part = part-back (s .part) j;
+      banks = banks-back (s .banks) (h .banks) j;
+      unprotected = first-all 5 (s .unprotected) (h .unprotected) j;
+      control = record {
+        activity = activity-back s h j;
+        flags = (ap flagsIn (first-back 4294967296 (bytes (flagNumbers (k .flags))) (joined 65536 (k .configuration) b) (flags-small (k .flags))) ∙ flags-back (k .flags)) j;
+        configuration = (ap (λ (w : ℕ). w % 65536) low ∙ first-back 65536 (k .configuration) b (h .configuration)) j;
+        supply = (ap (λ (w : ℕ). flagNumbered (w / 65536)) low ∙ ap flagNumbered (second-back 65536 (k .configuration) b (h .configuration)) ∙ flag-back (k .supply)) j;
+      };
+      buffer = buffer-back (s .buffer) (h .places) (h .buffer) j;
+    }
 
 -- so its words are a saved state, and say it
 pub saved-is : (s : State) → Fitting s → isSaved (savedOf s) ≡ true
@@ -294,8 +453,8 @@ pub saved-back : (ws : List ℕ) → isSaved ws ≡ true → savedOf (stateOf ws
 unfolding stateOf isSaved
 saved-back ws h = rw h (sym (same-true ws (savedOf (loadedOf ws)) h))
 
--- and are 51
-pub saved-length : (ws : List ℕ) → isSaved ws ≡ true → length ws ≡ 51
+-- and are 25
+pub saved-length : (ws : List ℕ) → isSaved ws ≡ true → length ws ≡ 25
 unfolding isSaved savedOf
 saved-length ws h = ap length (same-true ws (savedOf (loadedOf ws)) h)
 

@@ -1,13 +1,13 @@
--- Words are a saved state exactly where each is in its range (is-saved-in-range). Assumes nothing.
-use Prim.Native.Nat.{ℕ, zero, suc, _<_, _≤_, _%_}
-use mathlib.Core.Bool.{Bool, true, false, not, cond, _&&_, and-assoc, and-true}
+-- Words are a saved state exactly where each number in them is in its range (is-saved-in-range). Assumes nothing.
+use Prim.Native.Nat.{ℕ, zero, suc, _<_, _≤_, _/_, _%_}
+use mathlib.Core.Bool.{Bool, true, false, not, cond, _&&_, and-true}
 use mathlib.Core.List.{List, [], _∷_}
 use mathlib.Core.Path.{_≡_, refl, sym, ap, _∙_, subst}
 use native.Mathlib.Nat.{mod-eq-of-lt, mod-lt}
 use native.Mathlib.Omega.{arith}
 use lib.Dec.{eqb, ltb}
-use lib.ListN.{length, getD, take, drop}
-use borrow.Author.Tests.{eq-eqb, ne-eqb, eqb-true, eqb-false, ltb-true, ltb-false, lt-ltb, le-ltb}
+use lib.ListN.{length, getD}
+use borrow.Author.Tests.{eq-eqb, ne-eqb, eqb-true, eqb-false, ltb-true, ltb-false, lt-ltb}
 use Rattle.geometry.specs.declared.Part.the-variants.{FullBottom, FullTop, BenchBottom, BenchTop}
 use Rattle.geometry.specs.Blocks.{partNumbered}
 use Rattle.semantics.specs.declared.Mode.the-variants.{Array, Status, Signature, Query}
@@ -16,10 +16,10 @@ use Rattle.semantics.specs.declared.Running.the-variants as running
 use Rattle.semantics.specs.declared.SuspendedProgram.the-variants as program
 use Rattle.semantics.specs.declared.SuspendedErase.the-variants as erase
 use Rattle.semantics.specs.Reading.{bitIf}
-use Rattle.saved.specs.Saved.{partNumber, modeNumber, bankNumber, bankNumbered, flagNumbered, setupWords, plainSetup, loadOf, setupOf, runningWords, runningOf, programWords, programOf, eraseWords, eraseOf, listed, packed, lane, savedOf, loadedOf, same, isSaved, allBelow, belowTwo, belowThree, setupInRange, runningInRange, programInRange, eraseInRange, activityInRange, inRange}
-use Rattle.saved.specs.Laws.{first-all, packed-lanes, saved-length}
+use Rattle.saved.specs.Saved.{partNumber, modeNumber, bankNumber, bankNumbered, flagNumbered, setupNumbers, plainSetup, loadOf, setupOf, runningNumbers, runningOf, programNumbers, programOf, eraseNumbers, eraseOf, flagNumbers, joined, inHalves, ofHalves, bytes, fromByte, listed, flagsIn, controlWord, packed, lane, savedOf, loadedOf, same, isSaved, bytesBelow, belowThree, setupInRange, runningInRange, programInRange, eraseInRange, activityInRange, controlInRange, inRange}
+use Rattle.saved.specs.Laws.{first-all, joined-eq, flags-small, Halves, setup-halves, running-halves, program-halves, erase-halves, packed-lanes, saved-length}
 
--- ---- one word: what is saved of what it says is the word itself, where it is in its range
+-- ---- one number: what is saved of what it says is the number itself, where it is in its range
 
 test-is : (n k m : ℕ) → (n < m → n ≡ k) → (m ≤ n → n ≡ k → ⊥) → eqb n k ≡ ltb n m
 test-is n k m f g = go (ltb n m) refl
@@ -42,16 +42,6 @@ four-range number a b c d p q r s n = go (eqb n 0) (eqb n 1) (eqb n 2) refl refl
 part-range : (n : ℕ) → eqb n (partNumber (partNumbered n)) ≡ ltb n 4
 part-range = four-range partNumber FullBottom FullTop BenchBottom BenchTop refl refl refl refl
 
-bank-range : (n : ℕ) → eqb n (bankNumber (bankNumbered n)) ≡ ltb n 4
-bank-range = four-range modeNumber Array Status Signature Query refl refl refl refl
-
-flag-range : (n : ℕ) → eqb n (bitIf (flagNumbered n) 1) ≡ ltb n 2
-flag-range n = go (eqb n 0) refl
-  where
-    go : (x : Bool) → eqb n 0 ≡ x → eqb n (bitIf (not x) 1) ≡ ltb n 2
-    go true e = rw (eqb-true n 0 e)
-    go false e = test-is n 1 2 (λ h. omega (arith, eqb-false n 0 e)) (λ h i. omega arith)
-
 mod-range : (m n : ℕ) → 0 < m → eqb n (n % m) ≡ ltb n m
 mod-range m n h = test-is n (n % m) m (λ l. sym (mod-eq-of-lt l)) (λ l e. omega (arith, mod-lt n h))
 
@@ -61,7 +51,47 @@ zero-range n = test-is n 0 1 (λ h. omega arith) (λ h i. omega arith)
 both : {a b t u : Bool} → a ≡ b → t ≡ u → (a && t) ≡ (b && u)
 both p q = λ j. p j && q j
 
--- ---- four words, or three: the kind and the numbers of what is pending, runs, or is suspended
+any : (n : ℕ) {t u : Bool} → t ≡ u → (eqb n n && t) ≡ u
+any n q = rw (eq-eqb n n refl) q
+
+-- ---- bytes
+
+-- the number of the mode that a number says is the number reduced, and so that of a flag
+bank-reduced : (n : ℕ) → bankNumber (bankNumbered n) ≡ n % 4
+bank-reduced n = sym (eqb-true (n % 4) _ (four-range modeNumber Array Status Signature Query refl refl refl refl (n % 4) ∙ lt-ltb (n % 4) 4 (omega arith)))
+
+flag-reduced : (n : ℕ) → bitIf (flagNumbered n) 1 ≡ n % 2
+flag-reduced n = go (eqb (n % 2) 0) refl
+  where
+    go : (x : Bool) → eqb (n % 2) 0 ≡ x → bitIf (not x) 1 ≡ n % 2
+    go true e = sym (eqb-true (n % 2) 0 e)
+    go false e = omega (arith, eqb-false (n % 2) 0 e)
+
+-- bytes of which each is so reduced
+module _ (m : ℕ) (least : 0 < m) (most : m ≤ 256) (g : ℕ → ℕ) (reduced : (n : ℕ) → g n ≡ n % m) (byte : (n : ℕ) → n % m ≡ n % 256 % m) where
+  bytes-range : (n w : ℕ) → eqb w (bytes (listed (suc n) (λ k. g (fromByte k w)))) ≡ bytesBelow m n w
+  unfolding bytesBelow
+  bytes-range zero w = let e : joined 256 (g w) 0 ≡ g w = omega arith in rw (e, reduced w) (mod-range m w least)
+  bytes-range (suc n) w =
+      joined-eq 256 w (g w) (bytes (listed (suc n) (λ k. g (fromByte k (w / 256))))) (omega (arith, reduced w, mod-lt w least))
+      ∙ both (ap (eqb (w % 256)) (reduced w ∙ byte w) ∙ mod-range m (w % 256) least) (bytes-range n (w / 256))
+
+modes-range : (w : ℕ) → eqb w (bytes (listed 8 (λ k. bankNumber (bankNumbered (fromByte k w))))) ≡ bytesBelow 4 7 w
+modes-range = bytes-range 4 (omega arith) (omega arith) (λ n. bankNumber (bankNumbered n)) bank-reduced (λ n. omega arith) 7
+
+flags-range : (w : ℕ) → eqb w (bytes (flagNumbers (flagsIn w))) ≡ bytesBelow 2 3 w
+flags-range = bytes-range 2 (omega arith) (omega arith) (λ n. bitIf (flagNumbered n) 1) flag-reduced (λ n. omega arith) 3
+
+-- the flags, any configuration register, and the supply
+control-range : (w : ℕ) → eqb w (controlWord (flagsIn (w % 4294967296)) (w / 4294967296 % 65536) (flagNumbered (w / 4294967296 / 65536))) ≡ controlInRange w
+control-range w =
+    let h : ℕ = w / 4294967296 in
+    let b : ℕ = bitIf (flagNumbered (h / 65536)) 1 in
+    joined-eq 4294967296 w (bytes (flagNumbers (flagsIn (w % 4294967296)))) (joined 65536 (h % 65536) b) (flags-small (flagsIn (w % 4294967296)))
+    ∙ both (flags-range (w % 4294967296))
+    (joined-eq 65536 h (h % 65536) b (omega arith) ∙ any (h % 65536) (rw (flag-reduced (h / 65536)) (mod-range 2 (h / 65536) (omega arith))))
+
+-- ---- four numbers: the kind and the numbers of what is pending, runs, or is suspended
 
 -- a number that has 32 bits
 wide : (n : ℕ) → eqb n (n % 4294967296) ≡ ltb n 4294967296
@@ -83,104 +113,88 @@ abbrev Four : ℕ → ℕ → ℕ → ℕ → List ℕ → Bool
 Four k a b c l = eqb k (getD l 0 0) && (eqb a (getD l 1 0) && (eqb b (getD l 2 0) && eqb c (getD l 3 0)))
 
 -- the last kind stands for every greater one too
-plain-range : (k a b c : ℕ) → k < 4 → Four k a b c (setupWords (plainSetup k)) ≡ belowThree a b c 1 1 1
+plain-range : (k a b c : ℕ) → k < 4 → Four k a b c (setupNumbers (plainSetup k)) ≡ belowThree a b c 1 1 1
 plain-range k a b c h = go (eqb k 0) (eqb k 1) (eqb k 2) refl refl refl
   where
     go : (x y z : Bool) → eqb k 0 ≡ x → eqb k 1 ≡ y → eqb k 2 ≡ z
-        → Four k a b c (setupWords (cond x setup.Nothing (cond y setup.Program (cond z setup.Erase setup.Lock)))) ≡ belowThree a b c 1 1 1
+        → Four k a b c (setupNumbers (cond x setup.Nothing (cond y setup.Program (cond z setup.Erase setup.Lock)))) ≡ belowThree a b c 1 1 1
     go true y z e f g = rw e (none-range a b c)
     go false true z e f g = rw f (none-range a b c)
     go false false true e f g = rw g (none-range a b c)
     go false false false e f g = rw (eq-eqb k 3 (omega (arith, eqb-false k 0 e, eqb-false k 1 f, eqb-false k 2 g))) (none-range a b c)
 
-load-range : (k a b c : ℕ) → Four k a b c (setupWords (loadOf k a b c))
+load-range : (k a b c : ℕ) → Four k a b c (setupNumbers (loadOf k a b c))
     ≡ cond (eqb k 4) (belowThree a b c 4294967296 1 1) (cond (eqb k 5) (belowThree a b c 4294967296 4294967296 1) (eqb k 6 && belowThree a b c 4294967296 4294967296 4294967296))
 load-range k a b c = go (eqb k 4) (eqb k 5) refl refl
   where
     go : (x y : Bool) → eqb k 4 ≡ x → eqb k 5 ≡ y
-        → Four k a b c (setupWords (cond x (setup.BufferCount (a % 4294967296)) (cond y (setup.BufferFirst (a % 4294967296) (b % 4294967296)) (setup.BufferWords (a % 4294967296) (b % 4294967296) (c % 4294967296)))))
+        → Four k a b c (setupNumbers (cond x (setup.BufferCount (a % 4294967296)) (cond y (setup.BufferFirst (a % 4294967296) (b % 4294967296)) (setup.BufferWords (a % 4294967296) (b % 4294967296) (c % 4294967296)))))
         ≡ cond x (belowThree a b c 4294967296 1 1) (cond y (belowThree a b c 4294967296 4294967296 1) (eqb k 6 && belowThree a b c 4294967296 4294967296 4294967296))
     go true y e f = rw e (both (wide a) (both (zero-range b) (zero-range c)))
     go false true e f = rw f (two-range a b c)
     go false false e f = ap (λ (t : Bool). eqb k 6 && t) (three-range a b c)
 
-setup-range : (k a b c : ℕ) → Four k a b c (setupWords (setupOf k a b c)) ≡ setupInRange k a b c
+setup-range : (k a b c : ℕ) → Four k a b c (setupNumbers (setupOf k a b c)) ≡ setupInRange k a b c
 setup-range k a b c = go (ltb k 4) refl
   where
-    go : (x : Bool) → ltb k 4 ≡ x → Four k a b c (setupWords (cond x (plainSetup k) (loadOf k a b c)))
+    go : (x : Bool) → ltb k 4 ≡ x → Four k a b c (setupNumbers (cond x (plainSetup k) (loadOf k a b c)))
         ≡ cond x (belowThree a b c 1 1 1) (cond (eqb k 4) (belowThree a b c 4294967296 1 1) (cond (eqb k 5) (belowThree a b c 4294967296 4294967296 1) (eqb k 6 && belowThree a b c 4294967296 4294967296 4294967296)))
     go true e = plain-range k a b c (ltb-true k 4 e)
     go false e = load-range k a b c
 
-running-range : (k a b c : ℕ) → Four k a b c (runningWords (runningOf k a b c)) ≡ runningInRange k a b c
+running-range : (k a b c : ℕ) → Four k a b c (runningNumbers (runningOf k a b c)) ≡ runningInRange k a b c
 running-range k a b c = go (eqb k 0) (eqb k 1) (eqb k 2) refl refl refl
   where
     go : (x y z : Bool) → eqb k 0 ≡ x → eqb k 1 ≡ y → eqb k 2 ≡ z
-        → Four k a b c (runningWords (cond x running.Idle (cond y (running.Program (a % 4294967296) (b % 65536)) (cond z (running.Erase (a % 4294967296) (b % 4294967296)) (running.Buffer (a % 4294967296) (b % 4294967296) (c % 4294967296))))))
+        → Four k a b c (runningNumbers (cond x running.Idle (cond y (running.Program (a % 4294967296) (b % 65536)) (cond z (running.Erase (a % 4294967296) (b % 4294967296)) (running.Buffer (a % 4294967296) (b % 4294967296) (c % 4294967296))))))
         ≡ cond x (belowThree a b c 1 1 1) (cond y (belowThree a b c 4294967296 65536 1) (cond z (belowThree a b c 4294967296 4294967296 1) (eqb k 3 && belowThree a b c 4294967296 4294967296 4294967296)))
     go true y z e f g = rw e (none-range a b c)
     go false true z e f g = rw f (word-range a b c)
     go false false true e f g = rw g (two-range a b c)
     go false false false e f g = ap (λ (t : Bool). eqb k 3 && t) (three-range a b c)
 
-program-range : (k a b c : ℕ) → Four k a b c (programWords (programOf k a b c)) ≡ programInRange k a b c
+program-range : (k a b c : ℕ) → Four k a b c (programNumbers (programOf k a b c)) ≡ programInRange k a b c
 program-range k a b c = go (eqb k 0) (eqb k 1) refl refl
   where
     go : (x y : Bool) → eqb k 0 ≡ x → eqb k 1 ≡ y
-        → Four k a b c (programWords (cond x program.Nothing (cond y (program.Program (a % 4294967296) (b % 65536)) (program.Buffer (a % 4294967296) (b % 4294967296) (c % 4294967296)))))
+        → Four k a b c (programNumbers (cond x program.Nothing (cond y (program.Program (a % 4294967296) (b % 65536)) (program.Buffer (a % 4294967296) (b % 4294967296) (c % 4294967296)))))
         ≡ cond x (belowThree a b c 1 1 1) (cond y (belowThree a b c 4294967296 65536 1) (eqb k 2 && belowThree a b c 4294967296 4294967296 4294967296))
     go true y e f = rw e (none-range a b c)
     go false true e f = rw f (word-range a b c)
     go false false e f = ap (λ (t : Bool). eqb k 2 && t) (three-range a b c)
 
-abbrev Three : ℕ → ℕ → ℕ → List ℕ → Bool
-Three k a b l = eqb k (getD l 0 0) && (eqb a (getD l 1 0) && eqb b (getD l 2 0))
-
-erase-range : (k a b : ℕ) → Three k a b (eraseWords (eraseOf k a b)) ≡ eraseInRange k a b
-erase-range k a b = go (eqb k 0) refl
+erase-range : (k a b c : ℕ) → Four k a b c (eraseNumbers (eraseOf k a b)) ≡ eraseInRange k a b c
+erase-range k a b c = go (eqb k 0) refl
   where
-    go : (x : Bool) → eqb k 0 ≡ x → Three k a b (eraseWords (cond x erase.Nothing (erase.Erase (a % 4294967296) (b % 4294967296)))) ≡ cond x (belowTwo a b 1 1) (eqb k 1 && belowTwo a b 4294967296 4294967296)
-    go true e = rw e (both (zero-range a) (zero-range b))
-    go false e = ap (λ (t : Bool). eqb k 1 && t) (both (wide a) (wide b))
+    go : (x : Bool) → eqb k 0 ≡ x → Four k a b c (eraseNumbers (cond x erase.Nothing (erase.Erase (a % 4294967296) (b % 4294967296)))) ≡ cond x (belowThree a b c 1 1 1) (eqb k 1 && belowThree a b c 4294967296 4294967296 1)
+    go true e = rw e (none-range a b c)
+    go false e = ap (λ (t : Bool). eqb k 1 && t) (two-range a b c)
+
+-- the two words that hold them, in front of further tests
+module _ {A : Type 0} (numbers : A → List ℕ) (of : ℕ → ℕ → ℕ → ℕ → A) (halves : (k a b c : ℕ) → Halves (numbers (of k a b c))) (range : ℕ → ℕ → ℕ → ℕ → Bool)
+    (is : (k a b c : ℕ) → Four k a b c (numbers (of k a b c)) ≡ range k a b c) where
+  halves-range : (v w : ℕ) {t u : Bool} → t ≡ u → (eqb v (getD (inHalves (numbers (ofHalves of v w))) 0 0) && (eqb w (getD (inHalves (numbers (ofHalves of v w))) 1 0) && t)) ≡ (ofHalves range v w && u)
+  halves-range v w {u = u} q =
+      let l : List ℕ = numbers (ofHalves of v w) in
+      let h : Halves l = halves (v % 4294967296) (v / 4294967296) (w % 4294967296) (w / 4294967296) in
+      both (joined-eq 4294967296 v (getD l 0 0) (getD l 1 0) (h .0)) (both (joined-eq 4294967296 w (getD l 2 0) (getD l 3 0) (h .1)) q)
+      ∙ go (eqb (v % 4294967296) (getD l 0 0)) (eqb (v / 4294967296) (getD l 1 0)) (eqb (w % 4294967296) (getD l 2 0)) (eqb (w / 4294967296) (getD l 3 0)) u
+      ∙ ap (λ (x : Bool). x && u) (is (v % 4294967296) (v / 4294967296) (w % 4294967296) (w / 4294967296))
+    where
+      go : (k a b c t : Bool) → ((k && a) && ((b && c) && t)) ≡ ((k && (a && (b && c))) && t)
+      go true true true c t = refl
+      go true true false c t = refl
+      go true false b c t = refl
+      go false a b c t = refl
 
 -- ---- all words
 
--- a run of words in front of further tests, test by test
-abbrev run : ℕ → List ℕ → Bool → Bool
-run m [] t = t
-run m (x ∷ l) t = ltb x m && run m l t
-
-run-is : (m : ℕ) (l : List ℕ) (t : Bool) → run m l t ≡ (allBelow m l && t)
-unfolding allBelow
-run-is m [] t = refl
-run-is m (x ∷ l) t = ap (λ (u : Bool). ltb x m && u) (run-is m l t) ∙ sym (and-assoc (ltb x m) (allBelow m l) t)
-
-three : (k a b : ℕ) (l : List ℕ) {t u v : Bool} → Three k a b l ≡ u → t ≡ v → (eqb k (getD l 0 0) && (eqb a (getD l 1 0) && (eqb b (getD l 2 0) && t))) ≡ (u && v)
-three k a b l {t} p q = go (eqb k (getD l 0 0)) (eqb a (getD l 1 0)) (eqb b (getD l 2 0)) t ∙ both p q
-  where
-    go : (k a b t : Bool) → (k && (a && (b && t))) ≡ (k && (a && b) && t)
-    go true true b t = refl
-    go true false b t = refl
-    go false a b t = refl
-
-four : (k a b c : ℕ) (l : List ℕ) {t u v : Bool} → Four k a b c l ≡ u → t ≡ v → (eqb k (getD l 0 0) && (eqb a (getD l 1 0) && (eqb b (getD l 2 0) && (eqb c (getD l 3 0) && t)))) ≡ (u && v)
-four k a b c l {t} p q = go (eqb k (getD l 0 0)) (eqb a (getD l 1 0)) (eqb b (getD l 2 0)) (eqb c (getD l 3 0)) t ∙ both p q
-  where
-    go : (k a b c t : Bool) → (k && (a && (b && (c && t)))) ≡ (k && (a && (b && c)) && t)
-    go true true true c t = refl
-    go true true false c t = refl
-    go true false b c t = refl
-    go false a b c t = refl
-
 -- the four tests of what is under way in one
-grouped : (a b c d t : Bool) → (a && (b && (c && (d && t)))) ≡ (a && (b && (c && d)) && t)
+grouped : (a b c d t : Bool) → (a && (b && (c && (d && t)))) ≡ ((a && (b && (c && d))) && t)
 grouped true true true d t = refl
 grouped true true false d t = refl
 grouped true false c d t = refl
 grouped false b c d t = refl
-
-any : (n : ℕ) {t u : Bool} → t ≡ u → (eqb n n && t) ≡ u
-any n q = rw (eq-eqb n n refl) q
 
 -- a word of the buffer is that of the four that it holds
 full : (w : ℕ) {t : Bool} → t ≡ true → (eqb w (packed (lane w 0) (lane w 1) (lane w 2) (lane w 3)) && t) ≡ true
@@ -189,55 +203,32 @@ full w q = rw (eq-eqb w (packed (lane w 0) (lane w 1) (lane w 2) (lane w 3)) (sy
 last : {a b t : Bool} → a ≡ b → t ≡ true → (a && t) ≡ b
 last {b = b} p q = both p q ∙ and-true b
 
-in-range : (f : ℕ → ℕ) → isSaved (listed 51 f) ≡ inRange (listed 51 f)
+in-range : (f : ℕ → ℕ) → isSaved (listed 25 f) ≡ inRange (listed 25 f)
 unfolding isSaved savedOf loadedOf same activityInRange inRange
 in-range f =
-    both (part-range (f 0)) (both (bank-range (f 1)) (both (bank-range (f 2)) (both (bank-range (f 3)) (both (bank-range (f 4)) (both (bank-range (f 5)) (both (bank-range (f 6))
-    (both (bank-range (f 7)) (both (bank-range (f 8)) (both (bank-range (f 9)) (both (bank-range (f 10)) (both (bank-range (f 11)) (both (bank-range (f 12)) (both (bank-range (f 13))
-    (both (bank-range (f 14)) (both (bank-range (f 15)) (both (bank-range (f 16))
-    (four (f 17) (f 18) (f 19) (f 20) (setupWords (setupOf (f 17) (f 18) (f 19) (f 20))) (setup-range (f 17) (f 18) (f 19) (f 20))
-    (four (f 21) (f 22) (f 23) (f 24) (runningWords (runningOf (f 21) (f 22) (f 23) (f 24))) (running-range (f 21) (f 22) (f 23) (f 24))
-    (four (f 25) (f 26) (f 27) (f 28) (programWords (programOf (f 25) (f 26) (f 27) (f 28))) (program-range (f 25) (f 26) (f 27) (f 28))
-    (three (f 29) (f 30) (f 31) (eraseWords (eraseOf (f 29) (f 30) (f 31))) (erase-range (f 29) (f 30) (f 31))
-    (both (flag-range (f 32)) (both (flag-range (f 33)) (both (flag-range (f 34)) (both (flag-range (f 35))
-    (any (f 36) (any (f 37) (any (f 38) (any (f 39) (any (f 40)
-    (both (mod-range 65536 (f 41) (omega arith)) (last (flag-range (f 42))
-    (full (f 43) (full (f 44) (full (f 45) (full (f 46) (full (f 47) (full (f 48) (full (f 49) (full (f 50) refl)))))))))))))))))))))))))))))))))))))))
-    ∙ ap (λ (t : Bool). run 4 (take 17 (listed 51 f)) (setupInRange (f 17) (f 18) (f 19) (f 20) && (runningInRange (f 21) (f 22) (f 23) (f 24) && (programInRange (f 25) (f 26) (f 27) (f 28) && (eraseInRange (f 29) (f 30) (f 31) && t)))))
-    (run-is 2 (take 4 (drop 32 (listed 51 f))) (belowTwo (f 41) (f 42) 65536 2))
-    ∙ run-is 4 (take 17 (listed 51 f)) _
-    ∙ ap (λ (t : Bool). allBelow 4 (take 17 (listed 51 f)) && t)
-    (grouped (setupInRange (f 17) (f 18) (f 19) (f 20)) (runningInRange (f 21) (f 22) (f 23) (f 24)) (programInRange (f 25) (f 26) (f 27) (f 28)) (eraseInRange (f 29) (f 30) (f 31)) _)
+    both (part-range (f 0)) (both (modes-range (f 1)) (both (modes-range (f 2))
+    (halves-range setupNumbers setupOf setup-halves setupInRange setup-range (f 3) (f 4)
+    (halves-range runningNumbers runningOf running-halves runningInRange running-range (f 5) (f 6)
+    (halves-range programNumbers programOf program-halves programInRange program-range (f 7) (f 8)
+    (halves-range eraseNumbers (λ k a b c. eraseOf k a b) (λ k a b c. erase-halves k a b) eraseInRange erase-range (f 9) (f 10)
+    (last (control-range (f 11))
+    (any (f 12) (any (f 13) (any (f 14) (any (f 15) (any (f 16)
+    (full (f 17) (full (f 18) (full (f 19) (full (f 20) (full (f 21) (full (f 22) (full (f 23) (full (f 24) refl))))))))))))))))))))
+    ∙ ap (λ (t : Bool). ltb (f 0) 4 && (bytesBelow 4 7 (f 1) && (bytesBelow 4 7 (f 2) && t)))
+    (grouped (ofHalves setupInRange (f 3) (f 4)) (ofHalves runningInRange (f 5) (f 6)) (ofHalves programInRange (f 7) (f 8)) (ofHalves eraseInRange (f 9) (f 10)) (controlInRange (f 11)))
 
 -- a list of another length is neither
-short-is : (ws : List ℕ) → eqb (length ws) 51 ≡ false → false ≡ inRange ws
+short-is : (ws : List ℕ) → eqb (length ws) 25 ≡ false → false ≡ inRange ws
 unfolding inRange
 short-is ws e = rw e
 
 pub is-saved-in-range : (ws : List ℕ) → isSaved ws ≡ inRange ws
-is-saved-in-range ws = go (eqb (length ws) 51) refl
+is-saved-in-range ws = go (eqb (length ws) 25) refl
   where
-    other : eqb (length ws) 51 ≡ false → (t : Bool) → isSaved ws ≡ t → t ≡ false
-    other e true h = absurd (eqb-false (length ws) 51 e (saved-length ws h))
+    other : eqb (length ws) 25 ≡ false → (t : Bool) → isSaved ws ≡ t → t ≡ false
+    other e true h = absurd (eqb-false (length ws) 25 e (saved-length ws h))
     other e false h = refl
 
-    go : (t : Bool) → eqb (length ws) 51 ≡ t → isSaved ws ≡ inRange ws
-    go true e = subst (λ (l : List ℕ). isSaved l ≡ inRange l) (first-all 51 ws (eqb-true (length ws) 51 e)) (in-range (λ k. getD ws k 0))
+    go : (t : Bool) → eqb (length ws) 25 ≡ t → isSaved ws ≡ inRange ws
+    go true e = subst (λ (l : List ℕ). isSaved l ≡ inRange l) (first-all 25 ws (eqb-true (length ws) 25 e)) (in-range (λ k. getD ws k 0))
     go false e = other e (isSaved ws) refl ∙ short-is ws e
-
--- ---- for the loop over words
-
-pub all-below : (m : ℕ) (l : List ℕ) → ((k : ℕ) → k < length l → getD l k 0 < m) → allBelow m l ≡ true
-unfolding allBelow
-all-below m [] h = refl
-all-below m (x ∷ l) h = rw (lt-ltb x m (h 0 (omega arith))) (all-below m l (λ k q. h (suc k) (omega arith)))
-
-pub not-below : (m : ℕ) (l : List ℕ) (k : ℕ) → k < length l → m ≤ getD l k 0 → allBelow m l ≡ false
-unfolding allBelow
-not-below m [] k h p = absurd (omega arith)
-not-below m (x ∷ l) zero h p = rw (le-ltb x m p)
-not-below m (x ∷ l) (suc k) h p = rw (not-below m l k (omega arith) p) (go (ltb x m))
-  where
-    go : (t : Bool) → (t && false) ≡ false
-    go true = refl
-    go false = refl

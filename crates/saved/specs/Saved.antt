@@ -1,11 +1,11 @@
--- A device's state as 51 words of 64 bits, so that programs in C can keep it: which word says what, the state that words say, and which words are a saved state.
+-- A device's state as 25 words of 64 bits, so that programs in C can keep it: which bits say what, the state that words say, and which words are a saved state.
 -- Definitions only; the laws are in Laws.
 -- Assumes nothing.
 use Prim.Native.Nat.{ℕ, zero, suc, _+_, _*_, _/_, _%_}
 use mathlib.Core.Bool.{Bool, true, false, not, cond, _&&_}
 use mathlib.Core.List.{List, [], _∷_, _++_}
 use lib.Dec.{eqb, ltb}
-use lib.ListN.{length, getD, take, drop}
+use lib.ListN.{length, getD, drop}
 use Rattle.geometry.specs.declared.Part.{Part}
 use Rattle.geometry.specs.declared.Part.the-variants.{FullBottom, FullTop, BenchBottom, BenchTop}
 use Rattle.geometry.specs.Blocks.{partNumbered}
@@ -21,13 +21,14 @@ use Rattle.semantics.specs.declared.SuspendedProgram.the-variants as program
 use Rattle.semantics.specs.declared.SuspendedErase.{SuspendedErase}
 use Rattle.semantics.specs.declared.SuspendedErase.the-variants as erase
 use Rattle.semantics.specs.declared.Activity.{Activity}
+use Rattle.semantics.specs.declared.Control.{Control}
 use Rattle.semantics.specs.declared.Flags.{Flags}
 use Rattle.semantics.specs.declared.State.{State}
 use Rattle.semantics.specs.State.{withProtection, activity, flagsOf, powerUp}
 use Rattle.semantics.specs.Reading.{bitIf}
 use Rattle.saved.specs.declared.Found.{Found}
 
--- ---- a field as words, and back. Of the numbers of an enum the last stands for every other number too
+-- ---- a field as numbers, and back. Of the numbers of an enum the last stands for every other number too
 
 -- 0 full bottom, 1 full top, 2 bench bottom, 3 bench top; back by the geometry's `partNumbered`
 abbrev pub partNumber : Part → ℕ
@@ -49,24 +50,25 @@ modeNumbered n = cond (eqb n 0) Array (cond (eqb n 1) Status (cond (eqb n 2) Sig
 abbrev pub bankNumber : Bank → ℕ
 bankNumber b = modeNumber (b .mode)
 
+-- by the two lowest bits
 abbrev pub bankNumbered : ℕ → Bank
-bankNumbered n = record { mode = modeNumbered n }
+bankNumbered n = record { mode = modeNumbered (n % 4) }
 
--- 0 off, 1 on: back from `bitIf b 1`
+-- 0 off, 1 on, back from `bitIf b 1`: by the lowest bit
 abbrev pub flagNumbered : ℕ → Bool
-flagNumbered n = not (eqb n 0)
+flagNumbered n = not (eqb (n % 2) 0)
 
--- what is pending, runs or is suspended: its kind, and its numbers; a place that it does not use is 0.
+-- what is pending, runs or is suspended: its kind, and three numbers, of which one that it does not use is 0.
 -- Set-up: 0 nothing, 1 program, 2 erase, 3 lock; of a load 4, block (its count is due), or 5, block, number of words (its first word), or 6, start, number of words,
 -- data cycles that are due
-abbrev pub setupWords : Setup → List ℕ
-setupWords setup.Nothing = 0 ∷ 0 ∷ 0 ∷ 0 ∷ []
-setupWords setup.Program = 1 ∷ 0 ∷ 0 ∷ 0 ∷ []
-setupWords setup.Erase = 2 ∷ 0 ∷ 0 ∷ 0 ∷ []
-setupWords setup.Lock = 3 ∷ 0 ∷ 0 ∷ 0 ∷ []
-setupWords (setup.BufferCount b) = 4 ∷ b ∷ 0 ∷ 0 ∷ []
-setupWords (setup.BufferFirst b n) = 5 ∷ b ∷ n ∷ 0 ∷ []
-setupWords (setup.BufferWords l n k) = 6 ∷ l ∷ n ∷ k ∷ []
+abbrev pub setupNumbers : Setup → List ℕ
+setupNumbers setup.Nothing = 0 ∷ 0 ∷ 0 ∷ 0 ∷ []
+setupNumbers setup.Program = 1 ∷ 0 ∷ 0 ∷ 0 ∷ []
+setupNumbers setup.Erase = 2 ∷ 0 ∷ 0 ∷ 0 ∷ []
+setupNumbers setup.Lock = 3 ∷ 0 ∷ 0 ∷ 0 ∷ []
+setupNumbers (setup.BufferCount b) = 4 ∷ b ∷ 0 ∷ 0 ∷ []
+setupNumbers (setup.BufferFirst b n) = 5 ∷ b ∷ n ∷ 0 ∷ []
+setupNumbers (setup.BufferWords l n k) = 6 ∷ l ∷ n ∷ k ∷ []
 
 -- the set-ups that have no number; every other kind is lock
 abbrev pub plainSetup : ℕ → Setup
@@ -83,11 +85,11 @@ abbrev pub setupOf : ℕ → ℕ → ℕ → ℕ → Setup
 setupOf k a b c = cond (ltb k 4) (plainSetup k) (loadOf k a b c)
 
 -- 0 idle; 1 program, location, data; 2 erase, block, words done; 3 buffer program, start, number of words, words done
-abbrev pub runningWords : Running → List ℕ
-runningWords running.Idle = 0 ∷ 0 ∷ 0 ∷ 0 ∷ []
-runningWords (running.Program l w) = 1 ∷ l ∷ w ∷ 0 ∷ []
-runningWords (running.Erase b n) = 2 ∷ b ∷ n ∷ 0 ∷ []
-runningWords (running.Buffer l n d) = 3 ∷ l ∷ n ∷ d ∷ []
+abbrev pub runningNumbers : Running → List ℕ
+runningNumbers running.Idle = 0 ∷ 0 ∷ 0 ∷ 0 ∷ []
+runningNumbers (running.Program l w) = 1 ∷ l ∷ w ∷ 0 ∷ []
+runningNumbers (running.Erase b n) = 2 ∷ b ∷ n ∷ 0 ∷ []
+runningNumbers (running.Buffer l n d) = 3 ∷ l ∷ n ∷ d ∷ []
 
 abbrev pub runningOf : ℕ → ℕ → ℕ → ℕ → Running
 runningOf k a b c =
@@ -97,10 +99,10 @@ runningOf k a b c =
     (running.Buffer (a % 4294967296) (b % 4294967296) (c % 4294967296))))
 
 -- 0 nothing; 1 program, location, data; 2 buffer program, start, number of words, words done
-abbrev pub programWords : SuspendedProgram → List ℕ
-programWords program.Nothing = 0 ∷ 0 ∷ 0 ∷ 0 ∷ []
-programWords (program.Program l w) = 1 ∷ l ∷ w ∷ 0 ∷ []
-programWords (program.Buffer l n d) = 2 ∷ l ∷ n ∷ d ∷ []
+abbrev pub programNumbers : SuspendedProgram → List ℕ
+programNumbers program.Nothing = 0 ∷ 0 ∷ 0 ∷ 0 ∷ []
+programNumbers (program.Program l w) = 1 ∷ l ∷ w ∷ 0 ∷ []
+programNumbers (program.Buffer l n d) = 2 ∷ l ∷ n ∷ d ∷ []
 
 abbrev pub programOf : ℕ → ℕ → ℕ → ℕ → SuspendedProgram
 programOf k a b c =
@@ -109,17 +111,42 @@ programOf k a b c =
     (program.Buffer (a % 4294967296) (b % 4294967296) (c % 4294967296)))
 
 -- 0 nothing; 1 erase, block, words done
-abbrev pub eraseWords : SuspendedErase → List ℕ
-eraseWords erase.Nothing = 0 ∷ 0 ∷ 0 ∷ []
-eraseWords (erase.Erase b n) = 1 ∷ b ∷ n ∷ []
+abbrev pub eraseNumbers : SuspendedErase → List ℕ
+eraseNumbers erase.Nothing = 0 ∷ 0 ∷ 0 ∷ 0 ∷ []
+eraseNumbers (erase.Erase b n) = 1 ∷ b ∷ n ∷ 0 ∷ []
 
 abbrev pub eraseOf : ℕ → ℕ → ℕ → SuspendedErase
 eraseOf k a b = cond (eqb k 0) erase.Nothing (erase.Erase (a % 4294967296) (b % 4294967296))
 
-abbrev pub flagWords : Flags → List ℕ
-flagWords f = bitIf (f .sr5) 1 ∷ bitIf (f .sr4) 1 ∷ bitIf (f .sr3) 1 ∷ bitIf (f .sr1) 1 ∷ []
+abbrev pub flagNumbers : Flags → List ℕ
+flagNumbers f = bitIf (f .sr5) 1 ∷ bitIf (f .sr4) 1 ∷ bitIf (f .sr3) 1 ∷ bitIf (f .sr1) 1 ∷ []
 
--- ---- the 51 words
+-- ---- numbers joined in one, and back
+
+-- two numbers, the second from m on: back by the rest and the quotient, where the first is below m
+abbrev pub joined : ℕ → ℕ → ℕ → ℕ
+joined m x y = x + y * m
+
+-- four numbers in two words: the first in the lower half of the first word (bits 0 to 31), the second in its upper half (from bit 32), the third and the fourth
+-- so in the second word
+abbrev pub inHalves : List ℕ → List ℕ
+inHalves l = joined 4294967296 (getD l 0 0) (getD l 1 0) ∷ joined 4294967296 (getD l 2 0) (getD l 3 0) ∷ []
+
+-- what f says of the four numbers of two words
+abbrev pub ofHalves : {A : Type 0} → (ℕ → ℕ → ℕ → ℕ → A) → ℕ → ℕ → A
+ofHalves f v w = f (v % 4294967296) (v / 4294967296) (w % 4294967296) (w / 4294967296)
+
+-- a byte each, the first lowest
+abbrev pub bytes : List ℕ → ℕ
+bytes [] = 0
+bytes (x ∷ l) = joined 256 x (bytes l)
+
+-- what stands from byte k on
+abbrev pub fromByte : ℕ → ℕ → ℕ
+fromByte zero w = w
+fromByte (suc k) w = fromByte k (w / 256)
+
+-- ---- the 25 words
 
 -- the list of f at each number below n
 abbrev pub listed : {A : Type 0} → ℕ → (ℕ → A) → List A
@@ -130,19 +157,31 @@ listed (suc n) f = f 0 ∷ listed n (λ k. f (suc k))
 abbrev pub first : ℕ → List ℕ → List ℕ
 first n l = listed n (λ k. getD l k 0)
 
+-- the modes of eight banks from bank i on, a byte each, and the eight banks that a word says
+abbrev pub modesWord : List Bank → ℕ → ℕ
+modesWord l i = bytes (listed 8 (λ k. bankNumber (getD l (i + k) (record { mode = Array }))))
+
+abbrev pub modesIn : ℕ → List Bank
+modesIn w = listed 8 (λ k. bankNumbered (fromByte k w))
+
 -- the words of the banks, and the banks that words say
 abbrev pub bankWords : List Bank → List ℕ
-bankWords l = listed 16 (λ k. bankNumber (getD l k (record { mode = Array })))
+bankWords l = modesWord l 0 ∷ modesWord l 8 ∷ []
 
 abbrev pub banksOf : List ℕ → List Bank
-banksOf ws = listed 16 (λ k. bankNumbered (getD (drop 1 ws) k 0))
+banksOf ws = modesIn (getD ws 1 0) ++ modesIn (getD ws 2 0)
 
--- the words of what is under way, and of the rest of a state
+-- the words of what is under way
 abbrev pub activityWords : Activity → List ℕ
-activityWords a = first 4 (setupWords (a .setup)) ++ (first 4 (runningWords (a .running)) ++ (first 4 (programWords (a .program)) ++ first 3 (eraseWords (a .erase))))
+activityWords a = inHalves (setupNumbers (a .setup)) ++ (inHalves (runningNumbers (a .running)) ++ (inHalves (programNumbers (a .program)) ++ inHalves (eraseNumbers (a .erase))))
 
+-- the flags a byte each (bits 0 to 31), the configuration register (bits 32 to 47), the supply (from bit 48)
+abbrev pub controlWord : Flags → ℕ → Bool → ℕ
+controlWord f configuration supply = joined 4294967296 (bytes (flagNumbers f)) (joined 65536 configuration (bitIf supply 1))
+
+-- the words of the rest of a state, but for the buffer
 abbrev pub restWords : Flags → List ℕ → ℕ → Bool → List ℕ
-restWords f u configuration supply = flagWords f ++ (first 5 u ++ (configuration ∷ bitIf supply 1 ∷ []))
+restWords f u configuration supply = controlWord f configuration supply ∷ first 5 u
 
 abbrev pub restOf : State → List ℕ
 restOf s = restWords (s .control .flags) (s .unprotected) (s .control .configuration) (s .control .supply)
@@ -166,10 +205,13 @@ abbrev pub bufferWords : List ℕ → List ℕ
 bufferWords bs = listed 8 (packedAt bs)
 
 abbrev pub bufferIn : List ℕ → List ℕ
-bufferIn ws = listed 32 (laneAt (drop 43 ws))
+bufferIn ws = listed 32 (laneAt (drop 17 ws))
 
--- word 0 the part; 1 to 16 the modes of the banks; 17 to 20 the set-up; 21 to 24 what runs; 25 to 28 the suspended program; 29 to 31 the suspended erase;
--- 32 to 35 the flags SR5, SR4, SR3, SR1; 36 to 40 the protection words; 41 the configuration register; 42 the supply; 43 to 50 the buffer
+-- word 0 the part; 1 and 2 the modes of banks 0 to 7 and 8 to 15, a byte each, the lowest bank in the lowest byte;
+-- 3 and 4 the set-up; 5 and 6 what runs; 7 and 8 the suspended program; 9 and 10 the suspended erase: the kind in the lower half of the first word, the numbers in
+-- its upper half and in the lower and the upper half of the second;
+-- 11 the flags SR5, SR4, SR3, SR1 a byte each from the lowest, the configuration register in bits 32 to 47, the supply from bit 48;
+-- 12 to 16 the protection words; 17 to 24 the buffer, four of its words to a word
 unfoldable pub savedOf : State → List ℕ
 savedOf s =
     partNumber (s .part) ∷ (bankWords (s .banks) ++ (activityWords (s .control .activity) ++ (restOf s ++ bufferWords (s .buffer))))
@@ -178,23 +220,26 @@ savedOf s =
 -- for a protection word, and for a word of the buffer, are all
 abbrev pub activityOf : List ℕ → Activity
 activityOf ws =
-    activity (setupOf (getD ws 17 0) (getD ws 18 0) (getD ws 19 0) (getD ws 20 0)) (runningOf (getD ws 21 0) (getD ws 22 0) (getD ws 23 0) (getD ws 24 0))
-    (programOf (getD ws 25 0) (getD ws 26 0) (getD ws 27 0) (getD ws 28 0)) (eraseOf (getD ws 29 0) (getD ws 30 0) (getD ws 31 0))
+    activity (ofHalves setupOf (getD ws 3 0) (getD ws 4 0)) (ofHalves runningOf (getD ws 5 0) (getD ws 6 0)) (ofHalves programOf (getD ws 7 0) (getD ws 8 0))
+    (ofHalves (λ k a b c. eraseOf k a b) (getD ws 9 0) (getD ws 10 0))
 
-abbrev pub flagsIn : List ℕ → Flags
-flagsIn ws = flagsOf (flagNumbered (getD ws 32 0)) (flagNumbered (getD ws 33 0)) (flagNumbered (getD ws 34 0)) (flagNumbered (getD ws 35 0))
+abbrev pub flagsIn : ℕ → Flags
+flagsIn w = flagsOf (flagNumbered w) (flagNumbered (fromByte 1 w)) (flagNumbered (fromByte 2 w)) (flagNumbered (fromByte 3 w))
 
 abbrev pub protectionIn : List ℕ → List ℕ
-protectionIn ws = getD ws 36 0 ∷ getD ws 37 0 ∷ getD ws 38 0 ∷ getD ws 39 0 ∷ getD ws 40 0 ∷ []
+protectionIn ws = getD ws 12 0 ∷ getD ws 13 0 ∷ getD ws 14 0 ∷ getD ws 15 0 ∷ getD ws 16 0 ∷ []
+
+-- the flags of the lower half of word 11, the register and the supply of its upper half
+abbrev pub controlOf : List ℕ → Control
+controlOf ws = record {
+  activity = activityOf ws;
+  flags = flagsIn (getD ws 11 0 % 4294967296);
+  configuration = getD ws 11 0 / 4294967296 % 65536;
+  supply = flagNumbered (getD ws 11 0 / 4294967296 / 65536);
+}
 
 unfoldable pub loadedOf : List ℕ → State
-loadedOf ws = record {
-  part = partNumbered (getD ws 0 0);
-  banks = banksOf ws;
-  unprotected = protectionIn ws;
-  control = record { activity = activityOf ws; flags = flagsIn ws; configuration = getD ws 41 0 % 65536; supply = flagNumbered (getD ws 42 0) };
-  buffer = bufferIn ws;
-}
+loadedOf ws = record { part = partNumbered (getD ws 0 0); banks = banksOf ws; unprotected = protectionIn ws; control = controlOf ws; buffer = bufferIn ws }
 
 -- two lists are the same, word by word
 unfoldable pub same : List ℕ → List ℕ → Bool
@@ -203,7 +248,7 @@ same [] (y ∷ l) = false
 same (x ∷ k) [] = false
 same (x ∷ k) (y ∷ l) = eqb x y && same k l
 
--- words are a saved state where they are what the state that they say is saved as: so there are 51, and a place that is not used is 0
+-- words are a saved state where they are what the state that they say is saved as: so there are 25, and bits that are not used are 0
 unfoldable pub isSaved : List ℕ → Bool
 isSaved ws = same ws (savedOf (loadedOf ws))
 
@@ -219,23 +264,20 @@ stateOf ws = cond (isSaved ws) (loadedOf ws) (noState ws)
 abbrev pub foundOf : List ℕ → Found
 foundOf ws = record { saved = isSaved ws; state = stateOf ws }
 
--- room for a saved state stays as it is where it has not 51 words
+-- room for a saved state stays as it is where it has not 25 words
 unfoldable pub putInto : List ℕ → List ℕ → List ℕ
-putInto room ws = cond (eqb (length room) 51) ws room
+putInto room ws = cond (eqb (length room) 25) ws room
 
 -- ---- a saved state by the range of each word: `is-saved-in-range` (Ranges) says that it is the same
 
--- every word is below m
-unfoldable pub allBelow : ℕ → List ℕ → Bool
-allBelow m [] = true
-allBelow m (x ∷ l) = ltb x m && allBelow m l
+-- the lowest n bytes, and what is above them, are each below m
+unfoldable pub bytesBelow : ℕ → ℕ → ℕ → Bool
+bytesBelow m zero w = ltb w m
+bytesBelow m (suc n) w = ltb (w % 256) m && bytesBelow m n (w / 256)
 
--- two numbers, or three, are each below its bound, which is 1 for a place that is not used
-abbrev pub belowTwo : ℕ → ℕ → ℕ → ℕ → Bool
-belowTwo a b m n = ltb a m && ltb b n
-
+-- three numbers are each below its bound, which is 1 for one that is not used
 abbrev pub belowThree : ℕ → ℕ → ℕ → ℕ → ℕ → ℕ → Bool
-belowThree a b c l m n = ltb a l && belowTwo b c m n
+belowThree a b c l m n = ltb a l && (ltb b m && ltb c n)
 
 -- the kind and the numbers of the set-up, of what runs, and of what is suspended
 abbrev pub setupInRange : ℕ → ℕ → ℕ → ℕ → Bool
@@ -258,22 +300,25 @@ programInRange k a b c =
     (cond (eqb k 1) (belowThree a b c 4294967296 65536 1)
     (eqb k 2 && belowThree a b c 4294967296 4294967296 4294967296))
 
-abbrev pub eraseInRange : ℕ → ℕ → ℕ → Bool
-eraseInRange k a b = cond (eqb k 0) (belowTwo a b 1 1) (eqb k 1 && belowTwo a b 4294967296 4294967296)
+abbrev pub eraseInRange : ℕ → ℕ → ℕ → ℕ → Bool
+eraseInRange k a b c = cond (eqb k 0) (belowThree a b c 1 1 1) (eqb k 1 && belowThree a b c 4294967296 4294967296 1)
 
 unfoldable pub activityInRange : List ℕ → Bool
 activityInRange ws =
-    setupInRange (getD ws 17 0) (getD ws 18 0) (getD ws 19 0) (getD ws 20 0)
-    && (runningInRange (getD ws 21 0) (getD ws 22 0) (getD ws 23 0) (getD ws 24 0)
-    && (programInRange (getD ws 25 0) (getD ws 26 0) (getD ws 27 0) (getD ws 28 0)
-    && eraseInRange (getD ws 29 0) (getD ws 30 0) (getD ws 31 0)))
+    ofHalves setupInRange (getD ws 3 0) (getD ws 4 0)
+    && (ofHalves runningInRange (getD ws 5 0) (getD ws 6 0)
+    && (ofHalves programInRange (getD ws 7 0) (getD ws 8 0)
+    && ofHalves eraseInRange (getD ws 9 0) (getD ws 10 0)))
 
--- 51 words; the part and the modes below 4; what is under way; the flags 0 or 1; a protection word is any number, and so is one of the buffer;
--- the configuration register has 16 bits; the supply is 0 or 1
+-- the four flags 0 or 1, and so the supply; the configuration register is any 16 bits
+abbrev pub controlInRange : ℕ → Bool
+controlInRange w = bytesBelow 2 3 (w % 4294967296) && ltb (w / 4294967296 / 65536) 2
+
+-- 25 words; the part below 4, and each mode; what is under way; the flags and the supply; a protection word is any number, and so is one of the buffer
 unfoldable pub inRange : List ℕ → Bool
 inRange ws =
-    eqb (length ws) 51
-    && (allBelow 4 (take 17 ws)
-    && (activityInRange ws
-    && (allBelow 2 (take 4 (drop 32 ws))
-    && belowTwo (getD ws 41 0) (getD ws 42 0) 65536 2)))
+    eqb (length ws) 25
+    && (ltb (getD ws 0 0) 4
+    && (bytesBelow 4 7 (getD ws 1 0)
+    && (bytesBelow 4 7 (getD ws 2 0)
+    && (activityInRange ws && controlInRange (getD ws 11 0)))))

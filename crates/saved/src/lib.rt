@@ -1,4 +1,4 @@
-// A device's state as 51 words, so that programs in C can keep it, and back. Each public function takes every state and all words.
+// A device's state as 25 words, so that programs in C can keep it, and back. Each public function takes every state and all words.
 use geometry::Part;
 use semantics::Activity;
 use semantics::Bank;
@@ -11,11 +11,12 @@ use semantics::State;
 use semantics::SuspendedErase;
 use semantics::SuspendedProgram;
 ghost use mathlib.Core.Path.{_≡_};
+ghost use Prim.Native.Nat.{_+_, _<_, _≤_};
 ghost use lib.ListN.{length, getD};
 ghost use lib.Seq.{sets};
 ghost use Rattle.geometry.specs.Blocks.{partNumbered};
 ghost use Rattle.semantics.specs.Reading.{bitIf};
-ghost use Rattle.saved.specs.Saved.{partNumber, bankNumber, bankNumbered, flagNumbered, setupWords, plainSetup, loadOf, setupOf, runningWords, runningOf, programWords, programOf, eraseWords, eraseOf, bankWords, banksOf, activityWords, restWords, packed, lane, bufferWords, bufferIn, savedOf, loadedOf, isSaved, noState, foundOf, putInto, activityOf, flagsIn, protectionIn, allBelow, belowThree, setupInRange, runningInRange, programInRange, eraseInRange, activityInRange};
+ghost use Rattle.saved.specs.Saved.{partNumber, bankNumber, bankNumbered, flagNumbered, setupNumbers, plainSetup, loadOf, setupOf, runningNumbers, runningOf, programNumbers, programOf, eraseNumbers, eraseOf, joined, inHalves, modesWord, modesIn, bankWords, banksOf, activityWords, controlWord, restWords, packed, bufferWords, bufferIn, savedOf, loadedOf, isSaved, noState, foundOf, putInto, activityOf, flagsIn, protectionIn, bytesBelow, belowThree, setupInRange, runningInRange, programInRange, eraseInRange, activityInRange};
 ghost use Rattle.saved.specs.Laws.{Fitting};
 
 // Whether words are a saved state, and the state of the words.
@@ -39,6 +40,7 @@ fn part_number(part: Part) -> u64
 
 fn bank_number(bank: Bank) -> u64
     ensures { λ r. ⌜ r ≡ bankNumber bank ⌝ }
+    ensures small { λ r. ⌜ r < 4 ⌝ }
 {
     let mode = bank.mode;
     match mode {
@@ -51,53 +53,52 @@ fn bank_number(bank: Bank) -> u64
 
 fn flag_number(on: bool) -> u64
     ensures { λ r. ⌜ r ≡ bitIf on 1 ⌝ }
+    ensures small { λ r. ⌜ r < 2 ⌝ }
 {
     if on { 1 } else { 0 }
 }
 
-fn setup_words(setup: Setup) -> [u64; 4]
-    ensures { λ w. ⌜ w ≡ setupWords setup ⌝ }
+fn setup_numbers(setup: Setup) -> [u32; 4]
+    ensures { λ w. ⌜ w ≡ setupNumbers setup ⌝ }
 {
     match setup {
         Setup::Nothing => [0, 0, 0, 0],
         Setup::Program => [1, 0, 0, 0],
         Setup::Erase => [2, 0, 0, 0],
         Setup::Lock => [3, 0, 0, 0],
-        Setup::BufferCount { block } => [4, block as u64, 0, 0],
-        Setup::BufferFirst { block, words } => [5, block as u64, words as u64, 0],
-        Setup::BufferWords { start, words, due } => [6, start as u64, words as u64, due as u64],
+        Setup::BufferCount { block } => [4, block, 0, 0],
+        Setup::BufferFirst { block, words } => [5, block, words, 0],
+        Setup::BufferWords { start, words, due } => [6, start, words, due],
     }
 }
 
-fn running_words(r: Running) -> [u64; 4]
-    ensures { λ w. ⌜ w ≡ runningWords r ⌝ }
+fn running_numbers(r: Running) -> [u32; 4]
+    ensures { λ w. ⌜ w ≡ runningNumbers r ⌝ }
 {
     match r {
         Running::Idle => [0, 0, 0, 0],
-        Running::Program { location, word } => [1, location as u64, word as u64, 0],
-        Running::Erase { block, done } => [2, block as u64, done as u64, 0],
-        Running::Buffer { start, words, done } => [3, start as u64, words as u64, done as u64],
+        Running::Program { location, word } => [1, location, word as u32, 0],
+        Running::Erase { block, done } => [2, block, done, 0],
+        Running::Buffer { start, words, done } => [3, start, words, done],
     }
 }
 
-fn program_words(p: SuspendedProgram) -> [u64; 4]
-    ensures { λ w. ⌜ w ≡ programWords p ⌝ }
+fn program_numbers(p: SuspendedProgram) -> [u32; 4]
+    ensures { λ w. ⌜ w ≡ programNumbers p ⌝ }
 {
     match p {
         SuspendedProgram::Nothing => [0, 0, 0, 0],
-        SuspendedProgram::Program { location, word } => [1, location as u64, word as u64, 0],
-        SuspendedProgram::Buffer { start, words, done } => {
-            [2, start as u64, words as u64, done as u64]
-        }
+        SuspendedProgram::Program { location, word } => [1, location, word as u32, 0],
+        SuspendedProgram::Buffer { start, words, done } => [2, start, words, done],
     }
 }
 
-fn erase_words(e: SuspendedErase) -> [u64; 3]
-    ensures { λ w. ⌜ w ≡ eraseWords e ⌝ }
+fn erase_numbers(e: SuspendedErase) -> [u32; 4]
+    ensures { λ w. ⌜ w ≡ eraseNumbers e ⌝ }
 {
     match e {
-        SuspendedErase::Nothing => [0, 0, 0],
-        SuspendedErase::Erase { block, done } => [1, block as u64, done as u64],
+        SuspendedErase::Nothing => [0, 0, 0, 0],
+        SuspendedErase::Erase { block, done } => [1, block, done, 0],
     }
 }
 
@@ -118,9 +119,11 @@ fn part_numbered(n: u64) -> Part
     Part::BenchTop
 }
 
-fn bank_numbered(n: u64) -> Bank
-    ensures { λ r. ⌜ r ≡ bankNumbered n ⌝ }
+// Of a byte the two lowest bits.
+fn bank_numbered(w: u64) -> Bank
+    ensures { λ r. ⌜ r ≡ bankNumbered w ⌝ }
 {
+    let n = w % 4;
     if n == 0 {
         return Bank { mode: Mode::Array };
     }
@@ -247,18 +250,19 @@ fn word_at(words: &[u64], i: usize) -> u64
     if i < words.len() { words[i] } else { 0 }
 }
 
-// Every word is below m.
-fn all_below(m: u64, words: &[u64]) -> bool
-    ensures { λ r. ⌜ r ≡ allBelow m (now (words .entry)) ⌝ }
+// The lowest n bytes, and what is above them, are each below m. No branches, so that it is a test of one mask.
+fn bytes_below(m: u64, n: usize, w: u64) -> bool
+    ensures { λ r. ⌜ r ≡ bytesBelow m n w ⌝ }
 {
+    let mut below = true;
+    let mut rest = w;
     let mut i: usize = 0;
-    while i < words.len() {
-        if words[i] >= m {
-            return false;
-        }
+    while i < n {
+        below = below & (rest % 256 < m);
+        rest = rest / 256;
         i += 1;
     }
-    true
+    below & (rest < m)
 }
 
 // Three numbers are each below its bound.
@@ -314,38 +318,51 @@ fn program_in_range(kind: u64, a: u64, b: u64, c: u64) -> bool
 }
 
 // Those of a suspended erase.
-fn erase_in_range(kind: u64, a: u64, b: u64) -> bool
-    ensures { λ r. ⌜ r ≡ eraseInRange kind a b ⌝ }
+fn erase_in_range(kind: u64, a: u64, b: u64, c: u64) -> bool
+    ensures { λ r. ⌜ r ≡ eraseInRange kind a b c ⌝ }
 {
     if kind == 0 {
-        return (a < 1) & (b < 1);
+        return below_three(a, b, c, 1, 1, 1);
     }
-    (kind == 1) & ((a < 4294967296) & (b < 4294967296))
+    (kind == 1) & below_three(a, b, c, 4294967296, 4294967296, 1)
 }
 
 // All four.
 fn activity_in_range(words: &[u64]) -> bool
     ensures { λ r. ⌜ r ≡ activityInRange (now (words .entry)) ⌝ }
 {
+    let s = word_at(words, 3);
+    let t = word_at(words, 4);
     let a = setup_in_range(
-        word_at(words, 17),
-        word_at(words, 18),
-        word_at(words, 19),
-        word_at(words, 20),
+        s % 4294967296,
+        s / 4294967296,
+        t % 4294967296,
+        t / 4294967296,
     );
+    let r = word_at(words, 5);
+    let u = word_at(words, 6);
     let b = running_in_range(
-        word_at(words, 21),
-        word_at(words, 22),
-        word_at(words, 23),
-        word_at(words, 24),
+        r % 4294967296,
+        r / 4294967296,
+        u % 4294967296,
+        u / 4294967296,
     );
+    let p = word_at(words, 7);
+    let v = word_at(words, 8);
     let c = program_in_range(
-        word_at(words, 25),
-        word_at(words, 26),
-        word_at(words, 27),
-        word_at(words, 28),
+        p % 4294967296,
+        p / 4294967296,
+        v % 4294967296,
+        v / 4294967296,
     );
-    let d = erase_in_range(word_at(words, 29), word_at(words, 30), word_at(words, 31));
+    let e = word_at(words, 9);
+    let w = word_at(words, 10);
+    let d = erase_in_range(
+        e % 4294967296,
+        e / 4294967296,
+        w % 4294967296,
+        w / 4294967296,
+    );
     a & (b & (c & d))
 }
 
@@ -353,57 +370,81 @@ fn activity_in_range(words: &[u64]) -> bool
 pub fn is_saved(words: &[u64]) -> bool
     ensures { λ r. ⌜ r ≡ isSaved (now (words .entry)) ⌝ }
 {
-    if words.len() != 51 {
+    if words.len() != 25 {
         return false;
     }
-    if !all_below(4, &words[0..17]) {
+    if words[0] >= 4 {
+        return false;
+    }
+    if !bytes_below(4, 7, words[1]) {
+        return false;
+    }
+    if !bytes_below(4, 7, words[2]) {
         return false;
     }
     if !activity_in_range(words) {
         return false;
     }
-    if !all_below(2, &words[32..36]) {
-        return false;
-    }
-    (words[41] < 65536) & (words[42] < 2)
+    let w = words[11];
+    bytes_below(2, 3, w % 4294967296) & (w / 4294967296 / 65536 < 2)
 }
 
 // ---- the state of words
 
+// The banks with the modes of eight from one on, a byte each.
+fn with_modes(banks: [Bank; 16], from: usize, w: u64) -> [Bank; 16]
+    requires { ⌜ from ≤ 8 ⌝ }
+    ensures { λ r. ⌜ r ≡ sets banks from (modesIn w) ⌝ }
+{
+    let mut now = banks;
+    let mut rest = w;
+    let mut i: usize = 0;
+    while i < 8 {
+        now[from + i] = bank_numbered(rest);
+        rest = rest / 256;
+        i += 1;
+    }
+    now
+}
+
 fn banks_of(words: &[u64]) -> [Bank; 16]
     ensures { λ r. ⌜ r ≡ banksOf (now (words .entry)) ⌝ }
 {
-    let mut banks = [Bank { mode: Mode::Array }; 16];
-    let mut i: usize = 0;
-    while i < 16 {
-        banks[i] = bank_numbered(word_at(words, 1 + i));
-        i += 1;
-    }
-    banks
+    let none = [Bank { mode: Mode::Array }; 16];
+    let half = with_modes(none, 0, word_at(words, 1));
+    with_modes(half, 8, word_at(words, 2))
 }
 
 fn activity_of(words: &[u64]) -> Activity
     ensures { λ r. ⌜ r ≡ activityOf (now (words .entry)) ⌝ }
 {
+    let s = word_at(words, 3);
+    let t = word_at(words, 4);
     let setup = setup_of(
-        word_at(words, 17),
-        word_at(words, 18),
-        word_at(words, 19),
-        word_at(words, 20),
+        s % 4294967296,
+        s / 4294967296,
+        t % 4294967296,
+        t / 4294967296,
     );
+    let r = word_at(words, 5);
+    let u = word_at(words, 6);
     let running = running_of(
-        word_at(words, 21),
-        word_at(words, 22),
-        word_at(words, 23),
-        word_at(words, 24),
+        r % 4294967296,
+        r / 4294967296,
+        u % 4294967296,
+        u / 4294967296,
     );
+    let p = word_at(words, 7);
+    let v = word_at(words, 8);
     let program = program_of(
-        word_at(words, 25),
-        word_at(words, 26),
-        word_at(words, 27),
-        word_at(words, 28),
+        p % 4294967296,
+        p / 4294967296,
+        v % 4294967296,
+        v / 4294967296,
     );
-    let erase = erase_of(word_at(words, 29), word_at(words, 30), word_at(words, 31));
+    let e = word_at(words, 9);
+    let w = word_at(words, 10);
+    let erase = erase_of(e % 4294967296, e / 4294967296, w % 4294967296);
     Activity {
         setup,
         running,
@@ -412,20 +453,21 @@ fn activity_of(words: &[u64]) -> Activity
     }
 }
 
-fn flag_at(words: &[u64], i: usize) -> bool
-    ensures { λ r. ⌜ r ≡ flagNumbered (getD (now (words .entry)) i 0) ⌝ }
+// Of a byte the lowest bit.
+fn flag_numbered(w: u64) -> bool
+    ensures { λ r. ⌜ r ≡ flagNumbered w ⌝ }
 {
-    word_at(words, i) != 0
+    w % 2 != 0
 }
 
-fn flags_of(words: &[u64]) -> Flags
-    ensures { λ r. ⌜ r ≡ flagsIn (now (words .entry)) ⌝ }
+fn flags_of(w: u64) -> Flags
+    ensures { λ r. ⌜ r ≡ flagsIn w ⌝ }
 {
     Flags {
-        sr5: flag_at(words, 32),
-        sr4: flag_at(words, 33),
-        sr3: flag_at(words, 34),
-        sr1: flag_at(words, 35),
+        sr5: flag_numbered(w),
+        sr4: flag_numbered(w / 256),
+        sr3: flag_numbered(w / 256 / 256),
+        sr1: flag_numbered(w / 256 / 256 / 256),
     }
 }
 
@@ -433,11 +475,11 @@ fn protection_of(words: &[u64]) -> [u64; 5]
     ensures { λ r. ⌜ r ≡ protectionIn (now (words .entry)) ⌝ }
 {
     [
-        word_at(words, 36),
-        word_at(words, 37),
-        word_at(words, 38),
-        word_at(words, 39),
-        word_at(words, 40),
+        word_at(words, 12),
+        word_at(words, 13),
+        word_at(words, 14),
+        word_at(words, 15),
+        word_at(words, 16),
     ]
 }
 
@@ -448,7 +490,7 @@ fn buffer_of(words: &[u64]) -> [u16; 32]
     let mut buffer: [u16; 32] = [0; 32];
     let mut j: usize = 0;
     while j < 8 {
-        let w = word_at(words, 43 + j);
+        let w = word_at(words, 17 + j);
         buffer[4 * j] = (w % 65536) as u16;
         buffer[4 * j + 1] = (w / 65536 % 65536) as u16;
         buffer[4 * j + 2] = (w / 4294967296 % 65536) as u16;
@@ -462,15 +504,16 @@ fn buffer_of(words: &[u64]) -> [u16; 32]
 pub fn load(words: &[u64]) -> State
     ensures { λ r. ⌜ r ≡ loadedOf (now (words .entry)) ⌝ }
 {
+    let w = word_at(words, 11);
     State {
         part: part_numbered(word_at(words, 0)),
         banks: banks_of(words),
         unprotected: protection_of(words),
         control: Control {
             activity: activity_of(words),
-            flags: flags_of(words),
-            configuration: (word_at(words, 41) % 65536) as u16,
-            supply: flag_at(words, 42),
+            flags: flags_of(w % 4294967296),
+            configuration: (w / 4294967296 % 65536) as u16,
+            supply: flag_numbered(w / 4294967296 / 65536),
         },
         buffer: buffer_of(words),
     }
@@ -504,61 +547,78 @@ pub fn found_in(words: &[u64]) -> Found
 
 // ---- the words of a state, put in place
 
+// The modes of eight banks from one on, a byte each.
+fn modes_word(banks: [Bank; 16], from: usize) -> u64
+    requires { ⌜ from ≤ 8 ⌝ }
+    ensures { λ r. ⌜ r ≡ modesWord banks from ⌝ }
+{
+    let mut w: u64 = 0;
+    let mut i: usize = 8;
+    while 0 < i {
+        i -= 1;
+        w = bank_number(banks[from + i]) + w * 256;
+    }
+    w
+}
+
 fn put_banks(words: &mut [u64], banks: [Bank; 16])
-    requires { ⌜ length (now words) ≡ 51 ⌝ }
+    requires { ⌜ length (now words) ≡ 25 ⌝ }
     ensures { λ _. ⌜ now (words .exit) ≡ sets (now (words .entry)) 1 (bankWords banks) ⌝ }
 {
-    let mut i: usize = 0;
-    while i < 16 {
-        words[1 + i] = bank_number(banks[i]);
-        i += 1;
-    }
+    words[1] = modes_word(banks, 0);
+    words[2] = modes_word(banks, 8);
+}
+
+// The first in the lower half.
+fn halves(a: u32, b: u32) -> u64
+    ensures { λ r. ⌜ r ≡ joined 4294967296 a b ⌝ }
+{
+    a as u64 + (b as u64) * 4294967296
+}
+
+// Four numbers in two words.
+fn put_four(words: &mut [u64], at: usize, four: [u32; 4])
+    requires { ⌜ at + 2 ≤ length (now words) ⌝ }
+    ensures { λ _. ⌜ now (words .exit) ≡ sets (now (words .entry)) at (inHalves four) ⌝ }
+{
+    words[at] = halves(four[0], four[1]);
+    words[at + 1] = halves(four[2], four[3]);
 }
 
 fn put_activity(words: &mut [u64], a: Activity)
-    requires { ⌜ length (now words) ≡ 51 ⌝ }
-    ensures { λ _. ⌜ now (words .exit) ≡ sets (now (words .entry)) 17 (activityWords a) ⌝ }
+    requires { ⌜ length (now words) ≡ 25 ⌝ }
+    ensures { λ _. ⌜ now (words .exit) ≡ sets (now (words .entry)) 3 (activityWords a) ⌝ }
 {
     let setup = a.setup;
     let running = a.running;
     let program = a.program;
     let erase = a.erase;
-    let s = setup_words(setup);
-    let r = running_words(running);
-    let p = program_words(program);
-    let e = erase_words(erase);
-    words[17] = s[0];
-    words[18] = s[1];
-    words[19] = s[2];
-    words[20] = s[3];
-    words[21] = r[0];
-    words[22] = r[1];
-    words[23] = r[2];
-    words[24] = r[3];
-    words[25] = p[0];
-    words[26] = p[1];
-    words[27] = p[2];
-    words[28] = p[3];
-    words[29] = e[0];
-    words[30] = e[1];
-    words[31] = e[2];
+    put_four(words, 3, setup_numbers(setup));
+    put_four(words, 5, running_numbers(running));
+    put_four(words, 7, program_numbers(program));
+    put_four(words, 9, erase_numbers(erase));
+}
+
+// The flags a byte each, above them the configuration register, above it the supply.
+fn control_word(f: Flags, configuration: u16, supply: bool) -> u64
+    ensures { λ r. ⌜ r ≡ controlWord f configuration supply ⌝ }
+{
+    let three = flag_number(f.sr4) + (flag_number(f.sr3) + flag_number(f.sr1) * 256) * 256;
+    let low = flag_number(f.sr5) + three * 256;
+    let high = configuration as u64 + flag_number(supply) * 65536;
+    low + high * 4294967296
 }
 
 fn put_rest(words: &mut [u64], f: Flags, u: [u64; 5], configuration: u16, supply: bool)
-    requires { ⌜ length (now words) ≡ 51 ⌝ }
-    ensures { λ _. ⌜ now (words .exit) ≡ sets (now (words .entry)) 32 (restWords f u configuration supply) ⌝ }
+    requires { ⌜ length (now words) ≡ 25 ⌝ }
+    ensures { λ _. ⌜ now (words .exit) ≡ sets (now (words .entry)) 11 (restWords f u configuration supply) ⌝ }
 {
-    words[32] = flag_number(f.sr5);
-    words[33] = flag_number(f.sr4);
-    words[34] = flag_number(f.sr3);
-    words[35] = flag_number(f.sr1);
-    words[36] = u[0];
-    words[37] = u[1];
-    words[38] = u[2];
-    words[39] = u[3];
-    words[40] = u[4];
-    words[41] = configuration as u64;
-    words[42] = flag_number(supply);
+    words[11] = control_word(f, configuration, supply);
+    words[12] = u[0];
+    words[13] = u[1];
+    words[14] = u[2];
+    words[15] = u[3];
+    words[16] = u[4];
 }
 
 // Four words of the buffer in one.
@@ -569,8 +629,8 @@ fn packed(a: u16, b: u16, c: u16, d: u16) -> u64
 }
 
 fn put_buffer(words: &mut [u64], buffer: [u16; 32])
-    requires { ⌜ length (now words) ≡ 51 ⌝ }
-    ensures { λ _. ⌜ now (words .exit) ≡ sets (now (words .entry)) 43 (bufferWords buffer) ⌝ }
+    requires { ⌜ length (now words) ≡ 25 ⌝ }
+    ensures { λ _. ⌜ now (words .exit) ≡ sets (now (words .entry)) 17 (bufferWords buffer) ⌝ }
 {
     let mut j: usize = 0;
     while j < 8 {
@@ -578,17 +638,17 @@ fn put_buffer(words: &mut [u64], buffer: [u16; 32])
         let b = buffer[4 * j + 1];
         let c = buffer[4 * j + 2];
         let d = buffer[4 * j + 3];
-        words[43 + j] = packed(a, b, c, d);
+        words[17 + j] = packed(a, b, c, d);
         j += 1;
     }
 }
 
-// Puts the words of a state into room for just 51. Every state of the code fits its types, so that it is got back from them (`state-back` of specs/Laws).
+// Puts the words of a state into room for just 25. Every state of the code fits its types, so that it is got back from them (`state-back` of specs/Laws).
 pub fn save(s: State, words: &mut [u64])
     ensures { λ _. ⌜ now (words .exit) ≡ putInto (now (words .entry)) (savedOf s) ⌝ }
     ensures fitting { λ _. ⌜ Fitting s ⌝ }
 {
-    if words.len() != 51 {
+    if words.len() != 25 {
         return;
     }
     let part = s.part;

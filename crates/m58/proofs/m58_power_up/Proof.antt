@@ -14,13 +14,13 @@ returns c = let e = lt-leb (c .before .before .args .part) 3 (c .if1 .taken) in 
 
 returns-2 : tie.Need-returns-2
 unfolding powersUp poweredUp
-returns-2 c = let e = le-leb (c .before .before .before .args .part) 3 (c .before .if1 .left) in let f = ne-eqb _ 51 (c .if2 .taken) in (rw (e, f), rw (e, f))
+returns-2 c = let e = le-leb (c .before .before .before .args .part) 3 (c .before .if1 .left) in let f = ne-eqb _ 25 (c .if2 .taken) in (rw (e, f), rw (e, f))
 
 returns-3 : tie.Need-returns-3
 unfolding powersUp poweredUp putInto
 returns-3 c =
     let e = le-leb (c .before .before .before .before .before .before .before .before .before .before .args .part) 3 (c .before .before .before .before .before .before .before .before .if1 .left) in
-    let f = eq-eqb _ 51 (c .before .before .before .before .before .before .before .if2 .left) in (
+    let f = eq-eqb _ 25 (c .before .before .before .before .before .before .before .if2 .left) in (
       rw (e, f),
       rw (e, f)
           (c .before .before .save .ensures .0

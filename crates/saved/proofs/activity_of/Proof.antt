@@ -4,19 +4,12 @@ use Rattle.saved.proofs.activity_of.Statement.{statement}
 use Rattle.saved.proofs.activity_of.Tie as tie
 
 returns : tie.Need-returns
-returns c = rw (c .before .before .before .before .before .before .before .before .before .before .before .before .before .before .setup-of .ensures, c .before .before .before .before .before .before .before .before .before .running-of .ensures, c .before .before .before .before .program-of .ensures, c .erase-of .ensures, c .before .before .before .before .before .before .before .before .before .before .before .before .before .before .before .before .before .before .word-at .ensures, c .before .before .before .before .before .before .before .before .before .before .before .before .before .before .before .before .before .word-at2 .ensures, c .before .before .before .before .before .before .before .before .before .before .before .before .before .before .before .before .word-at3 .ensures, c .before .before .before .before .before .before .before .before .before .before .before .before .before .before .before .word-at4 .ensures, c .before .before .before .before .before .before .before .before .before .before .before .before .before .word-at5 .ensures, c .before .before .before .before .before .before .before .before .before .before .before .before .word-at6 .ensures, c .before .before .before .before .before .before .before .before .before .before .before .word-at7 .ensures, c .before .before .before .before .before .before .before .before .before .before .word-at8 .ensures, c .before .before .before .before .before .before .before .before .word-at9 .ensures, c .before .before .before .before .before .before .before .word-at10 .ensures, c .before .before .before .before .before .before .word-at11 .ensures, c .before .before .before .before .before .word-at12 .ensures, c .before .before .before .word-at13 .ensures, c .before .before .word-at14 .ensures, c .before .word-at15 .ensures)
+returns c = rw (c .before .before .before .before .before .before .before .before .before .setup-of .ensures, c .before .before .before .before .before .before .running-of .ensures, c .before .before .before .program-of .ensures, c .erase-of .ensures, c .before .before .before .before .before .before .before .before .before .before .before .word-at .ensures, c .before .before .before .before .before .before .before .before .before .before .word-at2 .ensures, c .before .before .before .before .before .before .before .before .word-at3 .ensures, c .before .before .before .before .before .before .before .word-at4 .ensures, c .before .before .before .before .before .word-at5 .ensures, c .before .before .before .before .word-at6 .ensures, c .before .before .word-at7 .ensures, c .before .word-at8 .ensures)
 
 pub activity-of-spec : {M : Type 1} → statement M
 activity-of-spec =
     tie.close
     (tie.spec
-    (λ c κs. search needs)
-    (λ c κs. search needs)
-    (λ c κs. search needs)
-    (λ c κs. search needs)
-    (λ c κs. search needs)
-    (λ c κs. search needs)
-    (λ c κs. search needs)
     (λ c κs. search needs)
     (λ c κs. search needs)
     (λ c κs. search needs)

@@ -1,11 +1,10 @@
--- `saved::put_activity` meets its contract, by those of the functions that give the words. Assumes nothing.
-use lib.ListN.{length-set}
+-- `saved::put_activity` meets its contract, by those of the functions that give the numbers and put them in place. Assumes nothing.
 use borrow.Author.Needs.{needs}
 use Rattle.saved.proofs.put_activity.Statement.{statement}
 use Rattle.saved.proofs.put_activity.Tie as tie
 
 returns : tie.Need-returns
-returns c = rw (c .before .before .before .setup-words .ensures, c .before .before .running-words .ensures, c .before .program-words .ensures, c .erase-words .ensures)
+returns c = rw (c .before .before .put-four4 .ensures, c .before .before .before .erase-numbers .ensures, c .before .before .before .before .before .before .before .put-four3 .ensures, c .before .before .before .before .before .before .before .before .program-numbers .ensures, c .before .before .before .before .before .before .before .before .before .before .before .before .put-four2 .ensures, c .before .before .before .before .before .before .before .before .before .before .before .before .before .running-numbers .ensures, c .before .before .before .before .before .before .before .before .before .before .before .before .before .before .before .before .before .put-four .ensures, c .before .before .before .before .before .before .before .before .before .before .before .before .before .before .before .before .before .before .setup-numbers .ensures)
 
 pub put-activity-spec : {M : Type 1} → statement M
 put-activity-spec =
@@ -15,35 +14,9 @@ put-activity-spec =
     (λ c κs. search needs)
     (λ c κs. search needs)
     (λ c κs. search needs)
+    (λ c κs. search needs)
+    (λ c κs. search needs)
+    (λ c κs. search needs)
+    (λ c κs. search needs)
     (λ c. search needs)
-    (λ c. search needs)
-    (λ c. search needs)
-    (λ c. search needs)
-    (λ c. search needs)
-    (λ c. search needs)
-    (λ c. search needs)
-    (λ c. search needs)
-    (λ c. search needs)
-    (λ c. simp length-set (search needs))
-    (λ c. search needs)
-    (λ c. simp length-set (search needs))
-    (λ c. search needs)
-    (λ c. simp length-set (search needs))
-    (λ c. search needs)
-    (λ c. simp length-set (search needs))
-    (λ c. search needs)
-    (λ c. simp length-set (search needs))
-    (λ c. search needs)
-    (λ c. simp length-set (search needs))
-    (λ c. search needs)
-    (λ c. simp length-set (search needs))
-    (λ c. search needs)
-    (λ c. simp length-set (search needs))
-    (λ c. search needs)
-    (λ c. simp length-set (search needs))
-    (λ c. search needs)
-    (λ c. simp length-set (search needs))
-    (λ c. search needs)
-    (λ c. simp length-set (search needs))
-    (λ c. simp length-set)
     returns)

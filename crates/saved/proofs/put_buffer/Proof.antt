@@ -5,13 +5,13 @@ use native.Mathlib.Omega.{arith}
 use lib.ListN.{length, take, length-set}
 use lib.Seq.{sets}
 use borrow.Author.Needs.{needs}
-use Rattle.saved.specs.Saved.{bufferWords}
-use Rattle.saved.specs.Laws.{buffer-next}
+use Rattle.saved.specs.Saved.{packedAt, bufferWords}
+use Rattle.saved.specs.Laws.{listed-next}
 use Rattle.saved.proofs.put_buffer.Statement.{statement}
 use Rattle.saved.proofs.put_buffer.Tie as tie
 
 abbrev Inv-loop : tie.InvT-loop
-Inv-loop words₀ buffer j₀ words j = (j ≤ 8) × ((length words ≡ 51) × (words ≡ sets words₀ 43 (take j (bufferWords buffer))))
+Inv-loop words₀ buffer j₀ words j = (j ≤ 8) × ((length words ≡ 25) × (words ≡ sets words₀ 17 (take j (bufferWords buffer))))
 
 abbrev μ-loop : tie.MeasureT-loop
 μ-loop words₀ buffer j₀ words j = 8 - j
@@ -24,7 +24,7 @@ loop-again c = (
   search needs,
   (
     simp length-set (search needs),
-    buffer-next (c .before .before .before .before .args .t2) (c .before .before .before .before .args .words .now) _ _ _ (search needs) (c .before .before .loop .inv .1 .1) (c .packed .ensures),
+    listed-next 0 8 (packedAt (c .before .before .before .before .args .t2)) (c .before .before .before .before .args .words .now) _ 17 _ _ (search needs) refl (c .before .before .loop .inv .1 .1) (c .packed .ensures),
   ),
 )
 

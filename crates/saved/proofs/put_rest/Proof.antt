@@ -1,11 +1,11 @@
--- `saved::put_rest` meets its contract, by that of `flag_number`. Assumes nothing.
+-- `saved::put_rest` meets its contract, by that of `control_word`. Assumes nothing.
 use lib.ListN.{length-set}
 use borrow.Author.Needs.{needs}
 use Rattle.saved.proofs.put_rest.Statement.{statement}
 use Rattle.saved.proofs.put_rest.Tie as tie
 
 returns : tie.Need-returns
-returns c = rw (c .before .before .before .before .flag-number .ensures, c .before .before .before .flag-number2 .ensures, c .before .before .flag-number3 .ensures, c .before .flag-number4 .ensures, c .flag-number5 .ensures)
+returns c = rw (c .control-word .ensures)
 
 pub put-rest-spec : {M : Type 1} → statement M
 put-rest-spec =
@@ -13,12 +13,6 @@ put-rest-spec =
     (tie.spec
     (λ c κs. search needs)
     (λ c. search needs)
-    (λ c κs. search needs)
-    (λ c. search needs)
-    (λ c κs. search needs)
-    (λ c. search needs)
-    (λ c κs. search needs)
-    (λ c. search needs)
     (λ c. search needs)
     (λ c. simp length-set (search needs))
     (λ c. search needs)
@@ -28,9 +22,6 @@ put-rest-spec =
     (λ c. search needs)
     (λ c. simp length-set (search needs))
     (λ c. search needs)
-    (λ c. simp length-set (search needs))
-    (λ c. simp length-set (search needs))
-    (λ c κs. search needs)
     (λ c. simp length-set (search needs))
     (λ c. simp length-set)
     returns)

@@ -11,7 +11,7 @@ use Rattle.saved.proofs.save.Tie as tie
 
 returns : tie.Need-returns
 unfolding putInto
-returns c = (rw (ne-eqb _ 51 (c .if1 .taken)), fits _ _ (c .before .before .good .0))
+returns c = (rw (ne-eqb _ 25 (c .if1 .taken)), fits _ _ (c .before .before .good .0))
 
 put-activity-requires : tie.Need-put-activity-requires
 put-activity-requires c κs = ap length (c .before .before .before .put-banks .ensures) ∙ simp length-set (c .before .before .before .before .before .before .before .before .before .before .before .if1 .left)

@@ -1,0 +1,18 @@
+-- `saved::erase_numbers` meets its contract, arm by arm. Assumes nothing.
+use mathlib.Core.Path.{ap, sym}
+use borrow.Author.Needs.{needs}
+use Rattle.saved.specs.Saved.{eraseNumbers}
+use Rattle.saved.proofs.erase_numbers.Statement.{statement}
+use Rattle.saved.proofs.erase_numbers.Tie as tie
+
+returns-2 : tie.Need-returns-2
+returns-2 c = ap eraseNumbers (sym (c .before .e .given .1))
+
+pub erase-numbers-spec : {M : Type 1} → statement M
+erase-numbers-spec =
+    tie.close
+    (tie.spec
+    (λ c. search needs)
+    (λ c. search needs)
+    (λ c. search needs)
+    returns-2)
