@@ -374,11 +374,11 @@ impl Bench {
         bench
     }
 
-    /// A library with fewer state words has no write buffer: it ignores E8h.
+    /// The library with 38 state words has no write buffer: it ignores E8h.
     fn other_takes_loads(&self) -> bool {
-        self.sides.iter().any(|side| {
-            matches!(&side.player, Player::Other(state) if state.len() >= library::STATE_WORDS)
-        })
+        self.sides
+            .iter()
+            .any(|side| matches!(&side.player, Player::Other(state) if state.len() != 38))
     }
 
     /// Plays a workload on all sides and prints the row of its ratios. The sides

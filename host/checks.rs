@@ -1,5 +1,6 @@
 //! Checks that need no chance: power-up, states that are not well formed, each
-//! state word changed to many values, and memory of other counts.
+//! number of the state and each state word changed to many values, and memory of
+//! other counts.
 
 use crate::author::states::CLAUSES;
 use crate::author::Author;
@@ -9,7 +10,8 @@ use crate::second::model::{
     lookup, Device, Erase, Flags, Mode, Operation, Part, Program, Setup, ADDRESSES, BLOCKS,
 };
 use crate::second::steps::Step;
-use crate::state::{self, Words};
+use crate::state::{self, Field, Words};
+use std::collections::BTreeSet;
 
 const UNTOUCHED: u64 = 0xDEAD_BEEF_DEAD_BEEF;
 
@@ -276,14 +278,6 @@ pub fn check_malformed(pair: &mut Pair) -> Result<usize, Failure> {
     Ok(states.len())
 }
 
-/// The state words that say what the ones after them stand for.
-const KIND_WORDS: [usize; 4] = [
-    state::SETUP,
-    state::RUNNING,
-    state::SUSPENDED_PROGRAM,
-    state::SUSPENDED_ERASE,
-];
-
 fn malformed(part: Part) -> Vec<(String, Words)> {
     let size = |block: u32| part.block(block).expect("a block of the part").size;
     let start = |block: u32| part.block(block).expect("a block of the part").start;
@@ -387,93 +381,89 @@ fn malformed(part: Part) -> Vec<(String, Words)> {
     }
 
     // Words of no device, where the part is still known.
-    let mut word = |name: &str, place: usize, value: u64| {
+    let mut number = |name: &str, field: Field, value: u64| {
         let mut words = state::encode(&base);
-        words[place] = value;
-        states.push((format!("{name}, word {place} is {value:X}h"), words));
+        field.put(&mut words, value);
+        states.push((format!("{name}, {} is {value:X}h", place(field)), words));
     };
-    for value in [4, 5, 1 << 8, 1 << 16, 1 << 32, u64::MAX] {
+    for value in [4, 5, 8, 16, 128, 255] {
         for bank in 0..16 {
-            word("mode", state::MODES + bank, value);
+            number("mode", state::mode(bank), value);
         }
-        word("running", state::RUNNING, value);
+    }
+    let kind = |four| state::number(four, 0);
+    for value in [4, 5, 1 << 8, 1 << 16, 1 << 31, u64::from(u32::MAX)] {
+        number("running", kind(state::RUNNING), value);
     }
     // A load or buffer program of no words is one of a device, if not well formed.
-    for value in [5, 6, 7, 8, 1 << 8, 1 << 16, 1 << 32, u64::MAX] {
-        word("set-up", state::SETUP, value);
+    for value in [5, 6, 7, 8, 1 << 8, 1 << 16, 1 << 31, u64::from(u32::MAX)] {
+        number("set-up", kind(state::SETUP), value);
     }
-    word("running", state::RUNNING, 3);
-    for value in [2, 3, 1 << 8, 1 << 32, u64::MAX] {
-        word("suspended program", state::SUSPENDED_PROGRAM, value);
-        word("suspended erase", state::SUSPENDED_ERASE, value);
+    number("running", kind(state::RUNNING), 3);
+    for value in [2, 3, 1 << 8, 1 << 31, u64::from(u32::MAX)] {
+        number("suspended program", kind(state::SUSPENDED_PROGRAM), value);
+        number("suspended erase", kind(state::SUSPENDED_ERASE), value);
+    }
+    for value in [2, 3, 4, 128, 255] {
         for flag in 0..4 {
-            word("flag", state::FLAGS + flag, value);
-        }
-        word("supply", state::SUPPLY, value);
-    }
-    for value in [1, 4, 1 << 32, u64::MAX] {
-        for place in (state::SETUP..state::FLAGS).filter(|place| !KIND_WORDS.contains(place)) {
-            word("unused place", place, value);
+            number("flag", state::flag(flag), value);
         }
     }
-    for value in [1 << 16, 1 << 32, u64::MAX] {
-        word("configuration register", state::CONFIGURATION, value);
+    for value in [2, 3, 1 << 8, 1 << 15, 0xFFFF] {
+        number("supply", state::SUPPLY, value);
+    }
+    for value in [1, 4, 1 << 31, u64::from(u32::MAX)] {
+        for four in state::FOURS {
+            for place in 1..4 {
+                number("unused number", state::number(four, place), value);
+            }
+        }
     }
     for bit in 3..64 {
-        word("spare protection bit", state::PROTECTION + 4, 7 | 1 << bit);
+        let value = 7 | 1 << bit;
+        number("spare protection bit", state::protection(4), value);
     }
 
-    // Numbers too long for their place, but right if they were cut short.
-    let mut long = |name: &str, device: &Device, place: usize, bit: u32| {
-        let mut words = state::encode(device);
-        words[place] |= 1 << bit;
-        states.push((format!("{name}, word {place} with bit {bit}"), words));
+    // Numbers too great for what they say, but right if they were cut short; and
+    // bits beside a number that takes all of its own.
+    let mut long = |name: &str, device: &Device, field: Field, bits: &[u32]| {
+        for bit in bits {
+            let mut words = state::encode(device);
+            words[field.word] |= 1 << (field.low + bit);
+            states.push((format!("{name}, {} with bit {bit}", place(field)), words));
+        }
     };
-    let mut device = base.clone();
-    device.running = Some(Operation::Program(program));
-    device.suspended_erase = Some(erase);
-    for bit in [32, 63] {
-        long(
-            "running program's location",
-            &device,
-            state::RUNNING + 1,
-            bit,
-        );
-        long(
-            "suspended erase's block",
-            &device,
-            state::SUSPENDED_ERASE + 1,
-            bit,
-        );
-        long(
-            "suspended erase's count",
-            &device,
-            state::SUSPENDED_ERASE + 2,
-            bit,
-        );
+    // The flags lie below the configuration register, the supply above it.
+    long("configuration register", &base, state::flag(3), &[7]);
+    long("configuration register", &base, state::SUPPLY, &[1, 15]);
+    let mut both = base.clone();
+    both.running = Some(Operation::Program(program));
+    both.suspended_erase = Some(erase);
+    let mut suspended = base.clone();
+    suspended.suspended_program = Some(program);
+    let mut erasing = base.clone();
+    erasing.running = Some(Operation::Erase(erase));
+    for (name, device, four) in [
+        ("running program", &both, state::RUNNING),
+        ("suspended erase", &both, state::SUSPENDED_ERASE),
+        ("suspended program", &suspended, state::SUSPENDED_PROGRAM),
+        ("running erase", &erasing, state::RUNNING),
+    ] {
+        // The block or location lies above the kind, the count or data below
+        // what is not used.
+        long(name, device, state::number(four, 0), &[8, 31]);
+        long(name, device, state::number(four, 3), &[0, 31]);
     }
-    for bit in [16, 32, 63] {
-        long("running program's data", &device, state::RUNNING + 2, bit);
+    for (name, device, four) in [
+        ("running program's data", &both, state::RUNNING),
+        (
+            "suspended program's data",
+            &suspended,
+            state::SUSPENDED_PROGRAM,
+        ),
+    ] {
+        long(name, device, state::number(four, 2), &[16, 31]);
     }
-    long("unused place", &device, state::RUNNING + 3, 0);
-    let mut device = base.clone();
-    device.suspended_program = Some(program);
-    for bit in [32, 63] {
-        let place = state::SUSPENDED_PROGRAM + 1;
-        long("suspended program's location", &device, place, bit);
-    }
-    for bit in [16, 32, 63] {
-        let place = state::SUSPENDED_PROGRAM + 2;
-        long("suspended program's data", &device, place, bit);
-    }
-    long("unused place", &device, state::SUSPENDED_PROGRAM + 3, 0);
-    let mut device = base.clone();
-    device.running = Some(Operation::Erase(erase));
-    for bit in [32, 63] {
-        long("running erase's block", &device, state::RUNNING + 1, bit);
-        long("running erase's count", &device, state::RUNNING + 2, bit);
-    }
-    long("unused place", &device, state::RUNNING + 3, 0);
     states.extend(malformed_buffer_words(&base));
     states.extend(broken_clauses(part));
     states
@@ -493,34 +483,41 @@ fn broken_clauses(part: Part) -> Vec<(String, Words)> {
     states
 }
 
-/// Words of no device where there is a load or a buffer program: numbers too
-/// long for their place, but right if they were cut short, and unused places that
-/// are not 0.
+/// Words of no device where there is a load or a buffer program: kinds too great,
+/// but right if they were cut short, and unused numbers that are not 0.
 fn malformed_buffer_words(base: &Device) -> Vec<(String, Words)> {
     let mut states = Vec::new();
     for (shape, device) in buffer_shapes(base).iter().enumerate() {
         let original = state::encode(device);
-        for kind in KIND_WORDS.into_iter().filter(|&kind| original[kind] != 0) {
-            for place in kind..kind + 4 {
-                for bit in [32, 63] {
-                    let mut words = original;
-                    words[place] |= 1 << bit;
-                    let name = format!("buffer shape {shape}, word {place} with bit {bit}");
-                    states.push((name, words));
-                }
+        let mut bits = |field: Field, bits: [u32; 2]| {
+            for bit in bits {
+                let mut words = original;
+                words[field.word] |= 1 << (field.low + bit);
+                let name = format!("buffer shape {shape}, {} with bit {bit}", place(field));
+                states.push((name, words));
+            }
+        };
+        for four in state::FOURS {
+            let kind = state::number(four, 0);
+            if kind.of(&original) != 0 {
+                bits(kind, [3, 31]);
             }
         }
-        for place in (state::SETUP..state::RUNNING).skip(match device.setup {
+        let used = match device.setup {
             Some(Setup::LoadCount { .. }) => 2,
             Some(Setup::LoadFirst { .. }) => 3,
             _ => 4,
-        }) {
-            let mut words = original;
-            words[place] = 1;
-            states.push((format!("buffer shape {shape}, word {place} is 1"), words));
+        };
+        for place in used..4 {
+            bits(state::number(state::SETUP, place), [0, 31]);
         }
     }
     states
+}
+
+/// Where a number of the state stands, for messages.
+fn place(field: Field) -> String {
+    format!("word {} from bit {}", field.word, field.low)
 }
 
 /// Where the loads and buffer programs of `buffer_shapes` begin.
@@ -619,34 +616,30 @@ fn shapes(part: Part) -> Vec<Device> {
     shapes
 }
 
-/// Every word of the 51 changed alone to many values. Where the changed words
-/// are of a device, the second model says what is due; elsewhere every step is
-/// refused and nothing changes. Gives the number of changed states.
-pub fn check_each_word(pair: &mut Pair) -> Result<u64, Failure> {
+/// Every number of the state, and every word, changed alone to many values.
+/// Where the changed words are of a device, the second model says what is due;
+/// elsewhere every step is refused and nothing changes. Gives the number of
+/// changed states.
+pub fn check_each_number(pair: &mut Pair) -> Result<u64, Failure> {
     let part = pair.part();
     let length = part.array_length();
+    let whole = !pair.is_full();
     let mut changed = 0;
     for (shape, device) in shapes(part).into_iter().enumerate() {
-        let original = state::encode(&device);
         let rest = rest_of_load(&device);
-        for place in 0..STATE_WORDS {
-            for value in values(part, original[place]) {
-                let mut damaged = original;
-                damaged[place] = value;
-                let whole = !pair.is_full();
-                let mut tried = probe(pair, &damaged, length, whole);
-                if let (Ok(()), Some(rest)) = (&tried, &rest) {
-                    tried = probe_with(pair, rest, &damaged, length, whole);
-                }
-                tried.map_err(|difference| Failure {
-                    check: format!(
-                        "shape {shape} of part {}, word {place} changed to {value:X}h",
-                        part.number()
-                    ),
-                    difference,
-                })?;
-                changed += 1;
+        for damaged in changed_words(part, &state::encode(&device)) {
+            let mut tried = probe(pair, &damaged, length, whole);
+            if let (Ok(()), Some(rest)) = (&tried, &rest) {
+                tried = probe_with(pair, rest, &damaged, length, whole);
             }
+            tried.map_err(|difference| Failure {
+                check: format!(
+                    "shape {shape} of part {}, changed to {damaged:X?}",
+                    part.number()
+                ),
+                difference,
+            })?;
+            changed += 1;
         }
         // A full array is compared once for each shape.
         pair.finish().map_err(|difference| Failure {
@@ -657,7 +650,28 @@ pub fn check_each_word(pair: &mut Pair) -> Result<u64, Failure> {
     Ok(changed)
 }
 
-/// Many values for a state word, all but the one it has.
+/// State words with one number, or one word, changed.
+fn changed_words(part: Part, original: &Words) -> BTreeSet<Words> {
+    let mut fields = state::fields();
+    fields.extend((0..STATE_WORDS).map(|word| Field {
+        word,
+        low: 0,
+        bits: 64,
+    }));
+    let mut changed = BTreeSet::new();
+    for field in fields {
+        for value in values(part, field.of(original)) {
+            let mut words = *original;
+            field.put(&mut words, value);
+            changed.insert(words);
+        }
+    }
+    changed.remove(original);
+    changed
+}
+
+/// Many values for a number of the state; of one that it cannot hold it takes
+/// the lower bits.
 fn values(part: Part, old: u64) -> Vec<u64> {
     let words = part.array_length() as u64;
     let unit = u64::from(part.unit());
@@ -671,13 +685,10 @@ fn values(part: Part, old: u64) -> Vec<u64> {
     values.extend([size - 1, size, start, start + size - 1, start + size]);
     values.extend([98, 99, 100, 257, 258, 259, 0xFFFF, 0x1_0000]);
     values.extend([words - 1, words, words + 1, 1 << 24, u64::from(u32::MAX)]);
-    values.sort_unstable();
-    values.dedup();
-    values.retain(|&value| value != old);
     values
 }
 
-/// State words of other counts than 51: every step is refused.
+/// State words of other counts than 25: every step is refused.
 pub fn check_state_counts(pair: &mut Pair) -> Checked {
     let part = pair.part();
     for count in [0, 1, 17, STATE_WORDS - 1, STATE_WORDS + 1, 2 * STATE_WORDS] {

@@ -115,9 +115,9 @@ fn fixed_checks() -> Result<Counts, String> {
         let named =
             checks::check_malformed(&mut pair).map_err(|f| check_message(&f, Some(&pair)))?;
         let changed =
-            checks::check_each_word(&mut pair).map_err(|f| check_message(&f, Some(&pair)))?;
+            checks::check_each_number(&mut pair).map_err(|f| check_message(&f, Some(&pair)))?;
         println!(
-            "{}: {named} states that are not well formed and {changed} with one word changed",
+            "{}: {named} states that are not well formed and {changed} with one number or word changed",
             name(part)
         );
         counts = counts.plus(pair.counts);

@@ -8,7 +8,7 @@ use crate::second::steps::Step;
 use std::ptr;
 
 /// M58_STATE_WORDS.
-pub const STATE_WORDS: usize = 51;
+pub const STATE_WORDS: usize = 25;
 
 /// The prototypes of power-up and of a run, under the names that a library has
 /// for them: benchmark links a second one beside the first.

@@ -90,7 +90,7 @@ fn length(dice: &mut Dice, full: bool) -> usize {
     }
 }
 
-/// State words with one or two of them changed, or of another count.
+/// State words with one or two numbers or words changed, or of another count.
 fn damaged(dice: &mut Dice, mut words: Words) -> Vec<u64> {
     match dice.below(10) {
         0 => {
@@ -105,12 +105,18 @@ fn damaged(dice: &mut Dice, mut words: Words) -> Vec<u64> {
     words.to_vec()
 }
 
+/// A number of the state is changed, or, one time in four, a whole word.
 fn damage(dice: &mut Dice, words: &mut Words) {
-    let place = dice.index(STATE_WORDS);
-    words[place] = match dice.below(4) {
+    let mut field = dice.pick(&state::fields());
+    if dice.below(4) == 0 {
+        (field.low, field.bits) = (0, 64);
+    }
+    let old = field.of(words);
+    let new = match dice.below(4) {
         0 => dice.next() >> dice.below(64),
-        1 => words[place] ^ 1 << dice.below(64),
-        2 => words[place].wrapping_add(1),
+        1 => old ^ 1 << dice.below(u64::from(field.bits)),
+        2 => old.wrapping_add(1),
         _ => dice.below(5),
     };
+    field.put(words, new);
 }

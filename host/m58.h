@@ -86,7 +86,7 @@ uint32_t m58_lookup_bank(uint32_t part, uint32_t address);
  * except that any number of calls of m58_report may read the same state words
  * at once, and any number of calls of m58_run the same steps.
  */
-#define M58_STATE_WORDS 51 /* 38 before the write buffer: build anew with this header */
+#define M58_STATE_WORDS 25 /* other versions have other counts: build anew with this header */
 
 /*
  * THE WRITE BUFFER. A load is a row of writes: E8h to the block; the number of
