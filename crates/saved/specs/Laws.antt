@@ -7,9 +7,8 @@ use mathlib.Core.Path.{_≡_, refl, sym, ap, _∙_, subst}
 use native.Mathlib.Nat.{mod-eq-of-lt, div-eq-of-lt, mod-add-div', add-mul-mod-self-right, add-mul-div-right}
 use native.Mathlib.Omega.{arith}
 use lib.Dec.{eqb, ltb}
-use lib.ListN.{length, getD, take, drop, set, length-set, length-drop, replicate}
-use lib.Seq.{drop-cons, getD-set-same, getD-set-other, getD-drop, sets}
-use borrow.Author.Count.{below-none, below-more}
+use lib.ListN.{length, getD, take, drop, set, length-drop, replicate}
+use lib.Seq.{drop-cons, getD-drop, sets}
 use borrow.Author.Tests.{eq-eqb, ne-eqb, eqb-true, eqb-false}
 use Rattle.geometry.specs.declared.Part.{Part}
 use Rattle.geometry.specs.declared.Part.the-variants.{FullBottom, FullTop, BenchBottom, BenchTop}
@@ -31,7 +30,7 @@ use Rattle.semantics.specs.declared.State.{State}
 use Rattle.semantics.specs.State.{activity, flagsOf, emptyBuffer, powerUp}
 use Rattle.semantics.specs.Reading.{bitIf}
 use Rattle.semantics.specs.WellFormed.{runningAlone, programAlone, eraseAlone, setupFits, runningFits, programFits, suspendedEraseFits, allFit, runningApart, programApart, apart, activityFormed, wellFormed}
-use Rattle.saved.specs.Saved.{partNumber, modeNumber, modeNumbered, bankNumber, bankNumbered, flagNumbered, setupNumbers, setupOf, runningNumbers, runningOf, programNumbers, programOf, eraseNumbers, eraseOf, flagNumbers, joined, inHalves, ofHalves, bytes, fromByte, listed, first, modesWord, modesIn, bankWords, activityWords, activityOf, flagsIn, controlWord, restOf, packed, lane, packedAt, laneAt, bufferWords, savedOf, loadedOf, same, isSaved, noState, stateOf, putInto}
+use Rattle.saved.specs.Saved.{partNumber, modeNumber, modeNumbered, bankNumber, bankNumbered, flagNumbered, setupNumbers, setupOf, runningNumbers, runningOf, programNumbers, programOf, eraseNumbers, eraseOf, flagNumbers, joined, inHalves, ofHalves, bytes, fromByte, listed, first, modesWord, modesIn, bankWords, activityWords, activityOf, flagsIn, controlWord, restOf, packed, lane, packedAt, laneAt, bufferWords, bufferIn, savedOf, loadedOf, same, isSaved, noState, stateOf, putInto}
 
 -- ---- lists
 
@@ -50,49 +49,6 @@ listed-at d (suc n) f (suc i) h = listed-at d n (λ k. f (suc k)) i (omega arith
 listed-same : {A : Type 0} (n : ℕ) (f g : ℕ → A) → ((k : ℕ) → k < n → f k ≡ g k) → listed n f ≡ listed n g
 listed-same zero f g e = refl
 listed-same (suc n) f g e = λ j. e 0 (omega arith) j ∷ listed-same n (λ k. f (suc k)) (λ k. g (suc k)) (λ k q. e (suc k) (omega arith)) j
-
--- a list of n elements of which those below i are filled in, for the loop over the buffer
-pub record Filled {A : Type 0} (d : A) (f : ℕ → A) (n i : ℕ) (l : List A) : Type 0 where
-  pub within : i ≤ n
-  pub size : length l ≡ n
-  pub done : (k : ℕ) → k < i → getD l k d ≡ f k
-
-pub filled-none : {A : Type 0} (d : A) (f : ℕ → A) (n : ℕ) (l : List A) → length l ≡ n → Filled d f n 0 l
-filled-none d f n l h = record { within = omega arith; size = h; done = below-none _ }
-
-pub filled-more : {A : Type 0} {d : A} {f : ℕ → A} {n i : ℕ} {l : List A} {x : A} → Filled d f n i l → i < n → x ≡ f i → Filled d f n (i + 1) (set l i x)
-filled-more {d = d} {f = f} {i = i} {l = l} {x = x} h p q =
-    let m = h .size in
-    let r : i < length l = omega arith in
-    record {
-      within = omega arith;
-      size = rw length-set m;
-      done = below-more (λ (k : ℕ). getD (set l i x) k d ≡ f k) i (λ k z. getD-set-other l i k x d (λ e. omega arith) ∙ h .done k z) (getD-set-same l i x d r ∙ q);
-    }
-
-pub filled-all : {A : Type 0} {d : A} {f : ℕ → A} {n i : ℕ} {l : List A} → Filled d f n i l → n ≤ i → l ≡ listed n f
-filled-all {d = d} {f = f} {n = n} {l = l} h p = listed-is d n f l (h .size) (λ k q. h .done k (omega arith))
-
--- the buffer, for the loop that takes four words of it from each saved word
-abbrev pub Taken : List ℕ → ℕ → List ℕ → Type 0
-Taken ws j bs = Filled 0 (laneAt (drop 17 ws)) 32 (4 * j) bs
-
-pub taken-more : (ws bs : List ℕ) (j w : ℕ) → j < 8 → w ≡ getD ws (17 + j) 0 → Taken ws j bs
-    → Taken ws (j + 1) (set (set (set (set bs (4 * j) (lane w 0)) (4 * j + 1) (lane w 1)) (4 * j + 2) (lane w 2)) (4 * j + 3) (lane w 3))
-taken-more ws bs j w h q t =
-    one (4 * j + 3) (4 * (j + 1)) (omega arith) (omega arith) (at 3 (4 * j + 3) refl (omega arith))
-    (one (4 * j + 2) (4 * j + 3) (omega arith) (omega arith) (at 2 (4 * j + 2) refl (omega arith))
-    (one (4 * j + 1) (4 * j + 2) (omega arith) (omega arith) (at 1 (4 * j + 1) refl (omega arith))
-    (one (4 * j) (4 * j + 1) refl (omega arith) (at 0 (4 * j) (omega arith) (omega arith)) t)))
-  where
-    f : ℕ → ℕ
-    f = laneAt (drop 17 ws)
-
-    at : (k i : ℕ) → i ≡ 4 * j + k → k < 4 → lane w k ≡ f i
-    at k i e l = let d : i / 4 ≡ j = omega arith in let m : i % 4 ≡ k = omega arith in rw (d, m, getD-drop) (ap (λ (x : ℕ). lane x k) q)
-
-    one : (i n : ℕ) {l : List ℕ} {x : ℕ} → i + 1 ≡ n → i < 32 → x ≡ f i → Filled 0 f 32 i l → Filled 0 f 32 n (set l i x)
-    one i n {l} {x} e p v g = subst (λ (m : ℕ). Filled 0 f 32 m (set l i x)) e (filled-more g p v)
 
 pub first-all : (n : ℕ) (l : List ℕ) → length l ≡ n → first n l ≡ l
 first-all n l h = sym (listed-is 0 n (λ k. getD l k 0) l h (λ k q. refl))
@@ -121,13 +77,13 @@ sets-next d [] l i k h = absurd (omega arith)
 sets-next d (v ∷ vs) l i zero h = let e : i + 0 ≡ i = omega arith in rw e
 sets-next d (v ∷ vs) l i (suc k) h = let e : i + suc k ≡ suc i + k = omega arith in rw e (sets-next d vs (set l i v) (suc i) k (omega arith))
 
--- the same for a list of f at each number, where x is the next
-pub listed-next : {A : Type 0} (d : A) (n : ℕ) (f : ℕ → A) (l now : List A) (i k : ℕ) (x : A) → k < n → length (listed n f) ≡ n → now ≡ sets l i (take k (listed n f)) → x ≡ f k
-    → set now (i + k) x ≡ sets l i (take (k + 1) (listed n f))
-listed-next d n f l now i k x h m p q =
+-- the same for a list of f at each number: x is the next
+pub listed-next : {A : Type 0} (d : A) (n : ℕ) (f : ℕ → A) (l now : List A) (i k at next : ℕ) (x : A) → k < n → at ≡ i + k → next ≡ k + 1 → length (listed n f) ≡ n
+    → now ≡ sets l i (take k (listed n f)) → x ≡ f k → set now at x ≡ sets l i (take next (listed n f))
+listed-next d n f l now i k at next x h a b m p q =
     let e : getD (listed n f) k d ≡ x = listed-at d n f k h ∙ sym q in
-    let a : k + 1 ≡ suc k = omega arith in
-    rw (p, ← e, a) (sets-next d (listed n f) l i k (omega arith))
+    let c : next ≡ suc k = omega arith in
+    rw (a, c, p, ← e) (sets-next d (listed n f) l i k (omega arith))
 
 -- room for 25 words after the stores of a state's words, group by group
 pub stored : (s : State) (l₀ l₁ l₂ l₃ l₄ : List ℕ) (n : ℕ) → length l₀ ≡ 25 → n ≡ partNumber (s .part) → l₁ ≡ sets (set l₀ 0 n) 1 (bankWords (s .banks)) → l₂ ≡ sets l₁ 3 (activityWords (s .control .activity))
@@ -284,23 +240,27 @@ pub packed-lanes : (w : ℕ) → packed (lane w 0) (lane w 1) (lane w 2) (lane w
 packed-lanes w = omega arith
 
 buffer-back : (bs : List ℕ) → length bs ≡ 32 → ((k : ℕ) → getD bs k 0 < 65536) → listed 32 (laneAt (bufferWords bs)) ≡ bs
-buffer-back bs h f = sym (listed-is 0 32 (laneAt (bufferWords bs)) bs h each)
+buffer-back bs h f = (λ i. four 0 i ++ (four 1 i ++ (four 2 i ++ (four 3 i ++ (four 4 i ++ (four 5 i ++ (four 6 i ++ four 7 i))))))) ∙ first-all 32 bs h
   where
-    at : (j k : ℕ) → k < 4 → getD bs (4 * j + k) 0 ≡ lane (packedAt bs j) k
-    at j k q = pick k q (lanes (getD bs (4 * j) 0) (getD bs (4 * j + 1) 0) (getD bs (4 * j + 2) 0) (getD bs (4 * j + 3) 0) (f _) (f _) (f _))
-      where
-        pick : (k : ℕ) → k < 4 → (lane (packedAt bs j) 0 ≡ getD bs (4 * j) 0) × (lane (packedAt bs j) 1 ≡ getD bs (4 * j + 1) 0) × (lane (packedAt bs j) 2 ≡ getD bs (4 * j + 2) 0) × (lane (packedAt bs j) 3 ≡ getD bs (4 * j + 3) 0)
-            → getD bs (4 * j + k) 0 ≡ lane (packedAt bs j) k
-        pick zero q p = let e : 4 * j + 0 ≡ 4 * j = omega arith in rw e (sym (p .0))
-        pick (suc zero) q p = sym (p .1)
-        pick (suc (suc zero)) q p = sym (p .2)
-        pick (suc (suc (suc zero))) q p = sym (p .3)
-        pick (suc (suc (suc (suc k)))) q p = absurd (omega arith)
+    four : (j : ℕ) → listed 4 (lane (packedAt bs j)) ≡ getD bs (4 * j) 0 ∷ getD bs (4 * j + 1) 0 ∷ getD bs (4 * j + 2) 0 ∷ getD bs (4 * j + 3) 0 ∷ []
+    four j =
+        let p = lanes (getD bs (4 * j) 0) (getD bs (4 * j + 1) 0) (getD bs (4 * j + 2) 0) (getD bs (4 * j + 3) 0) (f _) (f _) (f _) in
+        λ i. p .0 i ∷ p .1 i ∷ p .2 i ∷ p .3 i ∷ []
 
-    each : (k : ℕ) → k < 32 → getD bs k 0 ≡ laneAt (bufferWords bs) k
-    each k q =
-        let e : k ≡ 4 * (k / 4) + k % 4 = omega arith in
-        ap (λ (i : ℕ). getD bs i 0) e ∙ at (k / 4) (k % 4) (omega arith) ∙ ap (λ (w : ℕ). lane w (k % 4)) (sym (listed-at 0 8 (packedAt bs) (k / 4) (omega arith)))
+-- for the loop that takes four words of the buffer from each saved word
+pub taken-more : (ws bs l : List ℕ) (j w : ℕ) → j < 8 → w ≡ getD ws (17 + j) 0 → bs ≡ sets l 0 (take (4 * j) (bufferIn ws))
+    → set (set (set (set bs (4 * j) (lane w 0)) (4 * j + 1) (lane w 1)) (4 * j + 2) (lane w 2)) (4 * j + 3) (lane w 3) ≡ sets l 0 (take (4 * (j + 1)) (bufferIn ws))
+taken-more ws bs l j w h q t =
+    one 3 (4 * j + 3) (4 * (j + 1)) refl (omega arith) (omega arith)
+    (one 2 (4 * j + 2) (4 * j + 3) refl (omega arith) (omega arith)
+    (one 1 (4 * j + 1) (4 * j + 2) refl (omega arith) (omega arith)
+    (one 0 (4 * j) (4 * j + 1) (omega arith) (omega arith) refl t)))
+  where
+    one : (k i next : ℕ) → i ≡ 4 * j + k → k < 4 → next ≡ i + 1 → {now : List ℕ} → now ≡ sets l 0 (take i (bufferIn ws)) → set now i (lane w k) ≡ sets l 0 (take next (bufferIn ws))
+    one k i next e p n {now} g =
+        let d : i / 4 ≡ j = omega arith in
+        let m : i % 4 ≡ k = omega arith in
+        listed-next 0 32 (laneAt (drop 17 ws)) l now 0 i i next (lane w k) (omega arith) (omega arith) n refl g (rw (d, m, getD-drop) (ap (λ (x : ℕ). lane x k) q))
 
 -- ---- what is under way
 

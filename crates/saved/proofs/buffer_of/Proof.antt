@@ -1,26 +1,35 @@
 -- `saved::buffer_of` meets its contract. The invariant: the words of the buffer that the first `j` words hold are taken. Assumes nothing.
-use Prim.Native.Nat.{_-_}
-use mathlib.Core.Path.{refl}
+use Prim.Native.Nat.{_≤_, _-_, _*_}
+use mathlib.Core.Path.{_≡_, refl, _∙_}
 use native.Mathlib.Omega.{arith}
+use lib.ListN.{length, take, length-set}
+use lib.Seq.{sets}
 use borrow.Author.Needs.{needs}
-use Rattle.saved.specs.Laws.{Taken, taken-more, filled-none, filled-all}
+use Rattle.saved.specs.Saved.{bufferIn}
+use Rattle.saved.specs.Laws.{taken-more}
 use Rattle.saved.proofs.buffer_of.Statement.{statement}
 use Rattle.saved.proofs.buffer_of.Tie as tie
 
 abbrev Inv-loop : tie.InvT-loop
-Inv-loop words buffer₀ j₀ buffer j = Taken words j buffer
+Inv-loop words buffer₀ j₀ buffer j = (j ≤ 8) × ((length buffer ≡ 32) × (buffer ≡ sets buffer₀ 0 (take (4 * j) (bufferIn words))))
 
 abbrev μ-loop : tie.MeasureT-loop
 μ-loop words buffer₀ j₀ buffer j = 8 - j
 
 loop-holds : tie.Need-loop-holds Inv-loop μ-loop
-loop-holds c = filled-none _ _ _ _ refl
+loop-holds c = (search needs, (refl, refl))
 
 loop-again : tie.Need-loop-again Inv-loop μ-loop
-loop-again c = taken-more (c .before .before .before .before .args .words .now) _ _ _ (search needs) (c .word-at .ensures) (c .before .before .loop .inv)
+loop-again c = (
+  search needs,
+  (
+    simp length-set (search needs),
+    taken-more (c .before .before .before .before .args .words .now) _ _ _ _ (search needs) (c .word-at .ensures) (c .before .before .loop .inv .1 .1),
+  ),
+)
 
 returns : tie.Need-returns Inv-loop μ-loop
-returns c = filled-all (c .before .loop .inv) (omega arith)
+returns c = let e : c .before .loop .j ≡ 8 = omega arith in c .before .loop .inv .1 .1 ∙ rw e
 
 pub buffer-of-spec : {M : Type 1} → statement M
 buffer-of-spec =

@@ -24,7 +24,7 @@ loop-again c = (
   search needs,
   (
     simp length-set (search needs),
-    listed-next 0 8 (packedAt (c .before .before .before .before .args .t2)) (c .before .before .before .before .args .words .now) _ 17 _ _ (search needs) refl (c .before .before .loop .inv .1 .1) (c .packed .ensures),
+    listed-next 0 8 (packedAt (c .before .before .before .before .args .t2)) (c .before .before .before .before .args .words .now) _ 17 _ _ _ _ (search needs) refl refl refl (c .before .before .loop .inv .1 .1) (c .packed .ensures),
   ),
 )
 

@@ -30,7 +30,7 @@ loop-again c =
       (
         simp length-set (search needs),
         (
-          listed-next (record { mode = Array }) 8 (λ k. bankNumbered (fromByte k w)) _ _ _ i _ (search needs) refl (v .0) (c .bank-numbered .ensures ∙ ap bankNumbered (v .1)),
+          listed-next (record { mode = Array }) 8 (λ k. bankNumbered (fromByte k w)) _ _ _ i _ _ _ (search needs) refl refl refl (v .0) (c .bank-numbered .ensures ∙ ap bankNumbered (v .1)),
           rw e (ap (λ (x : ℕ). x / 256) (v .1) ∙ sym (from-next i w)),
         ),
       ),
