@@ -19,13 +19,16 @@ ghost use Rattle.semantics.specs.Reading.{bitIf};
 ghost use Rattle.saved.specs.Saved.{partNumber, bankNumber, bankNumbered, flagNumbered, setupNumbers, plainSetup, loadOf, setupOf, runningNumbers, runningOf, programNumbers, programOf, eraseNumbers, eraseOf, joined, inHalves, modesWord, modesIn, bankWords, banksOf, activityWords, controlWord, restWords, packed, bufferWords, bufferIn, savedOf, loadedOf, isSaved, noState, foundOf, putInto, activityOf, flagsIn, protectionIn, bytesBelow, belowThree, setupInRange, runningInRange, programInRange, eraseInRange, activityInRange};
 ghost use Rattle.saved.specs.Laws.{Fitting};
 
+// The upper half of a word is from here on.
+const HALF: u64 = 4294967296;
+
 // Whether words are a saved state, and the state of the words.
 pub struct Found {
     pub saved: bool,
     pub state: State,
 }
 
-// ---- a field as words
+// ---- a field as numbers
 
 fn part_number(part: Part) -> u64
     ensures { λ r. ⌜ r ≡ partNumber part ⌝ }
@@ -333,36 +336,16 @@ fn activity_in_range(words: &[u64]) -> bool
 {
     let s = word_at(words, 3);
     let t = word_at(words, 4);
-    let a = setup_in_range(
-        s % 4294967296,
-        s / 4294967296,
-        t % 4294967296,
-        t / 4294967296,
-    );
+    let a = setup_in_range(s % HALF, s / HALF, t % HALF, t / HALF);
     let r = word_at(words, 5);
     let u = word_at(words, 6);
-    let b = running_in_range(
-        r % 4294967296,
-        r / 4294967296,
-        u % 4294967296,
-        u / 4294967296,
-    );
+    let b = running_in_range(r % HALF, r / HALF, u % HALF, u / HALF);
     let p = word_at(words, 7);
     let v = word_at(words, 8);
-    let c = program_in_range(
-        p % 4294967296,
-        p / 4294967296,
-        v % 4294967296,
-        v / 4294967296,
-    );
+    let c = program_in_range(p % HALF, p / HALF, v % HALF, v / HALF);
     let e = word_at(words, 9);
     let w = word_at(words, 10);
-    let d = erase_in_range(
-        e % 4294967296,
-        e / 4294967296,
-        w % 4294967296,
-        w / 4294967296,
-    );
+    let d = erase_in_range(e % HALF, e / HALF, w % HALF, w / HALF);
     a & (b & (c & d))
 }
 
@@ -386,7 +369,7 @@ pub fn is_saved(words: &[u64]) -> bool
         return false;
     }
     let w = words[11];
-    bytes_below(2, 3, w % 4294967296) & (w / 4294967296 / 65536 < 2)
+    bytes_below(2, 3, w % HALF) & (w / HALF / 65536 < 2)
 }
 
 // ---- the state of words
@@ -420,31 +403,16 @@ fn activity_of(words: &[u64]) -> Activity
 {
     let s = word_at(words, 3);
     let t = word_at(words, 4);
-    let setup = setup_of(
-        s % 4294967296,
-        s / 4294967296,
-        t % 4294967296,
-        t / 4294967296,
-    );
+    let setup = setup_of(s % HALF, s / HALF, t % HALF, t / HALF);
     let r = word_at(words, 5);
     let u = word_at(words, 6);
-    let running = running_of(
-        r % 4294967296,
-        r / 4294967296,
-        u % 4294967296,
-        u / 4294967296,
-    );
+    let running = running_of(r % HALF, r / HALF, u % HALF, u / HALF);
     let p = word_at(words, 7);
     let v = word_at(words, 8);
-    let program = program_of(
-        p % 4294967296,
-        p / 4294967296,
-        v % 4294967296,
-        v / 4294967296,
-    );
+    let program = program_of(p % HALF, p / HALF, v % HALF, v / HALF);
     let e = word_at(words, 9);
     let w = word_at(words, 10);
-    let erase = erase_of(e % 4294967296, e / 4294967296, w % 4294967296);
+    let erase = erase_of(e % HALF, e / HALF, w % HALF);
     Activity {
         setup,
         running,
@@ -511,9 +479,9 @@ pub fn load(words: &[u64]) -> State
         unprotected: protection_of(words),
         control: Control {
             activity: activity_of(words),
-            flags: flags_of(w % 4294967296),
-            configuration: (w / 4294967296 % 65536) as u16,
-            supply: flag_numbered(w / 4294967296 / 65536),
+            flags: flags_of(w % HALF),
+            configuration: (w / HALF % 65536) as u16,
+            supply: flag_numbered(w / HALF / 65536),
         },
         buffer: buffer_of(words),
     }
@@ -573,7 +541,7 @@ fn put_banks(words: &mut [u64], banks: [Bank; 16])
 fn halves(a: u32, b: u32) -> u64
     ensures { λ r. ⌜ r ≡ joined 4294967296 a b ⌝ }
 {
-    a as u64 + (b as u64) * 4294967296
+    a as u64 + (b as u64) * HALF
 }
 
 // Four numbers in two words.
@@ -606,7 +574,7 @@ fn control_word(f: Flags, configuration: u16, supply: bool) -> u64
     let three = flag_number(f.sr4) + (flag_number(f.sr3) + flag_number(f.sr1) * 256) * 256;
     let low = flag_number(f.sr5) + three * 256;
     let high = configuration as u64 + flag_number(supply) * 65536;
-    low + high * 4294967296
+    low + high * HALF
 }
 
 fn put_rest(words: &mut [u64], f: Flags, u: [u64; 5], configuration: u16, supply: bool)
