@@ -331,7 +331,7 @@ erase-back (erase.Erase b n) h = rw (mod-eq-of-lt (h .0), mod-eq-of-lt (h .1))
 abbrev pub Halves : List ℕ → Type 0
 Halves l = (getD l 0 0 < 4294967296) × (getD l 2 0 < 4294967296)
 
--- which they do for every value that is made of numbers
+-- which they do for every value that is made of numbers, whichever way its tests go
 either : {A : Type 0} (P : A → Type 0) (t : Bool) {a b : A} → P a → P b → P (cond t a b)
 either P true p q = p
 either P false p q = q
@@ -385,16 +385,17 @@ unfolding savedOf loadedOf
 loaded-saved s h =
     let k = s .control in
     let b = bitIf (k .supply) 1 in
-    let low = second-back 4294967296 (bytes (flagNumbers (k .flags))) (joined 65536 (k .configuration) b) (flags-small (k .flags)) in
+    let low = first-back 4294967296 (bytes (flagNumbers (k .flags))) (joined 65536 (k .configuration) b) (flags-small (k .flags)) in
+    let high = second-back 4294967296 (bytes (flagNumbers (k .flags))) (joined 65536 (k .configuration) b) (flags-small (k .flags)) in
     λ j. record {
       part = part-back (s .part) j;
       banks = banks-back (s .banks) (h .banks) j;
       unprotected = first-all 5 (s .unprotected) (h .unprotected) j;
       control = record {
         activity = activity-back s h j;
-        flags = (ap flagsIn (first-back 4294967296 (bytes (flagNumbers (k .flags))) (joined 65536 (k .configuration) b) (flags-small (k .flags))) ∙ flags-back (k .flags)) j;
-        configuration = (ap (λ (w : ℕ). w % 65536) low ∙ first-back 65536 (k .configuration) b (h .configuration)) j;
-        supply = (ap (λ (w : ℕ). flagNumbered (w / 65536)) low ∙ ap flagNumbered (second-back 65536 (k .configuration) b (h .configuration)) ∙ flag-back (k .supply)) j;
+        flags = (ap flagsIn low ∙ flags-back (k .flags)) j;
+        configuration = (ap (λ (w : ℕ). w % 65536) high ∙ first-back 65536 (k .configuration) b (h .configuration)) j;
+        supply = (ap (λ (w : ℕ). flagNumbered (w / 65536)) high ∙ ap flagNumbered (second-back 65536 (k .configuration) b (h .configuration)) ∙ flag-back (k .supply)) j;
       };
       buffer = buffer-back (s .buffer) (h .places) (h .buffer) j;
     }

@@ -2,7 +2,7 @@
 use Prim.Native.Nat.{_≤_, _-_, _*_}
 use mathlib.Core.Path.{_≡_, refl, _∙_}
 use native.Mathlib.Omega.{arith}
-use lib.ListN.{length, take, length-set}
+use lib.ListN.{take}
 use lib.Seq.{sets}
 use borrow.Author.Needs.{needs}
 use Rattle.saved.specs.Saved.{bufferIn}
@@ -11,25 +11,19 @@ use Rattle.saved.proofs.buffer_of.Statement.{statement}
 use Rattle.saved.proofs.buffer_of.Tie as tie
 
 abbrev Inv-loop : tie.InvT-loop
-Inv-loop words buffer₀ j₀ buffer j = (j ≤ 8) × ((length buffer ≡ 32) × (buffer ≡ sets buffer₀ 0 (take (4 * j) (bufferIn words))))
+Inv-loop words buffer₀ j₀ buffer j = (j ≤ 8) × (buffer ≡ sets buffer₀ 0 (take (4 * j) (bufferIn words)))
 
 abbrev μ-loop : tie.MeasureT-loop
 μ-loop words buffer₀ j₀ buffer j = 8 - j
 
 loop-holds : tie.Need-loop-holds Inv-loop μ-loop
-loop-holds c = (search needs, (refl, refl))
+loop-holds c = (search needs, refl)
 
 loop-again : tie.Need-loop-again Inv-loop μ-loop
-loop-again c = (
-  search needs,
-  (
-    simp length-set (search needs),
-    taken-more (c .before .before .before .before .args .words .now) _ _ _ _ (search needs) (c .word-at .ensures) (c .before .before .loop .inv .1 .1),
-  ),
-)
+loop-again c = (search needs, taken-more (c .before .before .before .before .args .words .now) _ _ _ _ (search needs) (c .word-at .ensures) (c .before .before .loop .inv .1))
 
 returns : tie.Need-returns Inv-loop μ-loop
-returns c = let e : c .before .loop .j ≡ 8 = omega arith in c .before .loop .inv .1 .1 ∙ rw e
+returns c = let e : c .before .loop .j ≡ 8 = omega arith in c .before .loop .inv .1 ∙ rw e
 
 pub buffer-of-spec : {M : Type 1} → statement M
 buffer-of-spec =
