@@ -233,8 +233,7 @@ pub fn run(device: Device, steps: &[u64], answers: &mut [u64], array: &mut [u16]
                 }
             }
             Task::Work(count) => {
-                let r = running_in(s.control);
-                let o = working::advance(part, r, &mut s.buffer, array, count);
+                let o = working::advance(part, running_in(s.control), &mut s.buffer, array, count);
                 let mut c = s.control;
                 c.activity = advanced(s.control, o);
                 s.control = c;

@@ -382,7 +382,7 @@ fn cycle(part: Part, v: View, p: Place, word: u16) -> View
 }
 
 // What a write of a word makes of what it sees of the state at a place.
-pub fn view_after(s: State, p: Place, word: u16) -> View
+fn view_after(s: State, p: Place, word: u16) -> View
     ensures { λ r. ⌜ r ≡ cycleAt s p word ⌝ }
 {
     let part = s.part;
