@@ -108,8 +108,10 @@ fn workloads() -> Vec<Workload> {
         list("reads all over the part", far, &[ALL, 1]),
         list("status reads", status_reads(), &[ALL, 1]),
         list("mode commands", mode_commands(), &[ALL, 1]),
+        list("protection commands", protections(), &[ALL, 1]),
         list("word programs", programs(), &[ALL, 3, 1]),
         list("programs with a poll", polled_programs(), &[ALL, 4, 1]),
+        list("suspended programs", suspended_programs(), &[ALL, 1]),
         list("burn of 4 main blocks", burn(), &[ALL]),
         Workload {
             loads: true,
@@ -169,6 +171,12 @@ fn mode_commands() -> Vec<Step> {
     (0..LONG).map(|_| command()).collect()
 }
 
+/// A block protected and unprotected, again and again.
+fn protections() -> Vec<Step> {
+    let pair = [0x60, 0x01, 0x60, 0xD0].map(|word| Step::Write(start(BLOCK), word));
+    (0..LONG / 4).flat_map(|_| pair).collect()
+}
+
 /// Set-up, data and one unit of work for each word.
 fn programs() -> Vec<Step> {
     let locations = start(BLOCK)..start(BLOCK) + 50_000;
@@ -180,6 +188,18 @@ fn polled_programs() -> Vec<Step> {
     let locations = start(BLOCK)..start(BLOCK) + 50_000;
     locations
         .flat_map(|at| program(at, 0xA5A5).into_iter().chain([Step::Read(at)]))
+        .collect()
+}
+
+/// Programs that are suspended and resumed, with a read of the status between.
+fn suspended_programs() -> Vec<Step> {
+    let locations = start(BLOCK)..start(BLOCK) + 30_000;
+    locations
+        .flat_map(|at| {
+            let [set_up, data, work] = program(at, 0x5A5A);
+            let write = |command| Step::Write(at, command);
+            [set_up, data, write(0xB0), Step::Read(at), write(0xD0), work]
+        })
         .collect()
 }
 

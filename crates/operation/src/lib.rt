@@ -8,7 +8,7 @@ use semantics::SuspendedProgram;
 ghost use mathlib.Core.Path.{_≡_};
 ghost use Rattle.geometry.specs.Blocks.{geometryOf};
 ghost use Rattle.semantics.specs.State.{withSetup, withRunning, runs, programSuspended, eraseSuspended};
-ghost use Rattle.semantics.specs.WellFormed.{pending, isEraseSetup, isErase, erasing, runningAlone, programAlone, eraseAlone, eraseFits, wordsFit, bufferFits, setupFits, runningFits, programFits, suspendedEraseFits, allFit, runningApart, programApart, apart, activityFormed, setupPlaces, runningPlaces, programPlaces, placesUsed};
+ghost use Rattle.semantics.specs.WellFormed.{pending, isEraseSetup, isErase, erasing, runningAlone, programAlone, eraseAlone, eraseFits, staysIn, wordsFit, bufferFits, setupFits, runningFits, programFits, suspendedEraseFits, allFit, runningApart, programApart, apart, activityFormed, setupPlaces, runningPlaces, programPlaces, placesUsed};
 ghost use Rattle.semantics.specs.Reading.{runsIn};
 ghost use Rattle.semantics.specs.Writing.{suspended, resumedErase, resumed, resume, accepts};
 ghost use Rattle.operation.specs.Rest.{isLoad, atRest};
@@ -265,15 +265,22 @@ fn erase_fits(part: Part, block: u32, done: u32) -> bool
     (block < count) & (done < size)
 }
 
-// Words from a location on: they lie in one block of the part, and the buffer holds so many. Compared in 64 bits: the sum may not fit.
+// So many words from a location on end within a block. Compared in 64 bits: the sum may not fit.
+pub fn stays_in(part: Part, block: u32, location: u32, words: u32) -> bool
+    ensures { λ r. ⌜ r ≡ staysIn (geometryOf part) block location words ⌝ }
+{
+    let first = geometry::block_start(part, block) as u64;
+    let end = first + geometry::block_size(part, block) as u64;
+    location as u64 + words as u64 <= end
+}
+
+// Words from a location on: they lie in one block of the part, and the buffer holds so many.
 fn words_fit(part: Part, start: u32, words: u32) -> bool
     ensures { λ r. ⌜ r ≡ wordsFit (geometryOf part) start words ⌝ }
 {
     let block = geometry::block_of(part, start);
-    let first = geometry::block_start(part, block) as u64;
-    let end = first + geometry::block_size(part, block) as u64;
     let length = geometry::length_of(part);
-    (start < length) & ((start as u64 + words as u64 <= end) & (words <= 32))
+    (start < length) & (stays_in(part, block, start, words) & (words <= 32))
 }
 
 // The same, and the words are more than are done.

@@ -16,7 +16,7 @@ ghost use mathlib.Core.Path.{_≡_};
 ghost use Prim.Native.Nat.{_-_};
 ghost use Rattle.geometry.specs.Blocks.{geometryOf};
 ghost use Rattle.semantics.specs.View.{withActivity, withMode, raise};
-ghost use Rattle.semantics.specs.Writing.{commandOf, pend, clearStatus, firstCycle, programRuns, eraseCycle, lockCommandOf, lockCycle, settle, loads, countRight, firstRight, laterRight, confirmRight, confirmCycle, wordsCycle, cycle, wordsLoaded, loaded, cycleAt, written};
+ghost use Rattle.semantics.specs.Writing.{commandOf, pend, clearStatus, firstCycle, programRuns, eraseCycle, lockCommandOf, lockCycle, settle, wrong, loads, countRight, firstRight, laterRight, confirmRight, confirmCycle, wordsCycle, cycle, wordsLoaded, loaded, cycleAt, written};
 ghost use Rattle.writing.specs.Changes.{setUpChange, commandChange, changeOf, toldCycle, toldAt};
 
 // What a write changes of a state, where that is little: the mode of the addressed bank and the set-up; or what is under way, which of a write that is ignored is as
@@ -240,14 +240,21 @@ fn one_less(n: u32) -> u32
     if n == 0 { 0 } else { n - 1 }
 }
 
-// The load goes on as x where the cycle is right, and else ends with SR5 and SR4.
+// A wrong cycle: the load ends with SR5 and SR4.
+fn wrong(v: View) -> View
+    ensures { λ r. ⌜ r ≡ wrong v ⌝ }
+{
+    with_raised(settle(v), state::flags_of(true, true, false, false))
+}
+
+// The load goes on as x where the cycle is right.
 fn loads(right: bool, v: View, x: Setup) -> View
     ensures { λ r. ⌜ r ≡ loads right v x ⌝ }
 {
     if right {
         return pend(v, x);
     }
-    with_raised(settle(v), state::flags_of(true, true, false, false))
+    wrong(v)
 }
 
 // The count is the whole word.
@@ -257,13 +264,11 @@ fn count_right(block: u32, p: Place, word: u16) -> bool
     (p.block == block) & (word <= 31)
 }
 
-// So many words from the place on stay in the block. Compared in 64 bits: the sum may not fit.
+// So many words from the place on stay in the block.
 fn first_right(part: Part, block: u32, words: u32, p: Place) -> bool
     ensures { λ r. ⌜ r ≡ firstRight (geometryOf part) block words p ⌝ }
 {
-    let start = geometry::block_start(part, block) as u64;
-    let end = start + geometry::block_size(part, block) as u64;
-    (p.block == block) & (p.location as u64 + words as u64 <= end)
+    (p.block == block) & operation::stays_in(part, block, p.location, words)
 }
 
 // The place is one of the words.
@@ -293,7 +298,7 @@ fn confirm_cycle(part: Part, v: View, start: u32, words: u32, p: Place, word: u1
         };
         return program_runs(settle(v), p, running);
     }
-    with_raised(settle(v), state::flags_of(true, true, false, false))
+    wrong(v)
 }
 
 // A cycle after the first data cycle: the confirming one where no data cycle is due.
