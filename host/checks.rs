@@ -688,10 +688,10 @@ fn values(part: Part, old: u64) -> Vec<u64> {
     values
 }
 
-/// State words of other counts than 25: every step is refused.
+/// State words of other counts than 25, those of older headers among them: every step is refused.
 pub fn check_state_counts(pair: &mut Pair) -> Checked {
     let part = pair.part();
-    for count in [0, 1, 17, STATE_WORDS - 1, STATE_WORDS + 1, 2 * STATE_WORDS] {
+    for count in [0, 1, 17, STATE_WORDS - 1, STATE_WORDS + 1, 38, 2 * STATE_WORDS, 51] {
         let mut words = state::encode(&Device::power_up(part.number())).to_vec();
         words.resize(count, 0);
         probe(pair, &words, part.array_length(), true).map_err(|difference| Failure {

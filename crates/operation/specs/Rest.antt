@@ -27,6 +27,7 @@ isLoad (setup.BufferCount b) = true
 isLoad (setup.BufferFirst b n) = true
 isLoad (setup.BufferWords l n k) = true
 
+-- a set-up of two cycles may be pending
 abbrev pub atRest : Activity → Bool
 atRest a = not (isLoad (a .setup)) && (not (runs (a .running)) && (not (programSuspended (a .program)) && not (eraseSuspended (a .erase))))
 

@@ -414,7 +414,8 @@ fn is_load(s: Setup) -> bool
     }
 }
 
-// Nothing runs, is suspended or is loaded: so it is well formed and uses no place of the buffer. Nearly every call of one step finds it so, and is told by four tests.
+// Nothing runs, is suspended or is loaded; a set-up of two cycles may be pending. So it is well formed and uses no place of the buffer, and these four tests are all
+// that it needs.
 pub fn at_rest(a: Activity) -> bool
     ensures { λ r. ⌜ r ≡ atRest a ⌝ }
 {

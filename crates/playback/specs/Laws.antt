@@ -26,7 +26,7 @@ use Rattle.semantics.specs.Invariant.{length-kept}
 use Rattle.semantics.specs.Held.{Held, Does, held-next, does-refused, does-read, does-write, does-work, does-supply, does-reset}
 use Rattle.semantics.specs.State.{geometry, setActivity, withControl, withBuffer, withRunning, withSupply, powerUp}
 use Rattle.semantics.specs.Reading.{readWord}
-use Rattle.semantics.specs.Writing.{cycleAt, writtenAt}
+use Rattle.semantics.specs.Writing.{writtenAt}
 use Rattle.semantics.specs.Working.{arrayAfter, bufferAfter, workedOn}
 use Rattle.working.specs.declared.Progress.{Progress}
 use Rattle.working.specs.Progress.{progressOf}
@@ -203,10 +203,9 @@ module _ (c : ℕ) (s : State) (xs : List ℕ) (r : Held c s xs) (code : ℕ) (t
   plays-read b w m i j k l = (Read b, (m .0, does-read c s xs r (Read b) _ _ refl refl t a ys b w (m .1) refl i j k l))
 
   pub plays-write : (p : Place) (w : ℕ) → Means c (geometry s) code (task.Write p w) → t ≡ writtenAt s p w → a ≡ Done → ys ≡ xs → Plays s xs code t a ys
-  unfolding writtenAt
   plays-write p w m i j k =
       let x : Step = Write (m .0) w in
-      (x, (m .1 .1 .0, does-write c s xs r x _ _ refl refl t a ys (m .0) w p (cycleAt s p w) _ _ _ (m .1 .1 .1) refl (m .1 .0) refl refl refl refl i j k))
+      (x, (m .1 .1 .0, does-write c s xs r x _ _ refl refl t a ys (m .0) w p (m .1 .1 .1) refl (m .1 .0) i j k))
 
   pub plays-work : (n : ℕ) (o : Progress) (bs : List ℕ) → Means c (geometry s) code (task.Work n) → o ≡ progressOf (geometry s) (s .control .activity .running) n
       → bs ≡ bufferAfter (s .control .activity .running) (o .running) (s .buffer)

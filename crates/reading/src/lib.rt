@@ -23,7 +23,7 @@ fn bit_if(on: bool, n: u16) -> u16
     if on { n } else { 0 }
 }
 
-// What runs is in this bank. Where nothing runs, no bank is looked up.
+// What runs is in this bank: `operation::runs_in`, which is called only where something runs, since it is not inlined.
 fn busy_in(part: Part, r: Running, bank: u32) -> bool
     ensures { λ x. ⌜ x ≡ runsIn (geometryOf part) r bank ⌝ }
 {

@@ -163,19 +163,19 @@ fn load_of(kind: u64, a: u64, b: u64, c: u64) -> Setup
 {
     if kind == 4 {
         return Setup::BufferCount {
-            block: (a % 4294967296) as u32,
+            block: (a % HALF) as u32,
         };
     }
     if kind == 5 {
         return Setup::BufferFirst {
-            block: (a % 4294967296) as u32,
-            words: (b % 4294967296) as u32,
+            block: (a % HALF) as u32,
+            words: (b % HALF) as u32,
         };
     }
     Setup::BufferWords {
-        start: (a % 4294967296) as u32,
-        words: (b % 4294967296) as u32,
-        due: (c % 4294967296) as u32,
+        start: (a % HALF) as u32,
+        words: (b % HALF) as u32,
+        due: (c % HALF) as u32,
     }
 }
 
@@ -196,20 +196,20 @@ fn running_of(kind: u64, a: u64, b: u64, c: u64) -> Running
     }
     if kind == 1 {
         return Running::Program {
-            location: (a % 4294967296) as u32,
+            location: (a % HALF) as u32,
             word: (b % 65536) as u16,
         };
     }
     if kind == 2 {
         return Running::Erase {
-            block: (a % 4294967296) as u32,
-            done: (b % 4294967296) as u32,
+            block: (a % HALF) as u32,
+            done: (b % HALF) as u32,
         };
     }
     Running::Buffer {
-        start: (a % 4294967296) as u32,
-        words: (b % 4294967296) as u32,
-        done: (c % 4294967296) as u32,
+        start: (a % HALF) as u32,
+        words: (b % HALF) as u32,
+        done: (c % HALF) as u32,
     }
 }
 
@@ -221,14 +221,14 @@ fn program_of(kind: u64, a: u64, b: u64, c: u64) -> SuspendedProgram
     }
     if kind == 1 {
         return SuspendedProgram::Program {
-            location: (a % 4294967296) as u32,
+            location: (a % HALF) as u32,
             word: (b % 65536) as u16,
         };
     }
     SuspendedProgram::Buffer {
-        start: (a % 4294967296) as u32,
-        words: (b % 4294967296) as u32,
-        done: (c % 4294967296) as u32,
+        start: (a % HALF) as u32,
+        words: (b % HALF) as u32,
+        done: (c % HALF) as u32,
     }
 }
 
@@ -239,8 +239,8 @@ fn erase_of(kind: u64, a: u64, b: u64) -> SuspendedErase
         return SuspendedErase::Nothing;
     }
     SuspendedErase::Erase {
-        block: (a % 4294967296) as u32,
-        done: (b % 4294967296) as u32,
+        block: (a % HALF) as u32,
+        done: (b % HALF) as u32,
     }
 }
 
@@ -253,7 +253,7 @@ fn word_at(words: &[u64], i: usize) -> u64
     if i < words.len() { words[i] } else { 0 }
 }
 
-// The lowest n bytes, and what is above them, are each below m. No branches, so that it is a test of one mask.
+// The lowest n bytes, and what is above them, are each below m. No return from the loop, so that the compiler makes a test of one mask of it.
 fn bytes_below(m: u64, n: usize, w: u64) -> bool
     ensures { λ r. ⌜ r ≡ bytesBelow m n w ⌝ }
 {
@@ -268,7 +268,7 @@ fn bytes_below(m: u64, n: usize, w: u64) -> bool
     below & (rest < m)
 }
 
-// Three numbers are each below its bound.
+// Three numbers are each below its bound. HALF is no bound for half of a word: the definition, whose words are any numbers, has it.
 fn below_three(a: u64, b: u64, c: u64, l: u64, m: u64, n: u64) -> bool
     ensures { λ r. ⌜ r ≡ belowThree a b c l m n ⌝ }
 {
@@ -283,12 +283,12 @@ fn setup_in_range(kind: u64, a: u64, b: u64, c: u64) -> bool
         return below_three(a, b, c, 1, 1, 1);
     }
     if kind == 4 {
-        return below_three(a, b, c, 4294967296, 1, 1);
+        return below_three(a, b, c, HALF, 1, 1);
     }
     if kind == 5 {
-        return below_three(a, b, c, 4294967296, 4294967296, 1);
+        return below_three(a, b, c, HALF, HALF, 1);
     }
-    (kind == 6) & below_three(a, b, c, 4294967296, 4294967296, 4294967296)
+    (kind == 6) & below_three(a, b, c, HALF, HALF, HALF)
 }
 
 // Those of what runs.
@@ -299,12 +299,12 @@ fn running_in_range(kind: u64, a: u64, b: u64, c: u64) -> bool
         return below_three(a, b, c, 1, 1, 1);
     }
     if kind == 1 {
-        return below_three(a, b, c, 4294967296, 65536, 1);
+        return below_three(a, b, c, HALF, 65536, 1);
     }
     if kind == 2 {
-        return below_three(a, b, c, 4294967296, 4294967296, 1);
+        return below_three(a, b, c, HALF, HALF, 1);
     }
-    (kind == 3) & below_three(a, b, c, 4294967296, 4294967296, 4294967296)
+    (kind == 3) & below_three(a, b, c, HALF, HALF, HALF)
 }
 
 // Those of a suspended program.
@@ -315,9 +315,9 @@ fn program_in_range(kind: u64, a: u64, b: u64, c: u64) -> bool
         return below_three(a, b, c, 1, 1, 1);
     }
     if kind == 1 {
-        return below_three(a, b, c, 4294967296, 65536, 1);
+        return below_three(a, b, c, HALF, 65536, 1);
     }
-    (kind == 2) & below_three(a, b, c, 4294967296, 4294967296, 4294967296)
+    (kind == 2) & below_three(a, b, c, HALF, HALF, HALF)
 }
 
 // Those of a suspended erase.
@@ -327,7 +327,7 @@ fn erase_in_range(kind: u64, a: u64, b: u64, c: u64) -> bool
     if kind == 0 {
         return below_three(a, b, c, 1, 1, 1);
     }
-    (kind == 1) & below_three(a, b, c, 4294967296, 4294967296, 1)
+    (kind == 1) & below_three(a, b, c, HALF, HALF, 1)
 }
 
 // All four.
@@ -461,7 +461,7 @@ fn buffer_of(words: &[u64]) -> [u16; 32]
         let w = word_at(words, 17 + j);
         buffer[4 * j] = (w % 65536) as u16;
         buffer[4 * j + 1] = (w / 65536 % 65536) as u16;
-        buffer[4 * j + 2] = (w / 4294967296 % 65536) as u16;
+        buffer[4 * j + 2] = (w / HALF % 65536) as u16;
         buffer[4 * j + 3] = (w / 281474976710656) as u16;
         j += 1;
     }
@@ -593,7 +593,7 @@ fn put_rest(words: &mut [u64], f: Flags, u: [u64; 5], configuration: u16, supply
 fn packed(a: u16, b: u16, c: u16, d: u16) -> u64
     ensures { λ r. ⌜ r ≡ packed a b c d ⌝ }
 {
-    a as u64 + (b as u64) * 65536 + (c as u64) * 4294967296 + (d as u64) * 281474976710656
+    a as u64 + (b as u64) * 65536 + (c as u64) * HALF + (d as u64) * 281474976710656
 }
 
 fn put_buffer(words: &mut [u64], buffer: [u16; 32])

@@ -6,24 +6,21 @@ use mathlib.Core.List.{List}
 use mathlib.Core.Path.{_≡_, refl, sym, ap, _∙_}
 use native.Mathlib.Omega.{arith}
 use lib.Dec.{eqb}
-use lib.ListN.{length, set}
+use lib.ListN.{length}
 use borrow.Author.Tests.{eqb-true, eq-eqb, ne-eqb}
 use Rattle.geometry.specs.declared.Part.{Part}
 use Rattle.geometry.specs.Blocks.{geometryOf, words}
-use Rattle.protection.specs.Words.{withUnprotected}
 use Rattle.semantics.specs.declared.State.{State}
 use Rattle.semantics.specs.declared.Step.{Step}
 use Rattle.semantics.specs.declared.Step.the-variants.{Read, Write, Work, Supply, Reset}
 use Rattle.semantics.specs.declared.Answer.{Answer}
 use Rattle.semantics.specs.declared.Answer.the-variants.{Word, Units, Done, Refused}
-use Rattle.semantics.specs.declared.Bank.{Bank}
 use Rattle.semantics.specs.declared.Place.{Place}
-use Rattle.semantics.specs.declared.View.{View}
 use Rattle.semantics.specs.declared.Worked.{Worked}
 use Rattle.semantics.specs.State.{geometry, withControl, withBuffer, withSupply, powerUp}
-use Rattle.semantics.specs.View.{placeOf, viewAt}
+use Rattle.semantics.specs.View.{placeOf}
 use Rattle.semantics.specs.Reading.{readWord}
-use Rattle.semantics.specs.Writing.{cycleAt, loadedAt, writtenAt, written}
+use Rattle.semantics.specs.Writing.{writtenAt, written}
 use Rattle.semantics.specs.Working.{unitsDone, arrayAfter, bufferAfter, workedOn, worked, workedArray}
 use Rattle.semantics.specs.WellFormed.{wellFormed}
 use Rattle.semantics.specs.Steps.{stateRefusal, stepRefusal, firstRefusal, refusalOf, next, accepted, acceptedArray, stepOf, arrayOf}
@@ -90,12 +87,9 @@ module _ (c : ℕ) (s : State) (xs : List ℕ) (r : Held c s xs) (x : Step) (d e
   unfolding accepted acceptedArray
   does-read b w h q i j k l = done (Read b) h q (rw (j, k, i)) l
 
-  -- the view that is put back field by field: k is the bank with its mode, u the protection words with its protection, c the buffer
-  pub does-write : (b w : ℕ) (p : Place) (v : View) (k : Bank) (u c : List ℕ) → e ≡ 0 → x ≡ Write b w → p ≡ placeOf (geometry s) b → v ≡ cycleAt s p w
-      → k ≡ record { mode = v .mode } → u ≡ withUnprotected (s .unprotected) (p .block) (v .unprotected) → c ≡ loadedAt s p w (v .control .activity .running)
-      → t ≡ record { part = s .part; banks = set (s .banks) (p .bank) k; unprotected = u; control = v .control; buffer = c } → a ≡ Done → ys ≡ xs → Does s xs x t a ys
-  unfolding accepted acceptedArray written writtenAt
-  does-write b w p v k u c h q i j m n y l o r = done (Write b w) h q (rw (l, y, n, m, j, i, o)) r
+  pub does-write : (b w : ℕ) (p : Place) → e ≡ 0 → x ≡ Write b w → p ≡ placeOf (geometry s) b → t ≡ writtenAt s p w → a ≡ Done → ys ≡ xs → Does s xs x t a ys
+  unfolding accepted acceptedArray written
+  does-write b w p h q i j k l = done (Write b w) h q (rw (j, k, i)) l
 
   pub does-work : (n : ℕ) (o : Worked) (c : List ℕ) → e ≡ 0 → x ≡ Work n → o ≡ workedOn (geometry s) (s .control) n → c ≡ bufferAfter (s .control .activity .running) (o .control .activity .running) (s .buffer)
       → t ≡ withBuffer (withControl s (o .control)) c → a ≡ Units (o .units)

@@ -10,7 +10,7 @@ use native.Mathlib.Omega.{arith}
 use lib.Dec.{ltb, leb, eqb}
 use lib.Bits.{bitAnd, and-mask}
 use lib.ListN.{length, getD, set, length-set, List·getD-eq-default}
-use lib.Seq.{getD-set-same, getD-set-other, ext-getD}
+use lib.Seq.{getD-set-same, getD-set-other}
 use borrow.Author.Tests.{eqb-true, eqb-false, lt-ltb, le-ltb, ne-eqb, le-leb, lt-leb}
 use Rattle.geometry.specs.declared.Geometry.{Geometry}
 use Rattle.geometry.specs.Blocks.{startOf}
@@ -197,13 +197,7 @@ module _ (g : Geometry) (bs xs : List ℕ) where
   unfolding changed arrayAfter wordAfter
   buffer-done l n done m = let e : l + (done + m) ≡ l + done + m = omega arith in rw e
 
-  -- no unit is done
-  pub none-done : (r : Running) → xs ≡ arrayAfter g bs r 0 xs
+  -- no unit of a program is done
+  pub program-undone : (l w : ℕ) → xs ≡ arrayAfter g bs (running.Program l w) 0 xs
   unfolding wordAfter
-  none-done running.Idle = idle-done 0
-  none-done (running.Program l w) = array-is g bs (running.Program l w) 0 xs xs refl (λ L k. rw (and-false (eqb L l)))
-  none-done (running.Erase b done) =
-      changed-none xs (λ L. 0xFFFF) (startOf g b + done) ∙ erase-done b done 0 (startOf g b + done) (startOf g b + done) refl (omega arith)
-  none-done (running.Buffer l n done) =
-      let e : done + 0 ≡ done = omega arith in
-      changed-none xs (bufferWord xs l bs) (l + done) ∙ (rw e at (buffer-done l n done 0))
+  program-undone l w = array-is g bs (running.Program l w) 0 xs xs refl (λ L k. rw (and-false (eqb L l)))

@@ -7,7 +7,7 @@ ghost use mathlib.Core.Path.{_≡_};
 ghost use mathlib.Core.List.{List};
 ghost use Prim.Native.Nat.{ℕ, _+_, _-_, min};
 ghost use Rattle.geometry.specs.declared.Geometry.{Geometry};
-ghost use Rattle.geometry.specs.Blocks.{geometryOf, startOf};
+ghost use Rattle.geometry.specs.Blocks.{geometryOf};
 ghost use Rattle.semantics.specs.Working.{unitsDone, arrayAfter, bufferAfter, workedOn};
 ghost use Rattle.working.specs.Array.{anded, filled, andedRun};
 ghost use Rattle.working.specs.Progress.{progressOf};

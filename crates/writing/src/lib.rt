@@ -366,7 +366,7 @@ pub fn change_of(a: Activity, p: Place, word: u16) -> Change
     command_change(a, p, command_of(word % 256))
 }
 
-// The same of a state.
+// What such a cycle makes of what it sees of a state. Of a write that is no such cycle (`Change`) it says nothing: with no set-up pending it is that of 50h.
 pub fn told_view(s: State, p: Place, word: u16) -> View
     ensures { λ r. ⌜ r ≡ toldAt s p word ⌝ }
 {
