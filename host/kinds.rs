@@ -1,5 +1,6 @@
-//! What the lists reach of the write buffer: each kind of step and of state is
-//! counted, by the second model's device before and after the step.
+//! What the lists reach of the write buffer and of the status word: each kind of
+//! step and of state, and each status word that is read, is counted, by the second
+//! model's device before and after the step.
 
 use crate::author::states::CLAUSES;
 use crate::second::model::{Answer, Device, Erase, Flags, Mode, Operation, Program, Setup};
@@ -86,12 +87,23 @@ kinds! {
     GivenNested, "state with a buffer program beside a suspended erase";
 }
 
-/// How often each kind was reached, and each clause of a well-formed state
-/// broken.
+/// How often each kind was reached, each clause of a well-formed state broken,
+/// and each status word read.
 #[derive(Clone, Copy)]
 pub struct Reached {
     kinds: [u64; NAMES.len()],
     clauses: [u64; CLAUSES.len()],
+    status: [u64; 256],
+}
+
+/// The status words that a well-formed state can show: SR0 only while something
+/// runs (SR7 = 0), SR2 only while nothing does.
+fn possible(word: usize) -> bool {
+    if word & 0x80 != 0 {
+        word & 0x01 == 0
+    } else {
+        word & 0x04 == 0
+    }
 }
 
 impl Default for Reached {
@@ -99,6 +111,7 @@ impl Default for Reached {
         Reached {
             kinds: [0; NAMES.len()],
             clauses: [0; CLAUSES.len()],
+            status: [0; 256],
         }
     }
 }
@@ -123,28 +136,59 @@ impl Reached {
         for (all, more) in self.clauses.iter_mut().zip(other.clauses) {
             *all += more;
         }
+        for (all, more) in self.status.iter_mut().zip(other.status) {
+            *all += more;
+        }
         self
     }
 
     fn named(&self) -> impl Iterator<Item = (u64, String)> + '_ {
         let kinds = self.kinds.iter().zip(NAMES);
         let clauses = self.clauses.iter().zip(&CLAUSES);
+        let bits = (0..8usize).rev().flat_map(|bit| [(bit, 0), (bit, 1)]);
         kinds
             .map(|(&count, name)| (count, name.to_string()))
             .chain(clauses.map(|(&count, name)| (count, format!("malformed state: {name}"))))
+            .chain(bits.map(|(bit, value)| {
+                let name = format!("status word read with SR{bit} = {value}");
+                (self.status_reads(|word| word >> bit & 1 == value), name)
+            }))
+    }
+
+    /// Reads of status words of a kind.
+    fn status_reads(&self, of_kind: impl Fn(usize) -> bool) -> u64 {
+        let words = (0..256).filter(|&word| of_kind(word));
+        words.map(|word| self.status[word]).sum()
+    }
+
+    /// The status words that can be read and were not, the others, and how often
+    /// the rarest of those was.
+    fn status_words(&self) -> (Vec<usize>, usize, u64) {
+        let possible = (0..256).filter(|&word| possible(word));
+        let (read, unread): (Vec<_>, Vec<_>) = possible.partition(|&word| self.status[word] > 0);
+        let rarest = read.iter().map(|&word| self.status[word]).min();
+        (unread, read.len(), rarest.unwrap_or(0))
     }
 
     /// A line for each kind.
     pub fn table(&self) -> String {
+        let (unread, read, rarest) = self.status_words();
+        let words = format!(
+            "{read:>9} different status words read of {} that can be, the rarest {rarest} times\n",
+            read + unread.len()
+        );
         self.named()
             .map(|(count, name)| format!("{count:>9} {name}\n"))
+            .chain([words])
             .collect()
     }
 
     /// What was never reached.
     pub fn missing(&self) -> Vec<String> {
+        let unread = self.status_words().0.into_iter();
         self.named()
             .filter_map(|(count, name)| (count == 0).then_some(name))
+            .chain(unread.map(|word| format!("status word {word:02X}h")))
             .collect()
     }
 }
@@ -205,6 +249,11 @@ impl Watch {
             let write = matches!(step, Step::Write(..));
             reached.add_if(write && before.load().is_some(), Kind::LoadRefused);
             return;
+        }
+        if let Step::Read(address) = step {
+            let bank = Cycle::new(after, address, 0).bank;
+            let shown = after.shows_status(bank);
+            reached.status[usize::from(answer.value & 0xFF)] += u64::from(shown);
         }
         match (step, before.load()) {
             (Step::Write(address, data), Some(load)) => {

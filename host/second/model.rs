@@ -349,6 +349,15 @@ impl Device {
         }
     }
 
+    /// Whether `read` shows the status word in a bank: for tests that count or list such reads.
+    pub fn shows_status(&self, bank: u32) -> bool {
+        match self.modes[bank as usize] {
+            Mode::Array => self.running_bank() == Some(bank),
+            Mode::Status => true,
+            Mode::Signature | Mode::Query => false,
+        }
+    }
+
     /// The status word as read in a bank. "Upper byte 0."
     fn status(&self, bank: u32) -> u16 {
         let bits = [

@@ -43,21 +43,21 @@ fn busy_elsewhere(part: Part, r: Running, bank: u32) -> bool
     false
 }
 
-// The status word that a read in a bank shows, SR7 first.
+// The status word that a read in a bank shows: the eight lines of Table 9, SR7 first. Each decides its own bit and no other (semantics, StatusBits).
 pub fn status_word(part: Part, a: Activity, flags: Flags, bank: u32) -> u16
     ensures { λ r. ⌜ r ≡ statusWord (geometryOf part) a flags bank ⌝ }
 {
     let running = a.running;
     let program = a.program;
     let erase = a.erase;
-    bit_if(!operation::runs(running), 0x80)
-        + bit_if(operation::erase_suspended(erase), 0x40)
-        + bit_if(flags.sr5, 0x20)
-        + bit_if(flags.sr4, 0x10)
-        + bit_if(flags.sr3, 0x08)
-        + bit_if(operation::program_suspended(program), 0x04)
-        + bit_if(flags.sr1, 0x02)
-        + bit_if(busy_elsewhere(part, running, bank), 0x01)
+    bit_if(!operation::runs(running), 0x80) // SR7 P/EC status
+        + bit_if(operation::erase_suspended(erase), 0x40) // SR6 erase suspend status
+        + bit_if(flags.sr5, 0x20) // SR5 erase/blank check status
+        + bit_if(flags.sr4, 0x10) // SR4 program status
+        + bit_if(flags.sr3, 0x08) // SR3 VPP status
+        + bit_if(operation::program_suspended(program), 0x04) // SR2 program suspend status
+        + bit_if(flags.sr1, 0x02) // SR1 block protection status
+        + bit_if(busy_elsewhere(part, running, bank), 0x01) // SR0 bank write status
 }
 
 fn device_code(part: Part) -> u16

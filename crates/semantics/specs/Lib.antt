@@ -4,6 +4,7 @@ pub mod State
 pub mod View
 pub mod WellFormed
 pub mod Reading
+pub mod StatusBits
 pub mod Writing
 pub mod Working
 pub mod Arrays
@@ -14,6 +15,7 @@ pub mod WritingCases
 pub mod OperationCases
 pub mod RefusalCases
 pub mod BufferCases
+pub mod StatusCases
 pub mod FurtherCases
 pub mod Encoding
 pub mod Entries

@@ -32,17 +32,18 @@ bitIf true n = n
 bitIf false n = 0
 
 -- "Upper byte 0. SR7 is 1 when nothing runs. SR6 erase suspended. SR2 program suspended. SR5, SR4, SR3, SR1 the flags. SR0 is 1 when
--- something runs, and in a bank other than the addressed one.": the word for a read in bank k, SR7 first
+-- something runs, and in a bank other than the addressed one.": the word for a read in bank k, in the order and with the names of Table 9. That each line decides its own bit and
+-- no other is shown in StatusBits
 unfoldable pub statusWord : Geometry → Activity → Flags → ℕ → ℕ
 statusWord g a f k =
-    bitIf (not (runs (a .running))) 0x80
-    + bitIf (eraseSuspended (a .erase)) 0x40
-    + bitIf (f .sr5) 0x20
-    + bitIf (f .sr4) 0x10
-    + bitIf (f .sr3) 0x08
-    + bitIf (programSuspended (a .program)) 0x04
-    + bitIf (f .sr1) 0x02
-    + bitIf (runs (a .running) && not (runsIn g (a .running) k)) 0x01
+    bitIf (not (runs (a .running))) 0x80  -- SR7 P/EC status
+    + bitIf (eraseSuspended (a .erase)) 0x40  -- SR6 erase suspend status
+    + bitIf (f .sr5) 0x20  -- SR5 erase/blank check status
+    + bitIf (f .sr4) 0x10  -- SR4 program status
+    + bitIf (f .sr3) 0x08  -- SR3 VPP status
+    + bitIf (programSuspended (a .program)) 0x04  -- SR2 program suspend status
+    + bitIf (f .sr1) 0x02  -- SR1 block protection status
+    + bitIf (runs (a .running) && not (runsIn g (a .running) k)) 0x01  -- SR0 bank write status
 
 -- "885Eh (top) or 885Fh (bottom)"
 abbrev pub deviceCode : Geometry → ℕ
