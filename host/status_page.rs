@@ -30,6 +30,13 @@ const BENCH_WORDS: usize = 16_384;
 /// What the page calls the computed table.
 const COMPUTED: &str = "StatusCases";
 
+/// How the heads of the page's tables begin.
+const HEADS: [&str; 3] = [
+    "| Bit | Weight | ",
+    "| Word | SR7 | SR6 | SR5 | SR4 | SR3 | SR2 | SR1 | SR0 | ",
+    "|---|",
+];
+
 /// Of each example, by its name: the status words that the program printed, by line.
 type Shown = BTreeMap<String, BTreeMap<usize, u16>>;
 
@@ -137,10 +144,11 @@ fn byte(cell: &str) -> Option<u16> {
 }
 
 /// The page's row of a whole status word, with the bits beside it compared.
-fn row_of(word: u16, cells: &[&str]) -> Result<Row, String> {
-    let [_, bits @ .., _, shown_by] = cells else {
-        return Err(format!("{word:02X}h: too few cells"));
+fn row_of(cells: &[&str]) -> Result<Row, String> {
+    let [word, bits @ .., _, shown_by] = cells else {
+        return Err(format!("{}: too few cells", cells.join(" ")));
     };
+    let word = byte(word).ok_or(format!("{word}: no word"))?;
     let due: Vec<String> = (0..8).rev().map(|i| (word >> i & 1).to_string()).collect();
     if bits != due {
         return Err(format!("{word:02X}h: its bits are {}", due.join(" ")));
@@ -180,24 +188,33 @@ fn check_row(row: &Row, sources: &Sources) -> Result<(), String> {
     Ok(())
 }
 
-/// The whole page: how many words it has, and how many lines of examples they were compared with.
-fn check(page: &str, sources: &Sources) -> Result<(usize, usize), String> {
-    let mut bits = Vec::new();
-    let mut rows = Vec::new();
-    for cells in page.lines().map(cells) {
+/// The rows of the page: of the eight bits, each with its weight, and of the whole words. Any other line with a bar is a table's head or is refused, so that no
+/// row goes unread.
+type Rows<'a> = (Vec<(&'a str, Option<u16>)>, Vec<Row>);
+
+fn rows_of(page: &str) -> Result<Rows<'_>, String> {
+    let (mut bits, mut rows) = (Vec::new(), Vec::new());
+    for (at, line) in page.lines().enumerate() {
+        let cells = cells(line);
         match cells.first() {
-            Some(first) if first.starts_with("SR") => bits.push((*first, byte(cells[1]))),
-            Some(first) => {
-                if let Some(word) = byte(first) {
-                    rows.push(row_of(word, &cells)?);
-                }
+            Some(&first) if first.starts_with("SR") && cells.len() == 6 => {
+                bits.push((first, byte(cells[1])));
             }
-            None => {}
+            Some(first) if byte(first).is_some() => rows.push(row_of(&cells)?),
+            _ if HEADS.iter().any(|head| line.starts_with(head)) => {}
+            _ if line.contains('|') => return Err(format!("line {}: no row", at + 1)),
+            _ => {}
         }
     }
-    let due: Vec<String> = (0..8).rev().map(|i| format!("SR{i}")).collect();
-    let card: Vec<_> = (0..8).rev().map(|i| Some(1u16 << i)).collect();
-    if bits.iter().map(|b| b.0).ne(due.iter()) || bits.iter().map(|b| b.1).ne(card) {
+    Ok((bits, rows))
+}
+
+/// The whole page: how many words it has, and how many lines of examples they were compared with.
+fn check(page: &str, sources: &Sources) -> Result<(usize, usize), String> {
+    let (bits, rows) = rows_of(page)?;
+    let names: Vec<String> = (0..8).rev().map(|i| format!("SR{i}")).collect();
+    let weights: Vec<_> = (0..8).rev().map(|i| Some(1u16 << i)).collect();
+    if bits.iter().map(|b| b.0).ne(names.iter()) || bits.iter().map(|b| b.1).ne(weights) {
         return Err("the eight bits are not the card's".to_string());
     }
     rows.iter().try_for_each(|row| check_row(row, sources))?;
@@ -215,7 +232,7 @@ fn check(page: &str, sources: &Sources) -> Result<(usize, usize), String> {
     Ok((rows.len(), rows.iter().map(|row| row.cited.len()).sum()))
 }
 
-/// Pages with one thing wrong: a bit flipped, a weight or a word changed, a line one off, two rows of the card exchanged. What is wrong, and the page.
+/// Pages with one thing wrong: a bit flipped, a weight, a bit's name or a word changed, another line named, a row indented. What is wrong, and the page.
 fn damaged(page: &str) -> Vec<(String, String)> {
     let lines: Vec<&str> = page.lines().collect();
     let with = |at: usize, text: String| {
@@ -227,6 +244,10 @@ fn damaged(page: &str) -> Vec<(String, String)> {
     for (at, line) in lines.iter().enumerate() {
         let cells = cells(line);
         let Some(first) = cells.first() else { continue };
+        pages.push((
+            format!("line {} indented", at + 1),
+            with(at, format!(" {line}")),
+        ));
         let changed = |cell: usize, text: &str| {
             let mut row: Vec<&str> = cells.clone();
             row[cell] = text;
