@@ -252,7 +252,7 @@ impl Watch {
         }
         if let Step::Read(address) = step {
             let bank = Cycle::new(after, address, 0).bank;
-            let shown = after.shows_status(bank);
+            let shown = after.shown(bank) == Mode::Status;
             reached.status[usize::from(answer.value & 0xFF)] += u64::from(shown);
         }
         match (step, before.load()) {

@@ -1,7 +1,7 @@
-//! Checks docs/STATUS.md: the eight bits stand there in the card's order with their weights; each whole status word is the sum of the bits beside it, and is
-//! what the real program prints at every line of an example that the row names, where the second model says that the read shows the status word; and
-//! every status word that an example shows has a row. A row that names the computed table has its word in it. Then the page is damaged, one cell or row at
-//! a time, and each damaged page must be refused.
+//! Checks docs/STATUS.md: the eight bits stand there in the card's order with their names and weights; each whole status word is the sum of the bits beside it,
+//! and is what the real program prints at every line of an example that the row names, where the second model says that the read shows the status word,
+//! or stands in the computed table; and every status word that an example or that table shows has a row. Then the page is damaged, a cell or a row at a time,
+//! and each damaged page must be refused.
 //!
 //! usage: status_page PROGRAM EXAMPLES PAGE CASES
 
@@ -16,7 +16,7 @@ mod script;
 #[path = "second/steps.rs"]
 mod steps;
 
-use model::Device;
+use model::{Device, Mode};
 use std::collections::{BTreeMap, BTreeSet};
 use std::fs;
 use std::path::Path;
@@ -30,11 +30,21 @@ const BENCH_WORDS: usize = 16_384;
 /// What the page calls the computed table.
 const COMPUTED: &str = "StatusCases";
 
-/// How the heads of the page's tables begin.
-const HEADS: [&str; 3] = [
-    "| Bit | Weight | ",
-    "| Word | SR7 | SR6 | SR5 | SR4 | SR3 | SR2 | SR1 | SR0 | ",
-    "|---|",
+/// The heads of the page's tables, as far as the columns are compared.
+const BITS_HEAD: &str = "| Bit | Weight | Name on the card | 1 means | Goes to 1 | Goes to 0 |";
+const WORDS_HEAD: &str =
+    "| Word | SR7 | SR6 | SR5 | SR4 | SR3 | SR2 | SR1 | SR0 | Read as | Shown by |";
+
+/// Table 9 of the data sheet, from SR7 down.
+const CARD: [&str; 8] = [
+    "P/EC status",
+    "Erase suspend status",
+    "Erase/blank check status",
+    "Program status",
+    "VPP status",
+    "Program suspend status",
+    "Block protection status",
+    "Bank write status",
 ];
 
 /// Of each example, by its name: the status words that the program printed, by line.
@@ -63,7 +73,7 @@ fn status_reads(text: &str) -> Vec<usize> {
         };
         if let Step::Read(address) = step {
             let place = device.part.place(device.part.location(address));
-            if place.is_some_and(|place| device.shows_status(place.bank)) {
+            if place.is_some_and(|place| device.shown(place.bank) == Mode::Status) {
                 lines.push(at + 1);
             }
         }
@@ -153,23 +163,29 @@ fn row_of(cells: &[&str]) -> Result<Row, String> {
     if bits != due {
         return Err(format!("{word:02X}h: its bits are {}", due.join(" ")));
     }
-    let cite = |item: &str| {
-        let (name, line) = item.rsplit_once(' ').unwrap_or((item, "0"));
-        let line = line.parse().map_err(|_| format!("{word:02X}h: {item}?"))?;
-        Ok((name.to_string(), line))
-    };
-    let cited = shown_by
-        .split(", ")
-        .map(cite)
-        .collect::<Result<_, String>>()?;
+    let cited = shown_by.split(", ").map(cited).collect::<Vec<_>>();
+    if cited.iter().collect::<BTreeSet<_>>().len() != cited.len() {
+        return Err(format!("{word:02X}h: a line is named twice"));
+    }
     Ok(Row { word, cited })
+}
+
+/// `NAME LINE`; without a line, as the computed table is named, it is line 0.
+fn cited(item: &str) -> (String, usize) {
+    let line = item
+        .rsplit_once(' ')
+        .filter(|(_, digits)| digits.bytes().all(|b| b.is_ascii_digit()));
+    match line {
+        Some((name, digits)) => (name.to_string(), digits.parse().unwrap_or(0)),
+        None => (item.to_string(), 0),
+    }
 }
 
 /// That a row's word is shown where the row says.
 fn check_row(row: &Row, sources: &Sources) -> Result<(), String> {
     for (name, line) in &row.cited {
         let word = row.word;
-        if name == COMPUTED {
+        if (name.as_str(), *line) == (COMPUTED, 0) {
             if !sources.computed.contains(&word) {
                 return Err(format!("{word:02X}h: not in the computed table"));
             }
@@ -188,20 +204,18 @@ fn check_row(row: &Row, sources: &Sources) -> Result<(), String> {
     Ok(())
 }
 
-/// The rows of the page: of the eight bits, each with its weight, and of the whole words. Any other line with a bar is a table's head or is refused, so that no
-/// row goes unread.
-type Rows<'a> = (Vec<(&'a str, Option<u16>)>, Vec<Row>);
-
-fn rows_of(page: &str) -> Result<Rows<'_>, String> {
+/// The rows of the page: of the eight bits, and of the whole words. Any other line with a bar is the head of a table or is refused, so that no row goes unread.
+fn rows_of(page: &str) -> Result<(Vec<String>, Vec<Row>), String> {
     let (mut bits, mut rows) = (Vec::new(), Vec::new());
     for (at, line) in page.lines().enumerate() {
         let cells = cells(line);
+        let rule = line.starts_with("|-") && line.bytes().all(|b| b == b'|' || b == b'-');
         match cells.first() {
-            Some(&first) if first.starts_with("SR") && cells.len() == 6 => {
-                bits.push((first, byte(cells[1])));
+            Some(first) if first.starts_with("SR") && cells.len() == 6 => {
+                bits.push(cells[..3].join(" "));
             }
             Some(first) if byte(first).is_some() => rows.push(row_of(&cells)?),
-            _ if HEADS.iter().any(|head| line.starts_with(head)) => {}
+            _ if rule || line == BITS_HEAD || line == WORDS_HEAD => {}
             _ if line.contains('|') => return Err(format!("line {}: no row", at + 1)),
             _ => {}
         }
@@ -209,12 +223,15 @@ fn rows_of(page: &str) -> Result<Rows<'_>, String> {
     Ok((bits, rows))
 }
 
-/// The whole page: how many words it has, and how many lines of examples they were compared with.
-fn check(page: &str, sources: &Sources) -> Result<(usize, usize), String> {
+/// The whole page: how many words it has, how many lines of examples they were compared with, and how many are of the computed table.
+fn check(page: &str, sources: &Sources) -> Result<(usize, usize, usize), String> {
     let (bits, rows) = rows_of(page)?;
-    let names: Vec<String> = (0..8).rev().map(|i| format!("SR{i}")).collect();
-    let weights: Vec<_> = (0..8).rev().map(|i| Some(1u16 << i)).collect();
-    if bits.iter().map(|b| b.0).ne(names.iter()) || bits.iter().map(|b| b.1).ne(weights) {
+    let due = (0..8).rev().zip(CARD);
+    if bits
+        != due
+            .map(|(i, name)| format!("SR{i} {:02X}h {name}", 1 << i))
+            .collect::<Vec<_>>()
+    {
         return Err("the eight bits are not the card's".to_string());
     }
     rows.iter().try_for_each(|row| check_row(row, sources))?;
@@ -222,69 +239,92 @@ fn check(page: &str, sources: &Sources) -> Result<(usize, usize), String> {
     if words.len() != rows.len() {
         return Err("a word has two rows".to_string());
     }
-    for (name, lines) in &sources.shown {
-        for (line, word) in lines {
-            if !words.contains(word) {
-                return Err(format!("{name} {line}: {word:04X} is not on the page"));
-            }
-        }
+    let shown = sources.shown.values().flat_map(BTreeMap::values);
+    if let Some(word) = shown
+        .chain(&sources.computed)
+        .find(|word| !words.contains(word))
+    {
+        return Err(format!("{word:04X} is shown, and is not on the page"));
     }
-    Ok((rows.len(), rows.iter().map(|row| row.cited.len()).sum()))
+    let cited = || rows.iter().flat_map(|row| &row.cited);
+    let computed = cited().filter(|(name, _)| name == COMPUTED).count();
+    Ok((rows.len(), cited().count() - computed, computed))
 }
 
-/// Pages with one thing wrong: a bit flipped, a weight, a bit's name or a word changed, another line named, a row indented. What is wrong, and the page.
-fn damaged(page: &str) -> Vec<(String, String)> {
-    let lines: Vec<&str> = page.lines().collect();
-    let with = |at: usize, text: String| {
-        let mut all: Vec<String> = lines.iter().map(|l| l.to_string()).collect();
-        all[at] = text;
-        all.join("\n")
+/// A row with one thing wrong: of a word's row a bit flipped, the word changed, a word beside it with the bits of that word, another line named, the whole row indented;
+/// of a bit's row its name or weight changed. None of another line.
+fn damaged_rows(line: &str) -> Vec<String> {
+    let cells = cells(line);
+    let joined = |row: &[&str]| format!("| {} |", row.join(" | "));
+    let changed = |cell: usize, text: &str| {
+        let mut row = cells.clone();
+        row[cell] = text;
+        joined(&row)
     };
+    match cells.first() {
+        Some(first) if first.starts_with("SR") => {
+            vec![
+                changed(0, "SR8"),
+                changed(1, "00h"),
+                changed(2, "Status"),
+                format!(" {line}"),
+            ]
+        }
+        Some(first) => {
+            let Some(word) = byte(first) else {
+                return Vec::new();
+            };
+            let mut rows = vec![
+                changed(0, &format!("{:02X}h", word ^ 0x20)),
+                format!(" {line}"),
+                format!("|---{line}"),
+            ];
+            if cells[10] != COMPUTED {
+                rows.push(changed(10, &format!("{}1", cells[10])));
+            }
+            for bit in 0..8usize {
+                let flipped = if cells[8 - bit] == "0" { "1" } else { "0" };
+                rows.push(changed(8 - bit, flipped));
+                let (mut row, lie) = (cells.clone(), format!("{:02X}h", word ^ 1 << bit));
+                (row[0], row[8 - bit]) = (&lie, flipped);
+                rows.push(joined(&row));
+            }
+            rows
+        }
+        None => Vec::new(),
+    }
+}
+
+/// Pages with one thing wrong: a damaged row, a row of the card in another's place, the columns of a head exchanged.
+fn damaged(page: &str) -> Vec<String> {
+    let lines: Vec<&str> = page.lines().collect();
     let mut pages = Vec::new();
     for (at, line) in lines.iter().enumerate() {
-        let cells = cells(line);
-        let Some(first) = cells.first() else { continue };
-        pages.push((
-            format!("line {} indented", at + 1),
-            with(at, format!(" {line}")),
-        ));
-        let changed = |cell: usize, text: &str| {
-            let mut row: Vec<&str> = cells.clone();
-            row[cell] = text;
-            let what = format!("line {}, cell {}: {text}", at + 1, cell + 1);
-            (what, with(at, format!("| {} |", row.join(" | "))))
-        };
-        if let Some(word) = byte(first) {
-            for cell in 1..9 {
-                pages.push(changed(cell, if cells[cell] == "0" { "1" } else { "0" }));
-            }
-            pages.push(changed(0, &format!("{:02X}h", word ^ 0x20)));
-            if cells[10] != COMPUTED {
-                pages.push(changed(10, &format!("{}1", cells[10])));
-            }
-        } else if first.starts_with("SR") {
-            pages.push(changed(1, "00h"));
-            pages.push(changed(0, "SR8"));
+        for row in damaged_rows(line) {
+            let mut all = lines.clone();
+            all[at] = &row;
+            pages.push(all.join("\n"));
+        }
+        if line.starts_with("| SR") && lines[at + 1].starts_with("| SR") {
+            let mut all = lines.clone();
+            all.swap(at, at + 1);
+            pages.push(all.join("\n"));
         }
     }
+    pages.push(page.replace("SR5 | SR4 |", "SR4 | SR5 |"));
     pages
 }
 
-/// Pages without a row that an example shows.
-fn shortened(page: &str, sources: &Sources) -> Vec<(String, String)> {
-    let shown: BTreeSet<u16> = sources
-        .shown
-        .values()
-        .flat_map(|l| l.values().copied())
-        .collect();
-    shown
-        .into_iter()
-        .map(|word| {
-            let row = format!("| {word:02X}h |");
-            let rest: Vec<&str> = page.lines().filter(|l| !l.starts_with(&row)).collect();
-            (format!("no row of {word:02X}h"), rest.join("\n"))
-        })
-        .collect()
+/// Pages without the row of a word that an example or the computed table shows.
+fn shortened(page: &str, sources: &Sources) -> Vec<String> {
+    let shown = sources.shown.values().flat_map(BTreeMap::values);
+    let words: BTreeSet<&u16> = shown.chain(&sources.computed).collect();
+    let without = |word: &&u16| {
+        let row = format!("| {word:02X}h |");
+        let rest: Vec<&str> = page.lines().filter(|l| !l.starts_with(&row)).collect();
+        rest.join("\n")
+    };
+    words.iter().map(without).collect()
 }
 
 fn run(args: &[String]) -> Result<String, String> {
@@ -296,17 +336,17 @@ fn run(args: &[String]) -> Result<String, String> {
         computed: computed(cases)?,
     };
     let page = fs::read_to_string(page).map_err(|e| format!("{page}: {e}"))?;
-    let (words, lines) = check(&page, &sources).map_err(|e| format!("status page: {e}"))?;
+    let (words, lines, cases) = check(&page, &sources).map_err(|e| format!("status page: {e}"))?;
     let mut wrong = damaged(&page);
     wrong.extend(shortened(&page, &sources));
-    for (what, page) in &wrong {
-        if check(page, &sources).is_ok() {
-            return Err(format!("status page: accepted though damaged: {what}"));
-        }
+    if let Some(accepted) = wrong.iter().find(|page| check(page, &sources).is_ok()) {
+        let differs = |(a, b): &(&str, &str)| a != b;
+        let line = accepted.lines().zip(page.lines()).find(differs);
+        return Err(format!("status page: accepted though damaged: {line:?}"));
     }
     let reads: usize = sources.shown.values().map(BTreeMap::len).sum();
     Ok(format!(
-        "status page: {words} words, {lines} lines compared; {reads} reads of the status word in {} examples, each on the page; {} damaged pages refused",
+        "status page: {words} words; {lines} lines of examples compared, {cases} words of the computed table; {reads} reads of the status word in {} examples, each on the page; {} damaged pages refused",
         sources.shown.len(),
         wrong.len()
     ))

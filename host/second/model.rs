@@ -333,10 +333,7 @@ impl Device {
     fn read(&self, array: &[u16], address: u32) -> u16 {
         let location = self.part.location(address);
         let place = self.place(location);
-        match self.modes[place.bank as usize] {
-            // "the word at the location, but the status word while an
-            // operation runs in that bank"
-            Mode::Array if self.running_bank() == Some(place.bank) => self.status(place.bank),
+        match self.shown(place.bank) {
             Mode::Array => array[location as usize],
             Mode::Status => self.status(place.bank),
             Mode::Signature => self.signature(location, place),
@@ -349,12 +346,12 @@ impl Device {
         }
     }
 
-    /// Whether `read` shows the status word in a bank: for tests that count or list such reads.
-    pub fn shows_status(&self, bank: u32) -> bool {
+    /// The mode that decides what a read in a bank shows: "array, the word at
+    /// the location, but the status word while an operation runs in that bank".
+    pub fn shown(&self, bank: u32) -> Mode {
         match self.modes[bank as usize] {
-            Mode::Array => self.running_bank() == Some(bank),
-            Mode::Status => true,
-            Mode::Signature | Mode::Query => false,
+            Mode::Array if self.running_bank() == Some(bank) => Mode::Status,
+            mode => mode,
         }
     }
 

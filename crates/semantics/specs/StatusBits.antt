@@ -24,7 +24,7 @@ use Rattle.semantics.specs.declared.State.{State}
 use Rattle.semantics.specs.State.{geometry, modeOf, runs, programSuspended, eraseSuspended}
 use Rattle.semantics.specs.Reading.{runsIn, bitIf, statusWord, shown, showsBy, readIn, readWord}
 
--- when SRi is 1, for a read in bank k: Table 9 (the card) in its order, with document 01's condition for each. There is no SR8
+-- when SRi is 1, for a read in bank k: Table 9 (the card) in its order, with document 01's condition for each; false from 8 on
 abbrev pub statusBit : Geometry → Activity → Flags → ℕ → ℕ → Bool
 statusBit g a f k i =
     cond (eqb i 7) (not (runs (a .running)))
@@ -130,7 +130,7 @@ pub status-lines : (g : Geometry) (a : Activity) (f : Flags) (k : ℕ)
 unfolding statusWord
 status-lines g a f k = refl
 
--- w is the word that the code returns: `returned` is what the contract of `reading::status_word` says of it
+-- w is any word that meets the contract of `reading::status_word`, so the one that the code returns: `returned` is that contract
 module _ (g : Geometry) (a : Activity) (f : Flags) (k : ℕ) (w : ℕ) (returned : w ≡ statusWord g a f k) where
   sum : w ≡ lines (statusBit g a f k) 8
   sum = returned ∙ status-lines g a f k ∙ omega arith
@@ -182,7 +182,7 @@ module _ (s : State) (xs : List ℕ) (address : ℕ) where
   unfolding readWord readIn showsBy
   shows-status h = rw h
 
-  -- in whatever state, where that is the status word, each bit of what the read answers is 1 exactly where its own condition holds
+  -- in every state, where the read shows the status word, each bit of its answer is 1 exactly where its own condition holds
   pub read-bit : shownAt s address ≡ Status
       → (i : ℕ) → bit (readWord s xs address) i ≡ bitIf (statusBit (geometry s) (s .control .activity) (s .control .flags) (bankOf (geometry s) (location (geometry s) address)) i) 1
   read-bit h = each-bit (geometry s) (s .control .activity) (s .control .flags) (bankOf (geometry s) (location (geometry s) address)) (readWord s xs address) (shows-status h)

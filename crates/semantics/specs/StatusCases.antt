@@ -25,33 +25,34 @@ status f r q e w v = starts (withFlags (underWay BenchBottom setup.Nothing r q e
 abbrev ready : Bool → Bool → Bool → Bool → ℕ → Case
 ready a b c d w = status (flagsOf a b c d) running.Idle suspended-program.Nothing suspended-erase.Nothing w w
 
--- a program of location 40h, an erase of block 5, suspended
-abbrev programWaits : SuspendedProgram
-programWaits = suspended-program.Program 0x40 0x1234
+-- a suspended program of location 40h, and an erase of block 5
+abbrev oneProgram : SuspendedProgram
+oneProgram = suspended-program.Program 0x40 0x1234
 
-abbrev eraseWaits : SuspendedErase
-eraseWaits = suspended-erase.Erase 5 3
+abbrev oneErase : SuspendedErase
+oneErase = suspended-erase.Erase 5 3
 
 abbrev pub statusCases : List Case
 statusCases =
     -- SR7 alone, and with one line more, from SR6 down to SR1
     ready false false false false 0x80
-    ∷ status noFlags running.Idle suspended-program.Nothing eraseWaits 0xC0 0xC0
+    ∷ status noFlags running.Idle suspended-program.Nothing oneErase 0xC0 0xC0
     ∷ ready true false false false 0xA0
     ∷ ready false true false false 0x90
     ∷ ready false false true false 0x88
-    ∷ status noFlags running.Idle programWaits suspended-erase.Nothing 0x84 0x84
+    ∷ status noFlags running.Idle oneProgram suspended-erase.Nothing 0x84 0x84
     ∷ ready false false false true 0x82
     -- SR0 alone, in the banks where nothing runs
     ∷ status noFlags (running.Program 0x40 0x1234) suspended-program.Nothing suspended-erase.Nothing 0x00 0x01
     ∷ status noFlags (running.Program 0x400 0x1234) suspended-program.Nothing suspended-erase.Nothing 0x01 0x00
     ∷ status noFlags (running.Erase 4 0) suspended-program.Nothing suspended-erase.Nothing 0x00 0x01
     ∷ status noFlags (running.Erase 19 0) suspended-program.Nothing suspended-erase.Nothing 0x01 0x00
-    -- all lines that can stand together: all but SR0, and all but SR7 and SR2
-    ∷ status (flagsOf true true true true) running.Idle programWaits eraseWaits 0xFE 0xFE
-    ∷ status (flagsOf true true true true) (running.Program 0x40 0x1234) suspended-program.Nothing eraseWaits 0x7A 0x7B
+    -- all lines that can stand together: all but SR0; all but SR7 and SR2; with an erase that runs, all but SR7, SR6 and SR2
+    ∷ status (flagsOf true true true true) running.Idle oneProgram oneErase 0xFE 0xFE
+    ∷ status (flagsOf true true true true) (running.Program 0x40 0x1234) suspended-program.Nothing oneErase 0x7A 0x7B
+    ∷ status (flagsOf true true true true) (running.Erase 19 0) suspended-program.Nothing suspended-erase.Nothing 0x3B 0x3A
     -- some of them
-    ∷ status (flagsOf false false true true) running.Idle programWaits eraseWaits 0xCE 0xCE
+    ∷ status (flagsOf false false true true) running.Idle oneProgram oneErase 0xCE 0xCE
     ∷ status (flagsOf true true true true) (running.Program 0x40 0x1234) suspended-program.Nothing suspended-erase.Nothing 0x3A 0x3B
     ∷ ready true false true false 0xA8
     ∷ ready false true false true 0x92
