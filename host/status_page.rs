@@ -30,7 +30,7 @@ const BENCH_WORDS: usize = 16_384;
 /// What the page calls the computed table.
 const COMPUTED: &str = "StatusCases";
 
-/// The heads of the page's tables, as far as the columns are compared.
+/// The heads of the page's tables.
 const BITS_HEAD: &str = "| Bit | Weight | Name on the card | 1 means | Goes to 1 | Goes to 0 |";
 const WORDS_HEAD: &str =
     "| Word | SR7 | SR6 | SR5 | SR4 | SR3 | SR2 | SR1 | SR0 | Read as | Shown by |";
@@ -251,48 +251,48 @@ fn check(page: &str, sources: &Sources) -> Result<(usize, usize, usize), String>
     Ok((rows.len(), cited().count() - computed, computed))
 }
 
-/// A row with one thing wrong: of a word's row a bit flipped, the word changed, a word beside it with the bits of that word, another line named, the whole row indented;
-/// of a bit's row its name or weight changed. None of another line.
+/// A row with some of its cells changed.
+fn changed(cells: &[&str], changes: &[(usize, &str)]) -> String {
+    let mut row = cells.to_vec();
+    for &(cell, text) in changes {
+        row[cell] = text;
+    }
+    format!("| {} |", row.join(" | "))
+}
+
+/// Rows of a whole word with one thing wrong: the word, a bit, both alike, or the line that is named.
+fn damaged_words(cells: &[&str], word: u16) -> Vec<String> {
+    let mut rows = Vec::new();
+    for bit in 0..8usize {
+        let other = format!("{:02X}h", word ^ 1 << bit);
+        let flipped = if cells[8 - bit] == "0" { "1" } else { "0" };
+        rows.push(changed(cells, &[(0, &other)]));
+        rows.push(changed(cells, &[(8 - bit, flipped)]));
+        rows.push(changed(cells, &[(0, &other), (8 - bit, flipped)]));
+    }
+    rows.push(changed(cells, &[(10, &format!("{}1", cells[10]))]));
+    rows.push(changed(cells, &[(10, "")]));
+    rows
+}
+
+/// A row with one thing wrong; none where the line is no row.
 fn damaged_rows(line: &str) -> Vec<String> {
     let cells = cells(line);
-    let joined = |row: &[&str]| format!("| {} |", row.join(" | "));
-    let changed = |cell: usize, text: &str| {
-        let mut row = cells.clone();
-        row[cell] = text;
-        joined(&row)
+    let Some(first) = cells.first() else {
+        return Vec::new();
     };
-    match cells.first() {
-        Some(first) if first.starts_with("SR") => {
-            vec![
-                changed(0, "SR8"),
-                changed(1, "00h"),
-                changed(2, "Status"),
-                format!(" {line}"),
-            ]
-        }
-        Some(first) => {
-            let Some(word) = byte(first) else {
-                return Vec::new();
-            };
-            let mut rows = vec![
-                changed(0, &format!("{:02X}h", word ^ 0x20)),
-                format!(" {line}"),
-                format!("|---{line}"),
-            ];
-            if cells[10] != COMPUTED {
-                rows.push(changed(10, &format!("{}1", cells[10])));
-            }
-            for bit in 0..8usize {
-                let flipped = if cells[8 - bit] == "0" { "1" } else { "0" };
-                rows.push(changed(8 - bit, flipped));
-                let (mut row, lie) = (cells.clone(), format!("{:02X}h", word ^ 1 << bit));
-                (row[0], row[8 - bit]) = (&lie, flipped);
-                rows.push(joined(&row));
-            }
-            rows
-        }
+    let mut rows = match byte(first) {
+        Some(word) => damaged_words(&cells, word),
+        None if first.starts_with("SR") => vec![
+            changed(&cells, &[(0, "SR8")]),
+            changed(&cells, &[(1, "00h")]),
+            changed(&cells, &[(2, "Status")]),
+        ],
         None => Vec::new(),
-    }
+    };
+    rows.push(format!(" {line}"));
+    rows.push(format!("|---{line}"));
+    rows
 }
 
 /// Pages with one thing wrong: a damaged row, a row of the card in another's place, the columns of a head exchanged.
