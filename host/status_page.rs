@@ -23,10 +23,6 @@ use std::path::Path;
 use std::process::{Command, ExitCode, Stdio};
 use steps::Step;
 
-/// "a bench bottom part whose 16,384 words start as FFFFh"
-const BENCH_BOTTOM: u32 = 2;
-const BENCH_WORDS: usize = 16_384;
-
 /// What the page calls the computed table.
 const COMPUTED: &str = "StatusCases";
 
@@ -63,12 +59,12 @@ struct Row {
 }
 
 /// The lines of a script, from 1, whose read shows the status word by the second model.
-fn status_reads(text: &str) -> Vec<usize> {
-    let mut device = Device::power_up(BENCH_BOTTOM);
-    let mut array = vec![0xFFFF; BENCH_WORDS];
+fn status_reads(input: &[u8]) -> Vec<usize> {
+    let mut device = Device::power_up(script::BENCH_BOTTOM);
+    let mut array = vec![0xFFFF; script::BENCH_WORDS];
     let mut lines = Vec::new();
-    for (at, line) in text.lines().enumerate() {
-        let Some(step) = script::parse(line.as_bytes()) else {
+    for (at, line) in script::lines(input).enumerate() {
+        let Some(step) = script::parse(line) else {
             continue;
         };
         if let Step::Read(address) = step {
@@ -98,13 +94,13 @@ fn played(program: &str, path: &Path) -> Result<Vec<String>, String> {
 
 /// The status words that an example shows, as the program prints them.
 fn shown_by(program: &str, path: &Path) -> Result<BTreeMap<usize, u16>, String> {
-    let text = fs::read_to_string(path).map_err(|e| format!("{}: {e}", path.display()))?;
+    let input = fs::read(path).map_err(|e| format!("{}: {e}", path.display()))?;
     let printed = played(program, path)?;
     let word = |line: usize| {
         let answer = printed.get(line - 1)?.strip_prefix(&format!("{line} "))?;
         u16::from_str_radix(answer, 16).ok()
     };
-    status_reads(&text)
+    status_reads(&input)
         .into_iter()
         .map(|line| {
             let word = word(line).ok_or(format!("{} {line}: no word", path.display()))?;
@@ -227,11 +223,8 @@ fn rows_of(page: &str) -> Result<(Vec<String>, Vec<Row>), String> {
 fn check(page: &str, sources: &Sources) -> Result<(usize, usize, usize), String> {
     let (bits, rows) = rows_of(page)?;
     let due = (0..8).rev().zip(CARD);
-    if bits
-        != due
-            .map(|(i, name)| format!("SR{i} {:02X}h {name}", 1 << i))
-            .collect::<Vec<_>>()
-    {
+    let due = due.map(|(i, name)| format!("SR{i} {:02X}h {name}", 1 << i));
+    if bits != due.collect::<Vec<_>>() {
         return Err("the eight bits are not the card's".to_string());
     }
     rows.iter().try_for_each(|row| check_row(row, sources))?;
@@ -305,7 +298,8 @@ fn damaged(page: &str) -> Vec<String> {
             all[at] = &row;
             pages.push(all.join("\n"));
         }
-        if line.starts_with("| SR") && lines[at + 1].starts_with("| SR") {
+        let next = lines.get(at + 1);
+        if line.starts_with("| SR") && next.is_some_and(|next| next.starts_with("| SR")) {
             let mut all = lines.clone();
             all.swap(at, at + 1);
             pages.push(all.join("\n"));

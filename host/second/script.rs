@@ -13,8 +13,8 @@ const SCRIPT_BYTES: usize = 16_384;
 const LINE_BYTES: usize = 16;
 
 /// "a bench bottom part whose 16,384 words start as FFFFh".
-const BENCH_BOTTOM: u32 = 2;
-const BENCH_WORDS: usize = 16_384;
+pub const BENCH_BOTTOM: u32 = 2;
+pub const BENCH_WORDS: usize = 16_384;
 
 /// What the script program prints for an input. Every printed line ends in LF,
 /// the last too (document 01 does not say).
@@ -35,7 +35,7 @@ pub fn transcript(input: &[u8]) -> Vec<u8> {
 
 /// The lines of a script. "Lines end in LF, the last may lack it": so nothing
 /// follows a closing LF, and a line cut off by the script's end is a line.
-fn lines(input: &[u8]) -> impl Iterator<Item = &[u8]> {
+pub fn lines(input: &[u8]) -> impl Iterator<Item = &[u8]> {
     let script = &input[..input.len().min(SCRIPT_BYTES)];
     script
         .split_inclusive(|&byte| byte == b'\n')

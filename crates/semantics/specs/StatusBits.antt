@@ -171,18 +171,18 @@ module _ (g : Geometry) (a : Activity) (f : Flags) (k : ℕ) (w : ℕ) (returned
 
 -- ---- a read
 
--- the mode that decides what a read at an address shows
-abbrev pub shownAt : State → ℕ → Mode
-shownAt s address =
-    let k : ℕ = bankOf (geometry s) (location (geometry s) address) in
-    shown (geometry s) (s .control .activity .running) k (modeOf s k)
+-- the bank of an address, and the mode that decides what a read there shows
+abbrev pub bankAt : State → ℕ → ℕ
+bankAt s address = bankOf (geometry s) (location (geometry s) address)
 
-module _ (s : State) (xs : List ℕ) (address : ℕ) where
-  shows-status : shownAt s address ≡ Status → readWord s xs address ≡ statusWord (geometry s) (s .control .activity) (s .control .flags) (bankOf (geometry s) (location (geometry s) address))
+abbrev pub shownAt : State → ℕ → Mode
+shownAt s address = shown (geometry s) (s .control .activity .running) (bankAt s address) (modeOf s (bankAt s address))
+
+module _ (s : State) (xs : List ℕ) (address : ℕ) (status : shownAt s address ≡ Status) where
+  shows-status : readWord s xs address ≡ statusWord (geometry s) (s .control .activity) (s .control .flags) (bankAt s address)
   unfolding readWord readIn showsBy
-  shows-status h = rw h
+  shows-status = rw status
 
   -- in every state, where the read shows the status word, each bit of its answer is 1 exactly where its own condition holds
-  pub read-bit : shownAt s address ≡ Status
-      → (i : ℕ) → bit (readWord s xs address) i ≡ bitIf (statusBit (geometry s) (s .control .activity) (s .control .flags) (bankOf (geometry s) (location (geometry s) address)) i) 1
-  read-bit h = each-bit (geometry s) (s .control .activity) (s .control .flags) (bankOf (geometry s) (location (geometry s) address)) (readWord s xs address) (shows-status h)
+  pub read-bit : (i : ℕ) → bit (readWord s xs address) i ≡ bitIf (statusBit (geometry s) (s .control .activity) (s .control .flags) (bankAt s address) i) 1
+  read-bit = each-bit (geometry s) (s .control .activity) (s .control .flags) (bankAt s address) (readWord s xs address) shows-status
