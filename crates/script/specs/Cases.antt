@@ -16,7 +16,8 @@ use Rattle.semantics.specs.Reading.{runsIn, statusWord, signatureWord, queryWor
 use Rattle.semantics.specs.Writing.{commandOf, resume, accepts, setUp, clearStatus, firstCycle, programRuns, eraseCycle, lockCommandOf, lockCycle, settle, loads, countRight, firstRight, laterRight, confirmRight, confirmCycle, wordsCycle, cycle, keptIf, firstLoaded, wordsLoaded, loaded, writtenAt, written}
 use Rattle.semantics.specs.Working.{unitsLeft, unitsDone, runningAfter, wordAfter, arrayAfter, bufferAfter, workedOn, worked, workedArray}
 use Rattle.semantics.specs.Steps.{locationRefusal, addressRefusal, countRefusal, stepRefusal, stateRefusal, firstRefusal, refusalOf, accepted, acceptedArray, stepOf, arrayOf}
-use Rattle.script.specs.Script.{scriptOf, lines, lineRefusal, transcriptOf}
+use Rattle.lines.specs.Lines.{lines}
+use Rattle.script.specs.Script.{scriptOf, lineRefusal, transcriptOf}
 
 infix 20 _⟶_
 -- a text, and its lines

@@ -28,7 +28,8 @@ use Rattle.line.specs.Forms.{stepOfLine}
 use Rattle.printing.specs.Text.{answerText, lineText, endText, word-short, units-short, done-short, refused-short, line-short, end-short}
 use Rattle.printing.specs.Room.{Put, placed-length, put-whole, put-counted}
 use Rattle.script.specs.declared.Progress.{Progress}
-use Rattle.script.specs.Script.{scriptOf, front, lines, lineRefusal, answerOf, machineAfter, spoken, stepsOfScript, machineAtEnd, transcriptOf, LinesPlayed, Transcribed}
+use Rattle.lines.specs.Lines.{front, lines}
+use Rattle.script.specs.Script.{scriptOf, lineRefusal, answerOf, machineAfter, spoken, stepsOfScript, machineAtEnd, transcriptOf, LinesPlayed, Transcribed}
 use Rattle.script.specs.Laws.{script-short, journaled, ended, array-at-end}
 
 -- ---- a refusal has one digit

@@ -27,11 +27,11 @@ use Rattle.line.specs.Forms.{stepOfLine}
 use Rattle.line.specs.Laws.{long-invalid, empty-invalid}
 use Rattle.printing.specs.Text.{text, digitOf, digits, decimal, lineText, endText}
 use Rattle.printing.specs.Room.{Put, put-none, put-then}
-use Rattle.script.specs.declared.Taken.{Taken}
+use Rattle.lines.specs.declared.Taken.{Taken}
 use Rattle.script.specs.declared.Played.{Played}
 use Rattle.script.specs.declared.Progress.{Progress}
-use Rattle.script.specs.Script.{scriptOf, lines, lineRefusal, answerOf, machineAfter, machineOf, LinePlayed, stepsOf, afterLines, spoken, stepsOfLines, stepsOfScript, machineAtEnd, transcriptOf, LinesPlayed}
-use Rattle.script.specs.Lines.{lineEnd, lineNext, takenAt, next-later, lines-next}
+use Rattle.script.specs.Script.{scriptOf, lineRefusal, answerOf, machineAfter, machineOf, LinePlayed, stepsOf, afterLines, spoken, stepsOfLines, stepsOfScript, machineAtEnd, transcriptOf, LinesPlayed}
+use Rattle.lines.specs.Lines.{lines, lineEnd, lineNext, takenAt, next-later, lines-next}
 
 -- ---- lines that are refused, and texts that are empty or too long
 

@@ -1,6 +1,5 @@
 -- The modules of the specification.
 pub mod Script
-pub mod Lines
 pub mod Laws
 pub mod Fits
 pub mod Cases

@@ -1,5 +1,5 @@
 -- A script played whole and its transcript: document 01, "The script program". A text is the list of its bytes. Definitions only; the laws are in
--- Lines and Laws.
+-- Laws.
 -- Assumes nothing.
 use Prim.Native.Nat.{ℕ, suc, _≤_}
 use mathlib.Core.Bool.{cond}
@@ -17,27 +17,18 @@ use Rattle.semantics.specs.declared.Decoded.the-variants.{Valid, Invalid}
 use Rattle.semantics.specs.Steps.{stateRefusal, firstRefusal, stepOf, Machine, after, fresh}
 use Rattle.semantics.specs.Demand.{Demand3}
 use Rattle.device.specs.declared.Device.{Device}
+use Rattle.lines.specs.Lines.{lines}
 use Rattle.line.specs.Forms.{stepOfLine}
 use Rattle.printing.specs.Text.{lineText, endText}
 use Rattle.printing.specs.Room.{Put}
 use Rattle.script.specs.declared.Played.{Played}
 use Rattle.script.specs.declared.Progress.{Progress}
 
--- ---- the lines of a script
+-- ---- the text of a script
 
 -- "Only the first 16,384 bytes are the script."
 unfoldable pub scriptOf : List ℕ → List ℕ
 scriptOf text = take 16384 text
-
--- a byte before the first line, or a line of its own before none
-abbrev pub front : ℕ → List (List ℕ) → List (List ℕ)
-front b [] = (b ∷ []) ∷ []
-front b (l ∷ ls) = (b ∷ l) ∷ ls
-
--- "Lines end in LF, the last may lack it." LF is 10. It is no byte of the line that it ends. Every other byte is.
-unfoldable pub lines : List ℕ → List (List ℕ)
-lines [] = []
-lines (b ∷ t) = cond (eqb b 10) ([] ∷ lines t) (front b (lines t))
 
 -- ---- a line played
 

@@ -9,16 +9,8 @@ ghost use Prim.Native.Nat.{_<_};
 ghost use lib.ListN.{length};
 ghost use Rattle.script.specs.Script.{scriptOf, LinePlayed, LinesPlayed, Transcribed};
 ghost use Rattle.script.specs.Laws.{PlayedAt, Begun};
-ghost use Rattle.script.specs.Lines.{lineEnd, takenAt};
 
-// ---- the lines of a text
-
-// Where a line begins and ends, and where the next one begins.
-pub struct Taken {
-    pub from: usize,
-    pub to: usize,
-    pub next: usize,
-}
+// ---- the text of a script
 
 // The part of a text that is the script.
 pub fn script_of(text: &[u8]) -> &[u8]
@@ -28,39 +20,6 @@ pub fn script_of(text: &[u8]) -> &[u8]
         return text;
     }
     &text[..16384]
-}
-
-// Where the line that begins at a place ends: at the first LF from there on, or at the text's end.
-fn line_end(text: &[u8], at: usize) -> usize
-    ensures { λ r. ⌜ r ≡ lineEnd (now (text .entry)) at ⌝ }
-{
-    let mut i = at;
-    while i < text.len() {
-        if text[i] == b'\n' {
-            return i;
-        }
-        i += 1;
-    }
-    i
-}
-
-// The line that begins at a place. The next one begins past its LF, if it has one.
-pub fn taken_at(text: &[u8], at: usize) -> Taken
-    ensures { λ r. ⌜ r ≡ takenAt (now (text .entry)) at ⌝ }
-{
-    let to = line_end(text, at);
-    if to < text.len() {
-        return Taken {
-            from: at,
-            to,
-            next: to + 1,
-        };
-    }
-    Taken {
-        from: at,
-        to,
-        next: to,
-    }
 }
 
 // ---- a line
@@ -119,7 +78,7 @@ fn play_at(script: &[u8], at: usize, p: Progress, array: &mut [u16], room: &mut 
     requires { ⌜ (at < length (now script)) × (p .count < 16384) ⌝ }
     ensures { λ r. ⌜ PlayedAt (now (script .entry)) at p (now (array .entry)) (now (room .entry)) r (now (array .exit)) (now (room .exit)) ⌝ }
 {
-    let taken = taken_at(script, at);
+    let taken = lines::taken_at(script, at);
     let from = taken.from;
     let to = taken.to;
     let device = p.device;

@@ -1,6 +1,6 @@
 -- `script::play_at` meets its contract: what is taken at the place is a part of the script, and is played. Assumes nothing.
 use borrow.Author.Needs.{needs}
-use Rattle.script.specs.Lines.{taken-within}
+use Rattle.lines.specs.Lines.{taken-within}
 use Rattle.script.specs.Laws.{played-at}
 use Rattle.script.proofs.play_at.Statement.{statement}
 use Rattle.script.proofs.play_at.Tie as tie

@@ -48,7 +48,7 @@ use denote.Triple.Walked.{says, needs, Stays, stay-none, stay-none-slice, stay-s
 use denote.Exit.{yes as kept}
 use denote.Signature.{plain}
 use Rattle.script.specs.declared.Progress.{Progress}
-use Rattle.script.specs.Lines.{next-later}
+use Rattle.lines.specs.Lines.{next-later}
 use Rattle.script.specs.Laws.{PlayedAt, Begun, Sofar, sofar-none, sofar-next, sofar-end}
 use Rattle.script.proofs.Reborrow.{Valued, reborrows, restores}
 use Rattle.script.proofs.Progress as P

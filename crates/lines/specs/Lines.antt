@@ -1,4 +1,5 @@
--- Where the line that begins at a place of a text ends, and where the next begins; and that these lines, one after the other, are `lines`.
+-- The lines of a text, which is the list of its bytes: document 01, "The script program". Where the line that begins at a place ends, and where the next begins;
+-- and that these lines, one after the other, are `lines`.
 -- Assumes nothing.
 use Prim.Native.Nat.{ℕ, suc, _+_, _-_, _<_, _≤_}
 use mathlib.Core.Bool.{Bool, true, false, cond}
@@ -10,10 +11,19 @@ use lib.Dec.{eqb, ltb}
 use lib.ListN.{length, getD, take, drop, length-drop, drop-of-length-le}
 use lib.Seq.{drop-cons, drop-drop}
 use borrow.Author.Tests.{eq-eqb, ne-eqb, lt-ltb, le-ltb}
-use Rattle.script.specs.declared.Taken.{Taken}
-use Rattle.script.specs.Script.{front, lines}
+use Rattle.lines.specs.declared.Taken.{Taken}
 
 -- ---- definitions
+
+-- a byte before the first line, or a line of its own before none
+abbrev pub front : ℕ → List (List ℕ) → List (List ℕ)
+front b [] = (b ∷ []) ∷ []
+front b (l ∷ ls) = (b ∷ l) ∷ ls
+
+-- "Lines end in LF, the last may lack it." LF is 10. It is no byte of the line that it ends. Every other byte is.
+unfoldable pub lines : List ℕ → List (List ℕ)
+lines [] = []
+lines (b ∷ t) = cond (eqb b 10) ([] ∷ lines t) (front b (lines t))
 
 -- how many bytes stand before the first LF, or in all where there is none
 unfoldable pub beforeLF : List ℕ → ℕ

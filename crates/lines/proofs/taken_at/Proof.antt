@@ -1,9 +1,9 @@
--- `script::taken_at` meets its contract. Assumes nothing.
+-- `lines::taken_at` meets its contract. Assumes nothing.
 use borrow.Author.Needs.{needs}
 use borrow.Author.Tests.{lt-ltb, le-ltb}
-use Rattle.script.specs.Lines.{lineNext}
-use Rattle.script.proofs.taken_at.Statement.{statement}
-use Rattle.script.proofs.taken_at.Tie as tie
+use Rattle.lines.specs.Lines.{lineNext}
+use Rattle.lines.proofs.taken_at.Statement.{statement}
+use Rattle.lines.proofs.taken_at.Tie as tie
 
 line-end-requires : tie.Need-line-end-requires
 line-end-requires c κs = search needs

@@ -1,12 +1,12 @@
--- `script::line_end` meets its contract. The invariant: the line that begins at `at` ends where one that begins at `i` does. Assumes nothing.
+-- `lines::line_end` meets its contract. The invariant: the line that begins at `at` ends where one that begins at `i` does. Assumes nothing.
 use Prim.Native.Nat.{_-_}
 use mathlib.Core.Path.{_≡_, refl, sym, _∙_}
 use native.Mathlib.Numerals.{add-one}
 use lib.ListN.{length}
 use borrow.Author.Needs.{needs}
-use Rattle.script.specs.Lines.{lineEnd, end-out, end-here, end-later}
-use Rattle.script.proofs.line_end.Statement.{statement}
-use Rattle.script.proofs.line_end.Tie as tie
+use Rattle.lines.specs.Lines.{lineEnd, end-out, end-here, end-later}
+use Rattle.lines.proofs.line_end.Statement.{statement}
+use Rattle.lines.proofs.line_end.Tie as tie
 
 abbrev Inv-loop : tie.InvT-loop
 Inv-loop text at i₀ i = lineEnd text i ≡ lineEnd text at
