@@ -1,3 +1,4 @@
 -- The modules of the specification.
 pub mod Records
 pub mod Text
+pub mod Cases

@@ -1,0 +1,193 @@
+-- Records, texts and arrays, as one table under one statement: the checker computes each through the definitions. The document's end record, the worked examples,
+-- and each rule at its edges. Assumes nothing.
+use Prim.Native.Nat.{ℕ, zero, suc, _*_}
+use Prim.Native.String.{String}
+use mathlib.Core.Bool.{Bool, true, false, _&&_}
+use mathlib.Core.List.{List, [], _∷_, _++_, map}
+use lib.Dec.{T, eqb}
+use lib.ListN.{length, replicate, take}
+use Rattle.geometry.specs.declared.Part.{Part}
+use Rattle.geometry.specs.declared.Part.the-variants.{FullBottom, FullTop, BenchBottom, BenchTop}
+use Rattle.printing.specs.Text.{text, digitOf}
+use Rattle.printing.specs.Room.{placed}
+use Rattle.semantics.specs.Tabulate.{tabulate}
+use Rattle.hex.specs.Records.{recordLines, digit, allDigits, pairs, bytes, malformed, total, sumWrong, namedFrom, namedBy, outside, recordRefusal, refusalFrom, linesFrom, named, byteAfter, wordsAfter, verdict, arrayRead}
+use Rattle.hex.specs.Text.{digitsOf, recordText, upperRecord, bytesOf, span, sixteenAt, sixteens, textOf, written, roomAfter, endRecord}
+
+pub data Case : Type 0 where
+  -- a text, and its lines
+  splits : String → List String → Case
+  -- a text for an array of 32,768 bytes, the refusal, and the line that decides
+  reads : String → ℕ → ℕ → Case
+  -- the same with an array of so many bytes
+  readsIn : ℕ → String → ℕ → ℕ → Case
+  -- a text, words, and the words after it
+  makes : String → List ℕ → List ℕ → Case
+  -- a part, the number of words of an array, a text, the refusal and the line
+  judges : Part → ℕ → String → ℕ → ℕ → Case
+  -- words of an array whose text has a 04 record before each so many bytes, and the text of so many sixteens of them, with the end record
+  prints : ℕ → List ℕ → ℕ → String → Case
+  -- the upper address of a 04 record, and its text
+  upper : ℕ → String → Case
+  -- an array of so many words FFFFh of a part, the length of the room, and the refusal and the length of the writing
+  writes : Part → ℕ → ℕ → ℕ → ℕ → Case
+
+abbrev same : List ℕ → List ℕ → Bool
+same [] [] = true
+same [] (y ∷ ys) = false
+same (x ∷ xs) [] = false
+same (x ∷ xs) (y ∷ ys) = eqb x y && same xs ys
+
+abbrev sames : List (List ℕ) → List (List ℕ) → Bool
+sames [] [] = true
+sames [] (y ∷ ys) = false
+sames (x ∷ xs) [] = false
+sames (x ∷ xs) (y ∷ ys) = same x y && sames xs ys
+
+abbrev pub holds : Case → Bool
+holds (splits s ls) = sames (recordLines (text s)) (map text ls)
+holds (reads s r k) = eqb (refusalFrom 32768 0 (recordLines (text s))) r && eqb (linesFrom 32768 0 (recordLines (text s))) k
+holds (readsIn n s r k) = eqb (refusalFrom n 0 (recordLines (text s))) r && eqb (linesFrom n 0 (recordLines (text s))) k
+holds (makes s before after) = same (wordsAfter (named 0 (recordLines (text s))) before) after
+holds (judges part n s r k) = eqb (verdict part (text s) (replicate n 65535) .refusal) r && eqb (verdict part (text s) (replicate n 65535) .line) k
+holds (prints s ws k t) = same (sixteens s (bytesOf ws) k ++ endRecord) (text t)
+holds (upper u t) = same (upperRecord u) (text t)
+holds (writes part n room r k) = eqb (written part (replicate n 65535) (replicate room 0) .refusal) r && eqb (written part (replicate n 65535) (replicate room 0) .length) k
+
+abbrev pub every : List Case → Bool
+every [] = true
+every (c ∷ l) = holds c && every l
+
+-- eight words FFFFh
+abbrev blank : List ℕ
+blank = replicate 8 0xFFFF
+
+abbrev pub cases : List Case
+cases =
+    -- "Lines end in LF or CR LF, the last may lack it"
+    splits "" []
+    ∷ splits ":00" (":00" ∷ [])
+    ∷ splits ":00\n" (":00" ∷ [])
+    ∷ splits ":00\r\n" (":00" ∷ [])
+    ∷ splits ":00\r\n:01\n:02" (":00" ∷ ":01" ∷ ":02" ∷ [])
+    ∷ splits "\n" ("" ∷ [])
+    ∷ splits "\r\n\n" ("" ∷ "" ∷ [])
+    ∷ splits ":00\r" (":00\r" ∷ [])
+    ∷ splits "a\rb\n" ("a\rb" ∷ [])
+    ∷ splits "a\r\r\n" ("a\r" ∷ [])
+    ∷ splits "a\n\rb" ("a" ∷ "\rb" ∷ [])
+    -- "`:00000001FF` .. ends the file, and what follows is ignored"; "hex of either case"
+    ∷ reads ":00000001FF" 0 1
+    ∷ reads ":00000001ff\n" 0 1
+    ∷ reads ":00000001fF\r\n" 0 1
+    ∷ reads ":00000001FF\n:00000001FE\nrubbish" 0 1
+    ∷ reads ":0400000034127856E8\n:03000a00cdab99e2\r\n:00000001ff\nrubbish" 0 3
+    -- 14 "no end record"
+    ∷ reads "" 14 0
+    ∷ reads ":01000000AA55" 14 1
+    ∷ reads ":01000000AA55\n:020000040000FA\n" 14 2
+    -- 10: "each line is one record and nothing else"
+    ∷ reads "\n" 10 1
+    ∷ reads "\n:00000001FF" 10 1
+    ∷ reads ":01000000AA55\n\n:00000001FF" 10 2
+    ∷ reads ":00000001FF x" 10 1
+    ∷ reads " :00000001FF" 10 1
+    ∷ reads ":00000001FF\r" 10 1
+    ∷ reads ":00000001F" 10 1
+    ∷ reads ":00000001FFF" 10 1
+    ∷ reads ":00000001FFFF" 10 1
+    ∷ reads "00000001FF" 10 1
+    ∷ reads ";00000001FF" 10 1
+    ∷ reads ":" 10 1
+    ∷ reads ":000000" 10 1
+    ∷ reads ":0100000000" 10 1
+    ∷ reads ":0000000/01FF" 10 1
+    ∷ reads ":0000000:FF" 10 1
+    ∷ reads ":00000001F@" 10 1
+    ∷ reads ":00000001FG" 10 1
+    ∷ reads ":00000001F`" 10 1
+    ∷ reads ":00000001Fg" 10 1
+    ∷ reads ":00000001/F" 10 1
+    -- 10: "also a 01 or 04 of other offset or length", even where the sum is wrong too
+    ∷ reads ":00000101FE" 10 1
+    ∷ reads ":00010001FE" 10 1
+    ∷ reads ":0100000100FE" 10 1
+    ∷ reads ":0000010100" 10 1
+    ∷ reads ":0100000411EA" 10 1
+    ∷ reads ":03000004000000F9" 10 1
+    ∷ reads ":020001040000F9" 10 1
+    ∷ reads ":00000004FC" 10 1
+    -- 11 "sum wrong", before 12 and 13: the sum of 00 and the check byte alone, and a sum of 256
+    ∷ reads ":00000001FE" 11 1
+    ∷ reads ":0000000100" 11 1
+    ∷ reads ":02000002F00000" 11 1
+    ∷ reads ":01800000AAD4" 11 1
+    ∷ reads ":020000040000FB" 11 1
+    ∷ reads ":0000000000\n:00000001FF" 0 2
+    ∷ reads ":01000000FF00\n:00000001FF" 0 2
+    -- 12 "other type": 02, 03, 05 and FF
+    ∷ reads ":02000002F0000C" 12 1
+    ∷ reads ":0400000300000000F9" 12 1
+    ∷ reads ":0400000500000000F7" 12 1
+    ∷ reads ":000000FF01" 12 1
+    ∷ reads ":02FFFF02AABB99" 12 1
+    -- 13 "byte outside the array": no address is reduced; a record of no bytes, or a 04 record, names none
+    ∷ reads ":01800000AAD5\n:00000001FF" 13 1
+    ∷ reads ":017FFF00AAD7\n:00000001FF" 0 2
+    ∷ reads ":027FFF00AABB1B\n:00000001FF" 13 1
+    ∷ reads ":0080000080\n:00000001FF" 0 2
+    ∷ reads ":020000040001F9\n:00000001FF" 0 2
+    ∷ reads ":020000040001F9\n:0000000000\n:00000001FF" 0 3
+    ∷ reads ":020000040001F9\n:0100000011EE\n:00000001FF" 13 2
+    ∷ reads ":020000040100F9\n:0100000011EE\n:00000001FF" 13 2
+    ∷ reads ":020000040001F9\n:020000040000FA\n:0100000011EE\n:00000001FF" 0 4
+    -- 13 "offset passed": offset plus length is 65,536, and 65,537; of no bytes at FFFFh
+    ∷ readsIn 131072 ":01FFFF00AA57\n:00000001FF" 0 2
+    ∷ readsIn 131072 ":02FFFF00AABB9B\n:00000001FF" 13 1
+    ∷ readsIn 131072 ":00FFFF0002\n:00000001FF" 0 2
+    -- "its two data bytes", the higher first, hold until the next 04 record: byte 65,536 is in an array of 65,537 bytes
+    ∷ readsIn 65537 ":020000040001F9\n:0100000011EE\n:00000001FF" 0 3
+    ∷ readsIn 65536 ":020000040001F9\n:0100000011EE\n:00000001FF" 13 2
+    ∷ readsIn 65537 ":020000040100F9\n:0100000011EE\n:00000001FF" 13 2
+    ∷ readsIn 16777217 ":020000040100F9\n:0100000011EE\n:00000001FF" 0 3
+    ∷ readsIn 65538 ":020000040001F9\n:0100000011EE\n:0100010011ED\n:00000001FF" 0 4
+    -- "the first bad record deciding"
+    ∷ reads ":01800000AAD5\nx\n:00000001FF" 13 1
+    ∷ reads ":01000000AA55\n:02000002F0000C\n:00000001FE\n" 12 2
+    ∷ reads ":01000000AA55\n:00000001FE\n:01800000AAD5\n" 11 2
+    -- "an even byte address is a word's low half"; "Words and halves not named stay"
+    ∷ makes ":0400000034127856E8\n:03000a00cdab99e2\r\n:00000001ff\nrubbish" blank (0x1234 ∷ 0x5678 ∷ 0xFFFF ∷ 0xFFFF ∷ 0xFFFF ∷ 0xABCD ∷ 0xFF99 ∷ 0xFFFF ∷ [])
+    ∷ makes ":01000000AA55\n:00000001FF" (0x1234 ∷ 0x5678 ∷ []) (0x12AA ∷ 0x5678 ∷ [])
+    ∷ makes ":01000100AA54\n:00000001FF" (0x1234 ∷ 0x5678 ∷ []) (0xAA34 ∷ 0x5678 ∷ [])
+    ∷ makes ":02000100AABB98\n:00000001FF" (0x1234 ∷ 0x5678 ∷ []) (0xAA34 ∷ 0x56BB ∷ [])
+    -- "a byte named twice keeps the later value", in one record too where it wraps no address
+    ∷ makes ":01000000AA55\n:01000000BB44\n:01000100CC32\n:00000001FF" blank (0xCCBB ∷ replicate 7 0xFFFF)
+    ∷ makes ":01000000AA55\n:020000040000FA\n:01000000BB44\n:00000001FF" blank (0xFFBB ∷ replicate 7 0xFFFF)
+    -- what follows the end record, and the data of a 04 record, name nothing
+    ∷ makes ":00000001FF\n:01000000AA55\n" blank blank
+    ∷ makes ":020000040000FA\n:00000001FF\n" blank blank
+    -- the upper half of the address
+    ∷ makes ":020000040001F9\n:01000000AA55\n:00000001FF\n" blank blank
+    -- 1 "array length is not 256u", before the text's own
+    ∷ judges BenchBottom 16384 ":00000001FF" 0 1
+    ∷ judges BenchTop 16384 ":0100000000" 10 1
+    ∷ judges BenchBottom 16383 ":0100000000" 1 0
+    ∷ judges BenchTop 16385 ":00000001FF" 1 0
+    ∷ judges FullBottom 16384 ":00000001FF" 1 0
+    ∷ judges FullTop 0 "" 1 0
+    -- "upper case, LF after each record, 16 data bytes a record, lowest first, a 04 record before each .. the end record last"
+    ∷ prints 32768 (0x0000 ∷ 0x0101 ∷ 0x0202 ∷ 0x0303 ∷ 0x0404 ∷ 0x0505 ∷ 0x0606 ∷ 0x0707 ∷ 0x0808 ∷ 0x0909 ∷ 0x0A0A ∷ 0x0B0B ∷ 0x0C0C ∷ 0x0D0D ∷ 0x0E0E ∷ 0x0F0F ∷ []) 2
+    ":020000040000FA\n:1000000000000101020203030404050506060707B8\n:10001000080809090A0A0B0B0C0C0D0D0E0E0F0F28\n:00000001FF\n"
+    ∷ prints 65536 (0x1234 ∷ 0xABCD ∷ replicate 6 0xFFFF) 1 ":020000040000FA\n:100000003412CDABFFFFFFFFFFFFFFFFFFFFFFFF3E\n:00000001FF\n"
+    ∷ prints 16 (replicate 16 0xFFFF) 2
+    ":020000040000FA\n:10000000FFFFFFFFFFFFFFFFFFFFFFFFFFFFFFFF00\n:020000040000FA\n:10001000FFFFFFFFFFFFFFFFFFFFFFFFFFFFFFFFF0\n:00000001FF\n"
+    ∷ upper 1 ":020000040001F9\n"
+    ∷ upper 0x01FF ":0200000401FFFA\n"
+    -- 1 comes before 17, whose edges are `room-edges` (Laws)
+    ∷ writes BenchBottom 16383 90140 1 0
+    ∷ writes FullTop 16384 0 1 0
+    ∷ []
+
+pub cases-hold : T (every cases)
+unfolding recordLines digit allDigits pairs bytes malformed total sumWrong namedFrom namedBy outside recordRefusal refusalFrom linesFrom named byteAfter wordsAfter verdict tabulate digitOf digitsOf recordText bytesOf sixteenAt sixteens written
+cases-hold = tt
