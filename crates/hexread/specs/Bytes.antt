@@ -32,8 +32,9 @@ pub record Looked (line : List ℕ) (upper n : ℕ) (r : LineSeen) : Type 0 wher
   pub ends : r .refusal ≡ 0 → r .ends ≡ isEnd line
   pub upperThen : r .refusal ≡ 0 → r .upper ≡ upperAfter upper line
 
+-- one of a record's bytes is outside an array of n bytes, or its offset and length pass 65,536
 abbrev pub outsideOf : Header → ℕ → ℕ → Bool
-outsideOf h upper n = ltb 65536 (h .offset + h .count) || (eqb (h .kind) 0 && (not (eqb (h .count) 0) && ltb n (upper * 65536 + (h .offset + h .count))))
+outsideOf h upper n = (eqb (h .kind) 0 && (not (eqb (h .count) 0) && ltb n (upper * 65536 + h .offset + h .count))) || ltb 65536 (h .offset + h .count)
 
 abbrev pub judged : ℕ → List ℕ → Verdict
 judged n text = record { refusal = refusalFrom n 0 (recordLines text); line = linesFrom n 0 (recordLines text) }
@@ -45,7 +46,7 @@ unfolding pairs
 pairs-at [] i h = absurd (omega arith)
 pairs-at (a ∷ []) i h = absurd (omega arith)
 pairs-at (a ∷ b ∷ t) zero h = refl
-pairs-at (a ∷ b ∷ t) (suc i) h = 
+pairs-at (a ∷ b ∷ t) (suc i) h =
     let e : 2 * suc i ≡ suc (suc (2 * i)) = omega arith in
     let f : 2 * suc i + 1 ≡ suc (suc (2 * i + 1)) = omega arith in
     pairs-at t i (omega arith) ∙ rw (f, e)

@@ -1,3 +1,5 @@
 -- The modules of the specification.
 pub mod Ends
 pub mod Bytes
+pub mod Refusals
+pub mod Put

@@ -121,7 +121,7 @@ fn is_outside(h: Header, upper: u32, size: u64) -> bool
     if h.count == 0 {
         return false;
     }
-    (upper as u64) * 65536 + (h.offset + h.count) as u64 > size
+    (upper as u64) * 65536 + h.offset as u64 + h.count as u64 > size
 }
 
 // The refusal of a record, or 0, for an array of so many bytes.

@@ -1,0 +1,56 @@
+-- A byte put into an array of words: the first of the bytes that a text names may be put before the others.
+-- Assumes nothing.
+use Prim.Native.Nat.{ℕ, suc, _+_, _-_, _*_, _/_, _%_, _<_, _≤_}
+use mathlib.Core.Bool.{Bool, true, false, cond}
+use mathlib.Core.List.{List, [], _∷_}
+use mathlib.Core.Path.{_≡_, refl, sym, ap, subst, _∙_}
+use native.Mathlib.Omega.{arith}
+use native.Mathlib.Decide.{decLt}
+use lib.Dec.{eqb}
+use lib.ListN.{length, getD, set, length-set}
+use lib.Seq.{getD-set-same, getD-set-other}
+use borrow.Author.Tests.{eq-eqb, ne-eqb, eqb-true, eqb-false}
+use Rattle.semantics.specs.Tabulate.{tabulate, length-tabulate, getD-tabulate, tabulate-is}
+use Rattle.hex.specs.Records.{Named, byteAfter, wordAfter, wordsAfter}
+
+-- the word w with byte v as its low or its high half
+abbrev pub withLow : ℕ → ℕ → ℕ
+withLow w v = w / 256 * 256 + v
+
+abbrev pub withHigh : ℕ → ℕ → ℕ
+withHigh w v = v * 256 + w % 256
+
+module _ (l : List Named) (ws : List ℕ) where
+  -- what is put at a word of the array, by the halves of every word before and after
+  put-is : (x : Named) (after : List ℕ) → length after ≡ length ws
+      → ((i : ℕ) → i < length ws → (cond (eqb (x .address) (2 * i)) (x .value) (getD ws i 0 % 256) ≡ getD after i 0 % 256) × (cond (eqb (x .address) (2 * i + 1)) (x .value) (getD ws i 0 / 256) ≡ getD after i 0 / 256))
+      → wordsAfter (x ∷ l) ws ≡ wordsAfter l after
+  unfolding wordsAfter byteAfter
+  put-is x after e halves =
+      rw e (tabulate-is (length ws) (wordAfter l after) (tabulate (length ws) (wordAfter (x ∷ l) ws)) (length-tabulate (length ws) (wordAfter (x ∷ l) ws))
+      (λ i h. getD-tabulate (length ws) (wordAfter (x ∷ l) ws) i h ∙ rw (halves i h .0, halves i h .1)))
+
+  -- a byte whose word is replaced by `new`, which has the byte as one half and keeps the other
+  put-at : (a v new : ℕ) → a / 2 < length ws
+      → (cond (eqb a (2 * (a / 2))) v (getD ws (a / 2) 0 % 256) ≡ new % 256) × (cond (eqb a (2 * (a / 2) + 1)) v (getD ws (a / 2) 0 / 256) ≡ new / 256)
+      → wordsAfter (record { address = a; value = v } ∷ l) ws ≡ wordsAfter l (set ws (a / 2) new)
+  put-at a v new h here = put-is (record { address = a; value = v }) (set ws (a / 2) new) (length-set ws (a / 2) new) (λ i k. go i (eqb i (a / 2)) refl)
+    where
+      go : (i : ℕ) (t : Bool) → eqb i (a / 2) ≡ t
+          → (cond (eqb a (2 * i)) v (getD ws i 0 % 256) ≡ getD (set ws (a / 2) new) i 0 % 256) × (cond (eqb a (2 * i + 1)) v (getD ws i 0 / 256) ≡ getD (set ws (a / 2) new) i 0 / 256)
+      go i true e = rw (eqb-true i (a / 2) e, getD-set-same ws (a / 2) new 0 h) here
+      go i false e =
+          let n : (i ≡ a / 2 → ⊥) = eqb-false i (a / 2) e in
+          rw (ne-eqb a (2 * i) (λ q. n (omega arith)), ne-eqb a (2 * i + 1) (λ q. n (omega arith)), getD-set-other ws (a / 2) i new 0 n) (refl, refl)
+
+  pub put-low : (a v : ℕ) → a % 2 ≡ 0 → a / 2 < length ws → v < 256
+      → wordsAfter (record { address = a; value = v } ∷ l) ws ≡ wordsAfter l (set ws (a / 2) (withLow (getD ws (a / 2) 0) v))
+  put-low a v e h b =
+      put-at a v (withLow (getD ws (a / 2) 0) v) h
+      (rw (eq-eqb a (2 * (a / 2)) (omega arith)) (omega arith), rw (ne-eqb a (2 * (a / 2) + 1) (λ q. omega arith)) (omega arith))
+
+  pub put-high : (a v : ℕ) → (a % 2 ≡ 0 → ⊥) → a / 2 < length ws → v < 256
+      → wordsAfter (record { address = a; value = v } ∷ l) ws ≡ wordsAfter l (set ws (a / 2) (withHigh (getD ws (a / 2) 0) v))
+  put-high a v e h b =
+      put-at a v (withHigh (getD ws (a / 2) 0) v) h
+      (rw (ne-eqb a (2 * (a / 2)) (λ q. e (omega arith))) (omega arith), rw (eq-eqb a (2 * (a / 2) + 1) (omega arith)) (omega arith))
