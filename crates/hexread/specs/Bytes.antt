@@ -5,13 +5,13 @@ use mathlib.Core.List.{List, [], _∷_}
 use mathlib.Core.Path.{_≡_, refl, sym, ap, _∙_}
 use native.Mathlib.Omega.{arith}
 use lib.Dec.{eqb, ltb}
-use lib.ListN.{length, getD, take, drop, length-drop}
+use lib.ListN.{length, getD, take, drop, length-drop, drop-of-length-le}
 use lib.Seq.{drop-cons, drop-drop, getD-drop}
 use native.Mathlib.Numerals.{add-one}
 use borrow.Author.Tests.{ltb-true}
 use Rattle.semantics.specs.Engine.{and-true-l, and-true-r}
 use Rattle.hex.specs.declared.Verdict.{Verdict}
-use Rattle.hex.specs.Records.{digit, allDigits, pairs, bytes, total, count, offset, kind, isEnd, upperAfter, recordLines, recordRefusal, refusalFrom, linesFrom}
+use Rattle.hex.specs.Records.{digit, allDigits, pairs, bytes, total, count, offset, kind, isEnd, shaped, otherType, upperAfter, recordLines, recordRefusal, refusalFrom, linesFrom}
 use Rattle.hexread.specs.declared.Header.{Header}
 use Rattle.hexread.specs.declared.Scanned.{Scanned}
 use Rattle.hexread.specs.declared.LineSeen.{LineSeen}
@@ -36,8 +36,35 @@ pub record Looked (line : List ℕ) (upper n : ℕ) (r : LineSeen) : Type 0 wher
 abbrev pub outsideOf : Header → ℕ → ℕ → Bool
 outsideOf h upper n = (eqb (h .kind) 0 && (not (eqb (h .count) 0) && ltb n (upper * 65536 + h .offset + h .count))) || ltb 65536 (h .offset + h .count)
 
+-- the refusal of a record of the right length that begins with a colon
+abbrev pub refusalBy : Header → Scanned → ℕ → ℕ → ℕ
+refusalBy h s upper n =
+    cond (not (s .digits && shaped (h .kind) (h .offset) (h .count))) 10
+    (cond (not (eqb (s .sum) 0)) 11 (cond (otherType (h .kind)) 12 (cond (outsideOf h upper n) 13 0)))
+
 abbrev pub judged : ℕ → List ℕ → Verdict
 judged n text = record { refusal = refusalFrom n 0 (recordLines text); line = linesFrom n 0 (recordLines text) }
+
+pub and-true : (s : Bool) → (s && true) ≡ s
+and-true true = refl
+and-true false = refl
+
+pub or-true : (s : Bool) → (s || true) ≡ true
+or-true true = refl
+or-true false = refl
+
+pub or-false : (s : Bool) → (s || false) ≡ s
+or-false true = refl
+or-false false = refl
+
+pub other-type : (k : ℕ) → otherType k ≡ (not (eqb k 0) && (not (eqb k 1) && not (eqb k 4)))
+other-type k = go (eqb k 0) (eqb k 1) (eqb k 4)
+  where
+    go : (a b c : Bool) → not (a || (b || c)) ≡ (not a && (not b && not c))
+    go true b c = refl
+    go false true c = refl
+    go false false true = refl
+    go false false false = refl
 
 -- ---- the bytes by their places
 
@@ -92,3 +119,58 @@ module _ (line : List ℕ) where
   pub digits-next : (at : ℕ) → at + 1 < length line → allDigits (drop at line) ≡ (ltb (digit (getD line at 0)) 16 && (ltb (digit (getD line (at + 1) 0)) 16 && allDigits (drop (at + 2) line)))
   unfolding allDigits
   digits-next at h = let e : suc (suc at) ≡ at + 2 = omega arith in rw (drop-cons line at 0 (omega arith), drop-cons line (suc at) 0 (omega arith), add-one at, ← e)
+
+-- ---- the loop that scans a record, two digits a round
+
+-- after i bytes: what is left to be looked at decides the rest
+pub record Scanning (line : List ℕ) (n : ℕ) (digits : Bool) (sum i : ℕ) : Type 0 where
+  pub within : i ≤ n
+  pub small : sum < 256
+  pub digits-left : (digits && allDigits (drop (2 * i + 1) line)) ≡ allDigits (drop 1 line)
+  pub sum-left : (sum + total (pairs (drop (2 * i + 1) line))) % 256 ≡ total (bytes line) % 256
+
+and-rest : (s a b t : Bool) → ((s && (a && b)) && t) ≡ (s && (a && (b && t)))
+and-rest true true b t = refl
+and-rest true false b t = refl
+and-rest false a b t = refl
+
+total-next : (b : ℕ) (t : List ℕ) → total (b ∷ t) ≡ b + total t
+unfolding total
+total-next b t = refl
+
+module _ (line : List ℕ) (n : ℕ) (size : length line ≡ 2 * n + 1) where
+  pub scan-start : Scanning line n true 0 0
+  unfolding bytes
+  scan-start = record { within = omega arith; small = omega arith; digits-left = refl; sum-left = let e : 0 + total (pairs (drop 1 line)) ≡ total (pairs (drop 1 line)) = omega arith in rw e }
+
+  pub scan-step : (digits : Bool) (sum i next : ℕ) → Scanning line n digits sum i → i < n → next ≡ (sum + pairAt line (2 * i + 1) % 256) % 256
+      → Scanning line n (digits && (ltb (digit (getD line (2 * i + 1) 0)) 16 && ltb (digit (getD line (2 * i + 2) 0)) 16)) next (i + 1)
+  scan-step digits sum i next inv h e = record {
+        within = omega arith;
+        small = omega arith;
+        digits-left = rw place (and-rest digits a b (allDigits rest) ∙ ap (λ (t : Bool). digits && t) (sym (rw two at (digits-next line (2 * i + 1) (omega arith)))) ∙ inv .digits-left);
+        sum-left = rw place (omega (arith, inv .sum-left, ap total (pairs-next line (2 * i + 1) (omega arith)), total-next (pairAt line (2 * i + 1)) (pairs rest)))
+      }
+    where
+      rest : List ℕ
+      rest = drop (2 * i + 1 + 2) line
+
+      a : Bool
+      a = ltb (digit (getD line (2 * i + 1) 0)) 16
+
+      b : Bool
+      b = ltb (digit (getD line (2 * i + 2) 0)) 16
+
+      place : 2 * (i + 1) + 1 ≡ 2 * i + 1 + 2
+      place = omega arith
+
+      two : 2 * i + 1 + 1 ≡ 2 * i + 2
+      two = omega arith
+
+  pub scan-end : (digits : Bool) (sum i : ℕ) → Scanning line n digits sum i → n ≤ i → (digits ≡ allDigits (drop 1 line)) × (sum ≡ total (bytes line) % 256)
+  unfolding allDigits pairs total
+  scan-end digits sum i inv h =
+      let none : drop (2 * i + 1) line ≡ [] = drop-of-length-le line {i = 2 * i + 1} (omega arith) in
+      let d : (digits && true) ≡ allDigits (drop 1 line) = rw none at (inv .digits-left) in
+      let s : (sum + 0) % 256 ≡ total (bytes line) % 256 = rw none at (inv .sum-left) in
+      (sym (and-true digits) ∙ d, omega (arith, s, inv .small))

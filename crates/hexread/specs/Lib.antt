@@ -3,3 +3,4 @@ pub mod Ends
 pub mod Bytes
 pub mod Refusals
 pub mod Put
+pub mod Judging

@@ -11,28 +11,18 @@ use lib.ListN.{length, getD, take, drop, length-take, length-drop}
 use borrow.Author.Tests.{eq-eqb, ne-eqb, lt-ltb, le-ltb, le-leb, lt-leb, leb-false, eqb-true, eqb-false, not-true, not-false}
 use Rattle.semantics.specs.Engine.{and-true-l, and-true-r}
 use Rattle.hex.specs.Records.{allDigits, bytes, count, offset, kind, dataOf, framed, shaped, malformed, total, sumWrong, otherType, namedFrom, namedBy, outside, passes, recordRefusal}
-use Rattle.hexread.specs.Bytes.{headerOf, outsideOf, length-pairs}
+use Rattle.hexread.specs.Bytes.{headerOf, scanned, outsideOf, refusalBy, and-true, length-pairs}
 
 -- ---- a malformed record
 
--- of four things that must hold, one does not
+-- of four things that must hold, the first or the third does not
 ill-1 : (a b c d : Bool) → a ≡ false → not ((a && (b && c)) && d) ≡ true
 ill-1 a b c d e = rw e
-
-ill-2 : (a b c d : Bool) → b ≡ false → not ((a && (b && c)) && d) ≡ true
-ill-2 true b c d e = rw e
-ill-2 false b c d e = refl
 
 ill-3 : (a b c d : Bool) → c ≡ false → not ((a && (b && c)) && d) ≡ true
 ill-3 true true c d e = rw e
 ill-3 true false c d e = refl
 ill-3 false b c d e = refl
-
-ill-4 : (a b c d : Bool) → d ≡ false → not ((a && (b && c)) && d) ≡ true
-ill-4 true true true d e = rw e
-ill-4 true true false d e = refl
-ill-4 true false c d e = refl
-ill-4 false b c d e = refl
 
 -- the number of characters that a record has
 abbrev whole : List ℕ → ℕ
@@ -47,18 +37,10 @@ module _ (n upper : ℕ) (line : List ℕ) where
   unfolding malformed
   no-colon h = ten (ill-1 (eqb (getD line 0 0) 58) (allDigits (drop 1 line)) (eqb (length line) (whole line)) (shaped (kind line) (offset line) (count line)) (ne-eqb (getD line 0 0) 58 h))
 
-  pub no-digit : allDigits (drop 1 line) ≡ false → recordRefusal n upper line ≡ 10
-  unfolding malformed
-  no-digit h = ten (ill-2 (eqb (getD line 0 0) 58) (allDigits (drop 1 line)) (eqb (length line) (whole line)) (shaped (kind line) (offset line) (count line)) h)
-
   pub other-size : (length line ≡ 2 * (5 + count line) + 1 → ⊥) → recordRefusal n upper line ≡ 10
   unfolding malformed
   other-size h =
       ten (ill-3 (eqb (getD line 0 0) 58) (allDigits (drop 1 line)) (eqb (length line) (whole line)) (shaped (kind line) (offset line) (count line)) (ne-eqb (length line) (whole line) (λ e. h (e ∙ omega arith))))
-
-  pub other-shape : shaped (kind line) (offset line) (count line) ≡ false → recordRefusal n upper line ≡ 10
-  unfolding malformed
-  other-shape h = ten (ill-4 (eqb (getD line 0 0) 58) (allDigits (drop 1 line)) (eqb (length line) (whole line)) (shaped (kind line) (offset line) (count line)) h)
 
 -- ---- a record that is not malformed
 
@@ -67,6 +49,15 @@ pub record Formed (line : List ℕ) : Type 0 where
   pub digits : allDigits (drop 1 line) ≡ true
   pub size : length line ≡ 2 * (5 + count line) + 1
   pub shape : shaped (kind line) (offset line) (count line) ≡ true
+
+-- it has its header and its check byte, and a 04 record its two data bytes
+pub long-enough : (line : List ℕ) → Formed line → 11 ≤ length line
+long-enough line formed = omega (arith, formed .size)
+
+pub long-upper : (line : List ℕ) → Formed line → kind line ≡ 4 → 13 ≤ length line
+long-upper line formed e =
+    let both : (eqb (offset line) 0 && eqb (count line) 2) ≡ true = rw e at (formed .shape) in
+    omega (arith, formed .size, eqb-true (count line) 2 (and-true-r (eqb (offset line) 0) (eqb (count line) 2) both))
 
 -- consecutive bytes: one is outside where there is one, and the last is
 outside-from : (n a : ℕ) (bs : List ℕ) → outside n (namedFrom a bs) ≡ (not (eqb (length bs) 0) && ltb n (a + length bs))
@@ -83,22 +74,12 @@ outside-none : (n : ℕ) → outside n [] ≡ false
 unfolding outside
 outside-none n = refl
 
-module _ (n upper : ℕ) (line : List ℕ) (formed : Formed line) where
-  well : malformed line ≡ false
-  unfolding malformed
-  well =
-      let e : length line ≡ whole line = formed .size ∙ omega arith in
-      rw (eq-eqb (getD line 0 0) 58 (formed .colon), formed .digits, eq-eqb (length line) (whole line) e, formed .shape)
-
-  pub sum-wrong : (total (bytes line) % 256 ≡ 0 → ⊥) → recordRefusal n upper line ≡ 11
-  unfolding recordRefusal sumWrong
-  sum-wrong h = rw (well, ne-eqb (total (bytes line) % 256) 0 h)
-
+module _ (n upper : ℕ) (line : List ℕ) (size : length line ≡ 2 * (5 + count line) + 1) where
   -- the data are as many as the record says
   pub data-length : length (dataOf line) ≡ count line
   unfolding bytes
   data-length =
-      let e : length (bytes line) ≡ 5 + count line = length-pairs (5 + count line) (drop 1 line) (omega (arith, length-drop 1 line, formed .size)) in
+      let e : length (bytes line) ≡ 5 + count line = length-pairs (5 + count line) (drop 1 line) (omega (arith, length-drop 1 line)) in
       simp (length-take, length-drop) (omega arith)
 
   outside-is : (outside n (namedBy upper line) || passes line) ≡ outsideOf (headerOf line) upper n
@@ -112,14 +93,12 @@ module _ (n upper : ℕ) (line : List ℕ) (formed : Formed line) where
       go true = rw (outside-from n a (dataOf line), data-length)
       go false = rw outside-none
 
-  module _ (sum : total (bytes line) % 256 ≡ 0) where
-    pub other-type : otherType (kind line) ≡ true → recordRefusal n upper line ≡ 12
-    unfolding recordRefusal sumWrong
-    other-type h = rw (well, eq-eqb (total (bytes line) % 256) 0 sum, h)
-
-    pub by-place : otherType (kind line) ≡ false → recordRefusal n upper line ≡ cond (outsideOf (headerOf line) upper n) 13 0
-    unfolding recordRefusal sumWrong
-    by-place h = rw (well, eq-eqb (total (bytes line) % 256) 0 sum, h, outside-is)
+  -- what is left to be looked at
+  pub by-parts : getD line 0 0 ≡ 58 → recordRefusal n upper line ≡ refusalBy (headerOf line) (scanned line) upper n
+  unfolding recordRefusal malformed sumWrong
+  by-parts colon =
+      let e : length line ≡ whole line = size ∙ omega arith in
+      rw (outside-is, eq-eqb (getD line 0 0) 58 colon, eq-eqb (length line) (whole line) e, and-true)
 
 -- ---- a good record
 
@@ -154,4 +133,4 @@ unfolding recordRefusal
 good-if n upper line e =
     let z : (malformed line ≡ false) × ((sumWrong line ≡ false) × ((otherType (kind line) ≡ false) × ((outside n (namedBy upper line) || passes line) ≡ false))) = none (malformed line) (sumWrong line) (otherType (kind line)) (outside n (namedBy upper line) || passes line) e in
     let f : Formed line = formed-if line (z .0) in
-    record { formed = f; type = z .1 .1 .0; inside = sym (outside-is n upper line f) ∙ z .1 .1 .1 }
+    record { formed = f; type = z .1 .1 .0; inside = sym (outside-is n upper line (f .size)) ∙ z .1 .1 .1 }

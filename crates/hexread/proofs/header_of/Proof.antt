@@ -1,9 +1,10 @@
+-- `hexread::header_of` meets its contract. Assumes nothing.
+use native.Mathlib.Omega.{arith}
 use borrow.Author.Needs.{needs}
+use denote.Ref.{now}
+use Rattle.hexread.specs.Bytes.{byte-is}
 use Rattle.hexread.proofs.header_of.Statement.{statement}
 use Rattle.hexread.proofs.header_of.Tie as tie
-use Rattle.hexread.proofs.header_of.Reads as reads
-use Rattle.hexread.proofs.header_of.Lts as lts
-use Rattle.hexread.proofs.byte_at.Reads as byte-at-reads
 
 byte-at-requires : tie.Need-byte-at-requires
 byte-at-requires c κs = search needs
@@ -36,7 +37,10 @@ cast-kind : tie.Need-cast-kind
 cast-kind c = search needs
 
 returns : tie.Need-returns
-returns c = ?
+returns c =
+    let l = now (c .before .before .before .before .before .args .line) in
+    rw (c .before .before .before .byte-at .ensures, c .before .before .byte-at2 .ensures, c .before .byte-at3 .ensures, c .byte-at4 .ensures,
+    byte-is l 0 (omega arith), byte-is l 1 (omega arith), byte-is l 2 (omega arith), byte-is l 3 (omega arith))
 
 pub header-of-spec : {M : Type 1} → statement M
 header-of-spec =

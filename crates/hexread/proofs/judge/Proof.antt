@@ -1,11 +1,7 @@
+-- `hexread::judge` meets its contract. Assumes nothing.
 use borrow.Author.Needs.{needs}
 use Rattle.hexread.proofs.judge.Statement.{statement}
 use Rattle.hexread.proofs.judge.Tie as tie
-use Rattle.hexread.proofs.judge.Reads as reads
-use Rattle.hexread.proofs.judge.Lts as lts
-use Rattle.hexread.proofs.look.Reads as look-reads
-use Rattle.hexread.proofs.record_end.Reads as record-end-reads
-use Rattle.lines.proofs.taken_at.Reads as taken-at-reads
 
 abbrev Inv-loop : tie.InvT-loop
 Inv-loop text size at₀ upper₀ number₀ at upper number = ?

@@ -1,29 +1,40 @@
+-- `hexread::look` meets its contract. Assumes nothing.
+use mathlib.Core.Bool.{false}
+use mathlib.Core.Path.{_≡_, refl, sym, ap, _∙_}
 use borrow.Author.Needs.{needs}
+use borrow.Author.Tests.{ne-eqb}
+use denote.Ref.{now}
+use lib.Dec.{eqb}
+use Rattle.hex.specs.Records.{kind}
+use Rattle.hexread.specs.declared.Header.{Header}
+use Rattle.hexread.specs.Bytes.{Looked}
+use Rattle.hexread.specs.Refusals.{long-enough, long-upper, good-if}
 use Rattle.hexread.proofs.look.Statement.{statement}
 use Rattle.hexread.proofs.look.Tie as tie
-use Rattle.hexread.proofs.look.Reads as reads
-use Rattle.hexread.proofs.look.Lts as lts
-use Rattle.hexread.proofs.header_of.Reads as header-of-reads
-use Rattle.hexread.proofs.refusal_of.Reads as refusal-of-reads
-use Rattle.hexread.proofs.upper_of.Reads as upper-of-reads
 
 refusal-of-requires : tie.Need-refusal-of-requires
 refusal-of-requires c κs = search needs
 
 returns : tie.Need-returns
-returns c = ?
+returns c = record { refusal = c .before .refusal-of .ensures; ends = λ e. absurd (c .if1 .taken e); upperThen = λ e. absurd (c .if1 .taken e) }
 
 header-of-requires : tie.Need-header-of-requires
-header-of-requires c κs = ?
+header-of-requires c κs = long-enough _ (good-if _ _ _ (sym (c .before .refusal-of .ensures) ∙ c .if1 .left) .formed)
 
 upper-of-requires : tie.Need-upper-of-requires
-upper-of-requires c κs = ?
+upper-of-requires c κs =
+    long-upper _ (good-if _ _ _ (sym (c .before .before .before .before .refusal-of .ensures) ∙ c .before .before .before .if1 .left) .formed) (sym (ap (λ (h : Header). h .kind) (c .before .before .header-of .ensures)) ∙ c .if2 .taken)
 
 returns-2 : tie.Need-returns-2
-returns-2 c = ?
+returns-2 c =
+    let four : kind (now (c .before .before .before .before .before .before .before .args .line)) ≡ 4 = sym (ap (λ (h : Header). h .kind) (c .before .before .before .header-of .ensures)) ∙ c .before .if2 .taken in
+    record { refusal = sym (c .before .before .before .before .if1 .left) ∙ c .before .before .before .before .before .refusal-of .ensures; ends = λ e. rw four; upperThen = λ e. rw four (c .upper-of .ensures) }
 
 returns-3 : tie.Need-returns-3
-returns-3 c = ?
+returns-3 c =
+    let same : c .before .before .before .header-of .result .kind ≡ kind (now (c .before .before .before .before .before .before .before .args .line)) = ap (λ (h : Header). h .kind) (c .before .before .before .header-of .ensures) in
+    let other : eqb (kind (now (c .before .before .before .before .before .before .before .args .line))) 4 ≡ false = ne-eqb _ 4 (λ e. c .before .if2 .left (same ∙ e)) in
+    record { refusal = sym (c .before .before .before .before .if1 .left) ∙ c .before .before .before .before .before .refusal-of .ensures; ends = λ e. rw same; upperThen = λ e. rw other }
 
 pub look-spec : {M : Type 1} → statement M
 look-spec =

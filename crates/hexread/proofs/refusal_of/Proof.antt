@@ -1,15 +1,18 @@
+-- `hexread::refusal_of` meets its contract. Assumes nothing.
+use Prim.Native.Nat.{_+_, _*_}
+use mathlib.Core.Path.{_≡_, sym, ap, _∙_}
+use native.Mathlib.Omega.{arith}
 use borrow.Author.Needs.{needs}
+use denote.Ref.{now}
+use lib.ListN.{length}
+use Rattle.hex.specs.Records.{count}
+use Rattle.hexread.specs.declared.Header.{Header}
+use Rattle.hexread.specs.Refusals.{no-colon, other-size, by-parts}
 use Rattle.hexread.proofs.refusal_of.Statement.{statement}
 use Rattle.hexread.proofs.refusal_of.Tie as tie
-use Rattle.hexread.proofs.refusal_of.Reads as reads
-use Rattle.hexread.proofs.refusal_of.Lts as lts
-use Rattle.hexread.proofs.header_of.Reads as header-of-reads
-use Rattle.hexread.proofs.is_outside.Reads as is-outside-reads
-use Rattle.hexread.proofs.is_shaped.Reads as is-shaped-reads
-use Rattle.hexread.proofs.scan.Reads as scan-reads
 
 returns : tie.Need-returns
-returns c = ?
+returns c = sym (other-size _ _ _ (λ e. omega arith))
 
 header-of-requires : tie.Need-header-of-requires
 header-of-requires c κs = search needs
@@ -27,40 +30,26 @@ add-if2 : tie.Need-add-if2
 add-if2 c = search needs
 
 returns-2 : tie.Need-returns-2
-returns-2 c = ?
+returns-2 c =
+    let k : c .before .before .header-of .result .count ≡ count (now (c .before .before .before .before .before .args .line)) = ap (λ (h : Header). h .count) (c .before .before .header-of .ensures) in
+    sym (other-size _ _ _ (λ e. c .if2 .taken (omega arith)))
 
 shared-slice-read-if3 : tie.Need-shared-slice-read-if3
 shared-slice-read-if3 c = search needs
 
 returns-3 : tie.Need-returns-3
-returns-3 c = ?
+returns-3 c = sym (no-colon _ _ _ (c .if3 .taken))
 
 scan-requires : tie.Need-scan-requires
 scan-requires c κs = search needs
 
+refusal-by-requires : tie.Need-refusal-by-requires
+refusal-by-requires c κs = search needs
+
 returns-4 : tie.Need-returns-4
-returns-4 c = ?
-
-is-shaped-requires : tie.Need-is-shaped-requires
-is-shaped-requires c κs = search needs
-
-returns-5 : tie.Need-returns-5
-returns-5 c = ?
-
-returns-6 : tie.Need-returns-6
-returns-6 c = ?
-
-returns-7 : tie.Need-returns-7
-returns-7 c = ?
-
-is-outside-requires : tie.Need-is-outside-requires
-is-outside-requires c κs = ?
-
-returns-8 : tie.Need-returns-8
-returns-8 c = ?
-
-returns-9 : tie.Need-returns-9
-returns-9 c = ?
+returns-4 c =
+    let k : c .before .before .before .before .before .before .header-of .result .count ≡ count (now (c .before .before .before .before .before .before .before .before .before .args .line)) = ap (λ (h : Header). h .count) (c .before .before .before .before .before .before .header-of .ensures) in
+    c .refusal-by .ensures ∙ rw (c .before .before .before .before .before .before .header-of .ensures, c .before .scan .ensures) (sym (by-parts _ _ _ (omega arith) (c .before .before .if3 .left)))
 
 pub refusal-of-spec : {M : Type 1} → statement M
 refusal-of-spec =
@@ -76,11 +65,5 @@ refusal-of-spec =
     shared-slice-read-if3
     returns-3
     scan-requires
-    returns-4
-    is-shaped-requires
-    returns-5
-    returns-6
-    returns-7
-    is-outside-requires
-    returns-8
-    returns-9)
+    refusal-by-requires
+    returns-4)

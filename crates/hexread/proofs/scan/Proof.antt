@@ -1,19 +1,20 @@
+-- `hexread::scan` meets its contract. Assumes nothing.
+use Prim.Native.Nat.{_+_, _-_, _*_}
+use mathlib.Core.Path.{_≡_, _∙_}
+use native.Mathlib.Omega.{arith}
 use borrow.Author.Needs.{needs}
+use Rattle.hexread.specs.Bytes.{Scanning, scan-start, scan-step, scan-end}
 use Rattle.hexread.proofs.scan.Statement.{statement}
 use Rattle.hexread.proofs.scan.Tie as tie
-use Rattle.hexread.proofs.scan.Reads as reads
-use Rattle.hexread.proofs.scan.Lts as lts
-use Rattle.hexread.proofs.digit.Reads as digit-reads
-use Rattle.std.proofs.num.wrapping_add_u8.Reads as wrapping-add-u8-reads
 
 abbrev Inv-loop : tie.InvT-loop
-Inv-loop line n digits₀ sum₀ i₀ digits sum i = ?
+Inv-loop line n digits₀ sum₀ i₀ digits sum i = Scanning line n digits sum i
 
 abbrev μ-loop : tie.MeasureT-loop
-μ-loop line n digits₀ sum₀ i₀ digits sum i = ?
+μ-loop line n digits₀ sum₀ i₀ digits sum i = n - i
 
 loop-holds : tie.Need-loop-holds Inv-loop μ-loop
-loop-holds c = ?
+loop-holds c = scan-start _ _ (c .before .pre)
 
 mul-digit : tie.Need-mul-digit Inv-loop μ-loop
 mul-digit c = search needs
@@ -39,20 +40,20 @@ shared-slice-read-digit-2 c = search needs
 digit-requires-2 : tie.Need-digit-requires-2 Inv-loop μ-loop
 digit-requires-2 c κs = search needs
 
+cast-byte : tie.Need-cast-byte Inv-loop μ-loop
+cast-byte c = search needs
+
+mul-byte : tie.Need-mul-byte Inv-loop μ-loop
+mul-byte c = search needs
+
+cast-byte-2 : tie.Need-cast-byte-2 Inv-loop μ-loop
+cast-byte-2 c = search needs
+
+add-byte : tie.Need-add-byte Inv-loop μ-loop
+add-byte c = search needs
+
 cast-wrapping-add-u8 : tie.Need-cast-wrapping-add-u8 Inv-loop μ-loop
 cast-wrapping-add-u8 c = search needs
-
-mul-wrapping-add-u8 : tie.Need-mul-wrapping-add-u8 Inv-loop μ-loop
-mul-wrapping-add-u8 c = search needs
-
-cast-wrapping-add-u8-2 : tie.Need-cast-wrapping-add-u8-2 Inv-loop μ-loop
-cast-wrapping-add-u8-2 c = search needs
-
-add-wrapping-add-u8 : tie.Need-add-wrapping-add-u8 Inv-loop μ-loop
-add-wrapping-add-u8 c = search needs
-
-cast-wrapping-add-u8-3 : tie.Need-cast-wrapping-add-u8-3 Inv-loop μ-loop
-cast-wrapping-add-u8-3 c = search needs
 
 wrapping-add-u8-requires : tie.Need-wrapping-add-u8-requires Inv-loop μ-loop
 wrapping-add-u8-requires c κs = search needs
@@ -64,10 +65,16 @@ loop-less : tie.Need-loop-less Inv-loop μ-loop
 loop-less c = search needs
 
 loop-again : tie.Need-loop-again Inv-loop μ-loop
-loop-again c = ?
+loop-again c =
+    let i = c .before .before .before .before .before .before .loop .i in
+    let two : 2 * i + 1 + 1 ≡ 2 * i + 2 = omega arith in
+    rw (c .before .before .before .digit .ensures, c .before .digit2 .ensures)
+    (scan-step _ _ (c .before .before .before .before .before .before .before .before .pre) _ _ _ _ (c .before .before .before .before .before .before .loop .inv) (omega arith) (rw two (c .wrapping-add-u8 .ensures ∙ rw (c .before .before .before .digit .ensures, c .before .digit2 .ensures))))
 
 returns : tie.Need-returns Inv-loop μ-loop
-returns c = ?
+returns c =
+    let e = scan-end _ _ (c .before .before .before .pre) (c .before .loop .digits) (c .before .loop .sum) _ (c .before .loop .inv) (omega arith) in
+    rw (e .0, e .1)
 
 pub scan-spec : {M : Type 1} → statement M
 scan-spec =
@@ -84,11 +91,11 @@ scan-spec =
     add-digit-2
     shared-slice-read-digit-2
     digit-requires-2
+    cast-byte
+    mul-byte
+    cast-byte-2
+    add-byte
     cast-wrapping-add-u8
-    mul-wrapping-add-u8
-    cast-wrapping-add-u8-2
-    add-wrapping-add-u8
-    cast-wrapping-add-u8-3
     wrapping-add-u8-requires
     add-i
     loop-less

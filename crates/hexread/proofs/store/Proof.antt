@@ -1,9 +1,7 @@
+-- `hexread::store` meets its contract. Assumes nothing.
 use borrow.Author.Needs.{needs}
 use Rattle.hexread.proofs.store.Statement.{statement}
 use Rattle.hexread.proofs.store.Tie as tie
-use Rattle.hexread.proofs.store.Reads as reads
-use Rattle.hexread.proofs.store.Lts as lts
-use Rattle.hexread.proofs.byte_at.Reads as byte-at-reads
 
 abbrev Inv-loop : tie.InvT-loop
 Inv-loop line start count array₀ i₀ array i = ?

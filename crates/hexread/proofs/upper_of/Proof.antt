@@ -1,9 +1,10 @@
+-- `hexread::upper_of` meets its contract. Assumes nothing.
+use native.Mathlib.Omega.{arith}
 use borrow.Author.Needs.{needs}
+use denote.Ref.{now}
+use Rattle.hexread.specs.Bytes.{byte-is}
 use Rattle.hexread.proofs.upper_of.Statement.{statement}
 use Rattle.hexread.proofs.upper_of.Tie as tie
-use Rattle.hexread.proofs.upper_of.Reads as reads
-use Rattle.hexread.proofs.upper_of.Lts as lts
-use Rattle.hexread.proofs.byte_at.Reads as byte-at-reads
 
 byte-at-requires : tie.Need-byte-at-requires
 byte-at-requires c κs = search needs
@@ -24,7 +25,9 @@ add-result : tie.Need-add-result
 add-result c = search needs
 
 returns : tie.Need-returns
-returns c = ?
+returns c =
+    let l = now (c .before .before .before .args .line) in
+    rw (c .before .byte-at .ensures, c .byte-at2 .ensures, byte-is l 4 (omega arith), byte-is l 5 (omega arith))
 
 pub upper-of-spec : {M : Type 1} → statement M
 upper-of-spec =

@@ -1,0 +1,49 @@
+-- `hexread::refusal_by` meets its contract. Assumes nothing.
+use borrow.Author.Needs.{needs}
+use borrow.Author.Tests.{eq-eqb, ne-eqb, not-true, not-false}
+use Rattle.hexread.specs.Bytes.{other-type}
+use Rattle.hexread.proofs.refusal_by.Statement.{statement}
+use Rattle.hexread.proofs.refusal_by.Tie as tie
+
+returns : tie.Need-returns
+returns c = rw (not-true (c .before .before .args .s .digits) (c .if1 .taken))
+
+is-shaped-requires : tie.Need-is-shaped-requires
+is-shaped-requires c κs = search needs
+
+returns-2 : tie.Need-returns-2
+returns-2 c = simp (not-false (c .before .before .before .before .args .s .digits) (c .before .before .if1 .left), ← c .before .is-shaped .ensures, not-true (c .before .is-shaped .result) (c .if2 .taken))
+
+returns-3 : tie.Need-returns-3
+returns-3 c =
+    simp (not-false (c .before .before .before .before .before .before .args .s .digits) (c .before .before .before .before .if1 .left), ← c .before .before .before .is-shaped .ensures, not-false (c .before .before .before .is-shaped .result) (c .before .before .if2 .left), ne-eqb (c .before .before .before .before .before .before .args .s .sum) 0 (c .if3 .taken))
+
+returns-4 : tie.Need-returns-4
+returns-4 c =
+    simp (not-false (c .before .before .before .before .before .before .before .before .before .before .args .s .digits) (c .before .before .before .before .before .before .before .before .if1 .left), ← c .before .before .before .before .before .before .before .is-shaped .ensures, not-false (c .before .before .before .before .before .before .before .is-shaped .result) (c .before .before .before .before .before .before .if2 .left), eq-eqb (c .before .before .before .before .before .before .before .before .before .before .args .s .sum) 0 (c .before .before .before .before .if3 .left), other-type, c .if4 .taken)
+
+is-outside-requires : tie.Need-is-outside-requires
+is-outside-requires c κs = search needs
+
+returns-5 : tie.Need-returns-5
+returns-5 c =
+    simp (not-false (c .before .before .before .before .before .before .before .before .before .before .before .before .args .s .digits) (c .before .before .before .before .before .before .before .before .before .before .if1 .left), ← c .before .before .before .before .before .before .before .before .before .is-shaped .ensures, not-false (c .before .before .before .before .before .before .before .before .before .is-shaped .result) (c .before .before .before .before .before .before .before .before .if2 .left), eq-eqb (c .before .before .before .before .before .before .before .before .before .before .before .before .args .s .sum) 0 (c .before .before .before .before .before .before .if3 .left), other-type, c .before .before .if4 .left,
+    ← c .before .is-outside .ensures, c .if5 .taken)
+
+returns-6 : tie.Need-returns-6
+returns-6 c =
+    simp (not-false (c .before .before .before .before .before .before .before .before .before .before .before .before .args .s .digits) (c .before .before .before .before .before .before .before .before .before .before .if1 .left), ← c .before .before .before .before .before .before .before .before .before .is-shaped .ensures, not-false (c .before .before .before .before .before .before .before .before .before .is-shaped .result) (c .before .before .before .before .before .before .before .before .if2 .left), eq-eqb (c .before .before .before .before .before .before .before .before .before .before .before .before .args .s .sum) 0 (c .before .before .before .before .before .before .if3 .left), other-type, c .before .before .if4 .left,
+    ← c .before .is-outside .ensures, c .if5 .left)
+
+pub refusal-by-spec : {M : Type 1} → statement M
+refusal-by-spec =
+    tie.close
+    (tie.spec
+    returns
+    is-shaped-requires
+    returns-2
+    returns-3
+    returns-4
+    is-outside-requires
+    returns-5
+    returns-6)
