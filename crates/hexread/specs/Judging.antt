@@ -13,7 +13,8 @@ use Rattle.lines.specs.Lines.{lineEnd, lineNext, takenAt, end-from, end-within,
 use Rattle.hex.specs.declared.Verdict.{Verdict}
 use Rattle.hex.specs.Records.{recordLines, isEnd, upperAfter, recordRefusal, refusalFrom, linesFrom, named, namedBy, Named, wordsAfter}
 use Rattle.hexread.specs.Ends.{recordEnd, end-inside, records-next}
-use Rattle.hexread.specs.Bytes.{judged}
+use Rattle.hexread.specs.declared.LineSeen.{LineSeen}
+use Rattle.hexread.specs.Bytes.{Looked, judged}
 
 -- ---- the line at a place
 
@@ -33,6 +34,9 @@ pub record Placed (text : List ℕ) (at : ℕ) (t : Taken) (to : ℕ) : Type 0 w
   pub next : t .next ≡ lineNext text at
   pub later : at < t .next
   pub last : t .next ≤ length text
+
+pub taken-ends : (text : List ℕ) (at : ℕ) (t : Taken) → at < length text → t ≡ takenAt text at → (at ≤ t .to) × (t .to ≤ length text)
+taken-ends text at t h e = rw e (end-from text at, end-within text at (omega arith))
 
 pub placed-line : (text : List ℕ) (at : ℕ) (t : Taken) (to : ℕ) → at < length text → t ≡ takenAt text at → to ≡ recordEnd text at (t .to) → Placed text at t to
 placed-line text at t to h e f = record {
@@ -118,3 +122,17 @@ module _ (text : List ℕ) (n at upper number : ℕ) (inv : Judging text n at up
           refusal = sym (both .0) ∙ inv .refusal;
           line = omega (arith, both .1, inv .line)
         }
+
+    -- the same by what the code has of the line
+    module _ (t : Taken) (to : ℕ) (place : Placed text at t to) (seen : LineSeen) (looked : Looked (take (to - at) (drop at text)) upper n seen) where
+      at-line : Looked (recordAt text at) upper n seen
+      at-line = subst (λ (k : ℕ). Looked (take (k - at) (drop at text)) upper n seen) (place .end) looked
+
+      pub step-bad : (seen .refusal ≡ 0 → ⊥) → record { refusal = seen .refusal; line = number + 1 } ≡ judged n text
+      step-bad e = rw (at-line .refusal) (judge-bad (λ z. e (at-line .refusal ∙ z)))
+
+      pub step-end : seen .refusal ≡ 0 → seen .ends ≡ true → record { refusal = 0; line = number + 1 } ≡ judged n text
+      step-end e f = judge-end (sym (at-line .refusal) ∙ e) (sym (at-line .ends e) ∙ f)
+
+      pub step-on : seen .refusal ≡ 0 → seen .ends ≡ false → Judging text n (t .next) (seen .upper) (number + 1)
+      step-on e f = rw (place .next, at-line .upperThen e) (judge-on (sym (at-line .refusal) ∙ e) (sym (at-line .ends e) ∙ f))

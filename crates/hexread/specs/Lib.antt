@@ -4,3 +4,5 @@ pub mod Bytes
 pub mod Refusals
 pub mod Put
 pub mod Judging
+pub mod Storing
+pub mod Filling

@@ -13,12 +13,16 @@ use borrow.Author.Tests.{eq-eqb, ne-eqb, eqb-true, eqb-false}
 use Rattle.semantics.specs.Tabulate.{tabulate, length-tabulate, getD-tabulate, tabulate-is}
 use Rattle.hex.specs.Records.{Named, byteAfter, wordAfter, wordsAfter}
 
--- the word w with byte v as its low or its high half
-abbrev pub withLow : ℕ → ℕ → ℕ
-withLow w v = w / 256 * 256 + v
+-- a word with the byte at an address put into it, as its low half or its high half
+abbrev pub withByte : ℕ → ℕ → ℕ → ℕ
+withByte w a v = cond (eqb (a % 2) 0) (w / 256 * 256 + v) (v * 256 + w % 256)
 
-abbrev pub withHigh : ℕ → ℕ → ℕ
-withHigh w v = v * 256 + w % 256
+odd : {a : ℕ} → (a % 2 ≡ 0 → ⊥) → a ≡ 2 * (a / 2) + 1
+odd {a} n = go (decLt (a % 2) 1)
+  where
+    go : Dec (a % 2 < 1) → a ≡ 2 * (a / 2) + 1
+    go (yes h) = absurd (n (omega arith))
+    go (no h) = omega arith
 
 module _ (l : List Named) (ws : List ℕ) where
   -- what is put at a word of the array, by the halves of every word before and after
@@ -43,14 +47,22 @@ module _ (l : List Named) (ws : List ℕ) where
           let n : (i ≡ a / 2 → ⊥) = eqb-false i (a / 2) e in
           rw (ne-eqb a (2 * i) (λ q. n (omega arith)), ne-eqb a (2 * i + 1) (λ q. n (omega arith)), getD-set-other ws (a / 2) i new 0 n) (refl, refl)
 
-  pub put-low : (a v : ℕ) → a % 2 ≡ 0 → a / 2 < length ws → v < 256
-      → wordsAfter (record { address = a; value = v } ∷ l) ws ≡ wordsAfter l (set ws (a / 2) (withLow (getD ws (a / 2) 0) v))
-  put-low a v e h b =
-      put-at a v (withLow (getD ws (a / 2) 0) v) h
-      (rw (eq-eqb a (2 * (a / 2)) (omega arith)) (omega arith), rw (ne-eqb a (2 * (a / 2) + 1) (λ q. omega arith)) (omega arith))
+  pub put-byte : (a v : ℕ) → a / 2 < length ws → v < 256 → wordsAfter (record { address = a; value = v } ∷ l) ws ≡ wordsAfter l (set ws (a / 2) (withByte (getD ws (a / 2) 0) a v))
+  put-byte a v h b = put-at a v (withByte (getD ws (a / 2) 0) a v) h (go (eqb (a % 2) 0) refl)
+    where
+      w : ℕ
+      w = getD ws (a / 2) 0
 
-  pub put-high : (a v : ℕ) → (a % 2 ≡ 0 → ⊥) → a / 2 < length ws → v < 256
-      → wordsAfter (record { address = a; value = v } ∷ l) ws ≡ wordsAfter l (set ws (a / 2) (withHigh (getD ws (a / 2) 0) v))
-  put-high a v e h b =
-      put-at a v (withHigh (getD ws (a / 2) 0) v) h
-      (rw (ne-eqb a (2 * (a / 2)) (λ q. e (omega arith))) (omega arith), rw (eq-eqb a (2 * (a / 2) + 1) (omega arith)) (omega arith))
+      go : (t : Bool) → eqb (a % 2) 0 ≡ t
+          → (cond (eqb a (2 * (a / 2))) v (w % 256) ≡ cond t (w / 256 * 256 + v) (v * 256 + w % 256) % 256) × (cond (eqb a (2 * (a / 2) + 1)) v (w / 256) ≡ cond t (w / 256 * 256 + v) (v * 256 + w % 256) / 256)
+      go true e =
+          let z : a % 2 ≡ 0 = eqb-true (a % 2) 0 e in
+          (rw (eq-eqb a (2 * (a / 2)) (omega arith)) (omega arith), rw (ne-eqb a (2 * (a / 2) + 1) (λ q. omega arith)) (omega arith))
+      go false e =
+          let z : (a % 2 ≡ 0 → ⊥) = eqb-false (a % 2) 0 e in
+          (rw (ne-eqb a (2 * (a / 2)) (λ q. z (omega arith))) (omega arith), rw (eq-eqb a (2 * (a / 2) + 1) (odd z)) (omega arith))
+
+-- where no byte is named, the words stay
+pub put-none : (ws : List ℕ) → wordsAfter [] ws ≡ ws
+unfolding wordsAfter byteAfter
+put-none ws = sym (tabulate-is (length ws) (wordAfter [] ws) ws refl (λ i h. omega arith))

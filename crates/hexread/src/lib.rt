@@ -8,6 +8,8 @@ ghost use Prim.Native.Nat.{_+_, _*_, _<_, _≤_, _%_};
 ghost use lib.ListN.{length, getD, take, drop};
 ghost use Rattle.hex.specs.Records.{recordLines, digit, allDigits, bytes, total, shaped, otherType, namedFrom, dataOf, recordRefusal, refusalFrom, named, wordsAfter, size, verdict, arrayRead};
 ghost use Rattle.hexread.specs.Ends.{recordEnd};
+ghost use Rattle.hexread.specs.Put.{withByte};
+ghost use Rattle.hexread.specs.Storing.{Storable};
 ghost use Rattle.hexread.specs.Bytes.{pairAt, headerOf, scanned, Looked, judged, outsideOf, refusalBy};
 
 // ---- the bytes of a record
@@ -242,22 +244,28 @@ fn judge(text: &[u8], size: u64) -> Verdict
 
 // ---- the array
 
+// A word with the byte at an address put into it: an even address is the low half.
+fn with_byte(word: u16, address: usize, byte: u16) -> u16
+    requires { ⌜ byte < 256 ⌝ }
+    ensures { λ r. ⌜ r ≡ withByte word address byte ⌝ }
+{
+    if address % 2 == 0 {
+        return word / 256 * 256 + byte;
+    }
+    byte * 256 + word % 256
+}
+
 // Writes the data of a record from an address on.
 fn store(line: &[u8], start: usize, count: usize, array: &mut [u16])
-    requires { ⌜ (length (now line) ≡ 2 * count + 11) × ((allDigits (drop 1 (now line)) ≡ true) × (start + count ≤ size (now array))) ⌝ }
+    requires { ⌜ Storable (now line) start count (now array) ⌝ }
     ensures { λ r. ⌜ now (array .exit) ≡ wordsAfter (namedFrom start (take count (drop 4 (bytes (now (line .entry)))))) (now (array .entry)) ⌝ }
 {
     let mut i: usize = 0;
     while i < count {
         let byte = byte_at(line, 2 * i + 9);
-        let a = start + i;
-        let w = a / 2;
-        let old = array[w];
-        if a % 2 == 0 {
-            array[w] = old / 256 * 256 + byte;
-        } else {
-            array[w] = byte * 256 + old % 256;
-        }
+        let address = start + i;
+        let w = address / 2;
+        array[w] = with_byte(array[w], address, byte);
         i += 1;
     }
 }

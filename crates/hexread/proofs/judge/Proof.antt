@@ -1,52 +1,60 @@
 -- `hexread::judge` meets its contract. Assumes nothing.
+use Prim.Native.Nat.{_-_, _<_}
+use mathlib.Core.Path.{_≡_, refl, sym, ap, _∙_}
+use native.Mathlib.Omega.{arith}
 use borrow.Author.Needs.{needs}
+use denote.Ref.{now}
+use lib.ListN.{length}
+use Rattle.hexread.specs.Judging.{Judging, Placed, placed-line, taken-ends, judge-start, judge-none, step-bad, step-end, step-on}
 use Rattle.hexread.proofs.judge.Statement.{statement}
 use Rattle.hexread.proofs.judge.Tie as tie
 
 abbrev Inv-loop : tie.InvT-loop
-Inv-loop text size at₀ upper₀ number₀ at upper number = ?
+Inv-loop text size at₀ upper₀ number₀ at upper number = Judging text size at upper number
 
 abbrev μ-loop : tie.MeasureT-loop
-μ-loop text size at₀ upper₀ number₀ at upper number = ?
+μ-loop text size at₀ upper₀ number₀ at upper number = length text - at
 
 loop-holds : tie.Need-loop-holds Inv-loop μ-loop
-loop-holds c = ?
+loop-holds c = judge-start _ _
 
 taken-at-requires : tie.Need-taken-at-requires Inv-loop μ-loop
 taken-at-requires c κs = search needs
 
 record-end-requires : tie.Need-record-end-requires Inv-loop μ-loop
-record-end-requires c κs = ?
+record-end-requires c κs = taken-ends _ _ _ (c .before .loop-test .taken) (c .taken-at .ensures)
 
 sub-look : tie.Need-sub-look Inv-loop μ-loop
-sub-look c = search needs
+sub-look c = placed-line _ _ _ _ (c .before .before .loop-test .taken) (c .before .taken-at .ensures) (c .record-end .ensures) .from
 
 part-look-start : tie.Need-part-look-start Inv-loop μ-loop
-part-look-start c = search needs
+part-look-start c = placed-line _ _ _ _ (c .before .before .loop-test .taken) (c .before .taken-at .ensures) (c .record-end .ensures) .from
 
 part-look-end : tie.Need-part-look-end Inv-loop μ-loop
-part-look-end c = search needs
+part-look-end c = placed-line _ _ _ _ (c .before .before .loop-test .taken) (c .before .taken-at .ensures) (c .record-end .ensures) .inside
 
 look-requires : tie.Need-look-requires Inv-loop μ-loop
 look-requires c κs = search needs
 
 add-number : tie.Need-add-number Inv-loop μ-loop
-add-number c = search needs
+add-number c =
+    let h : c .before .before .before .before .before .loop .number < length (now (c .before .before .before .before .before .before .before .args .text)) = omega (arith, c .before .before .before .before .before .loop .inv .few, c .before .before .before .before .loop-test .taken) in
+    search needs
 
 returns : tie.Need-returns Inv-loop μ-loop
-returns c = ?
+returns c = step-bad _ _ _ _ _ (c .before .before .before .before .before .before .before .loop .inv) (c .before .before .before .before .before .before .loop-test .taken) _ _ (placed-line _ _ _ _ (c .before .before .before .before .before .before .loop-test .taken) (c .before .before .before .before .before .taken-at .ensures) (c .before .before .before .before .record-end .ensures)) _ (c .before .before .look .ensures) (c .if1 .taken)
 
 returns-2 : tie.Need-returns-2 Inv-loop μ-loop
-returns-2 c = ?
+returns-2 c = step-end _ _ _ _ _ (c .before .before .before .before .before .before .before .before .loop .inv) (c .before .before .before .before .before .before .before .loop-test .taken) _ _ (placed-line _ _ _ _ (c .before .before .before .before .before .before .before .loop-test .taken) (c .before .before .before .before .before .before .taken-at .ensures) (c .before .before .before .before .before .record-end .ensures)) _ (c .before .before .before .look .ensures) (c .before .if1 .left) (c .if2 .taken)
 
 loop-less : tie.Need-loop-less Inv-loop μ-loop
-loop-less c = search needs
+loop-less c = omega (arith, (placed-line _ _ _ _ (c .before .before .before .before .before .before .before .loop-test .taken) (c .before .before .before .before .before .before .taken-at .ensures) (c .before .before .before .before .before .record-end .ensures)) .later, (placed-line _ _ _ _ (c .before .before .before .before .before .before .before .loop-test .taken) (c .before .before .before .before .before .before .taken-at .ensures) (c .before .before .before .before .before .record-end .ensures)) .last)
 
 loop-again : tie.Need-loop-again Inv-loop μ-loop
-loop-again c = ?
+loop-again c = step-on _ _ _ _ _ (c .before .before .before .before .before .before .before .before .loop .inv) (c .before .before .before .before .before .before .before .loop-test .taken) _ _ (placed-line _ _ _ _ (c .before .before .before .before .before .before .before .loop-test .taken) (c .before .before .before .before .before .before .taken-at .ensures) (c .before .before .before .before .before .record-end .ensures)) _ (c .before .before .before .look .ensures) (c .before .if1 .left) (c .if2 .left)
 
 returns-3 : tie.Need-returns-3 Inv-loop μ-loop
-returns-3 c = ?
+returns-3 c = judge-none _ _ _ _ _ (c .before .loop .inv) (c .loop-test .left)
 
 pub judge-spec : {M : Type 1} → statement M
 judge-spec =

@@ -1,16 +1,20 @@
 -- `hexread::store` meets its contract. Assumes nothing.
+use Prim.Native.Nat.{_-_}
+use mathlib.Core.Path.{_∙_}
+use native.Mathlib.Omega.{arith}
 use borrow.Author.Needs.{needs}
+use Rattle.hexread.specs.Storing.{Storing, store-start, store-end, byte-small, word-inside, store-step}
 use Rattle.hexread.proofs.store.Statement.{statement}
 use Rattle.hexread.proofs.store.Tie as tie
 
 abbrev Inv-loop : tie.InvT-loop
-Inv-loop line start count array₀ i₀ array i = ?
+Inv-loop line start count array₀ i₀ array i = Storing line start count array₀ array i
 
 abbrev μ-loop : tie.MeasureT-loop
-μ-loop line start count array₀ i₀ array i = ?
+μ-loop line start count array₀ i₀ array i = count - i
 
 loop-holds : tie.Need-loop-holds Inv-loop μ-loop
-loop-holds c = ?
+loop-holds c = store-start _ _ _ _
 
 mul-byte-at : tie.Need-mul-byte-at Inv-loop μ-loop
 mul-byte-at c = search needs
@@ -21,38 +25,23 @@ add-byte-at c = search needs
 byte-at-requires : tie.Need-byte-at-requires Inv-loop μ-loop
 byte-at-requires c κs = search needs
 
-add-a : tie.Need-add-a Inv-loop μ-loop
-add-a c = search needs
+add-address : tie.Need-add-address Inv-loop μ-loop
+add-address c = let fits = c .before .before .before .before .before .pre .room (omega arith) in search needs
 
-mul-old : tie.Need-mul-old Inv-loop μ-loop
-mul-old c = search needs
+mul-with-byte : tie.Need-mul-with-byte Inv-loop μ-loop
+mul-with-byte c = let fits = c .before .before .before .before .before .pre .room (omega arith) in search needs
 
-slice-read-old : tie.Need-slice-read-old Inv-loop μ-loop
-slice-read-old c = search needs
+slice-read-with-byte : tie.Need-slice-read-with-byte Inv-loop μ-loop
+slice-read-with-byte c = let fits = c .before .before .before .before .before .before .pre .room (omega arith) in search needs
+
+with-byte-requires : tie.Need-with-byte-requires Inv-loop μ-loop
+with-byte-requires c κs = rw (c .before .byte-at .ensures) (byte-small _ _ _ _ (c .before .before .before .before .before .before .pre) _ _ (c .before .before .before .loop .inv) (c .before .before .loop-test .taken))
 
 mul-array : tie.Need-mul-array Inv-loop μ-loop
-mul-array c = search needs
-
-add-array : tie.Need-add-array Inv-loop μ-loop
-add-array c = search needs
-
-mul-array-2 : tie.Need-mul-array-2 Inv-loop μ-loop
-mul-array-2 c = search needs
+mul-array c = let fits = c .before .before .before .before .before .before .before .pre .room (omega arith) in search needs
 
 slice-write-array : tie.Need-slice-write-array Inv-loop μ-loop
-slice-write-array c = search needs
-
-mul-array-3 : tie.Need-mul-array-3 Inv-loop μ-loop
-mul-array-3 c = search needs
-
-add-array-2 : tie.Need-add-array-2 Inv-loop μ-loop
-add-array-2 c = search needs
-
-mul-array-4 : tie.Need-mul-array-4 Inv-loop μ-loop
-mul-array-4 c = search needs
-
-slice-write-array-2 : tie.Need-slice-write-array-2 Inv-loop μ-loop
-slice-write-array-2 c = search needs
+slice-write-array c = let fits = c .before .before .before .before .before .before .before .pre .room (omega arith) in search needs
 
 add-i : tie.Need-add-i Inv-loop μ-loop
 add-i c = search needs
@@ -61,13 +50,13 @@ loop-less : tie.Need-loop-less Inv-loop μ-loop
 loop-less c = search needs
 
 loop-again : tie.Need-loop-again Inv-loop μ-loop
-loop-again c = ?
+loop-again c = store-step _ _ _ _ (c .before .before .before .before .before .before .before .pre) _ _ (c .before .before .before .before .loop .inv) (c .before .before .before .loop-test .taken) _ (c .with-byte .ensures ∙ rw (c .before .before .byte-at .ensures))
 
 same-length : tie.Need-same-length Inv-loop μ-loop
-same-length c = ?
+same-length c = c .before .loop .inv .same
 
 returns : tie.Need-returns Inv-loop μ-loop
-returns c = ?
+returns c = store-end _ _ _ _ _ _ (c .before .loop .inv) (c .loop-test .left)
 
 pub store-spec : {M : Type 1} → statement M
 store-spec =
@@ -79,17 +68,12 @@ store-spec =
     mul-byte-at
     add-byte-at
     byte-at-requires
-    add-a
-    mul-old
-    slice-read-old
+    add-address
+    mul-with-byte
+    slice-read-with-byte
+    with-byte-requires
     mul-array
-    add-array
-    mul-array-2
     slice-write-array
-    mul-array-3
-    add-array-2
-    mul-array-4
-    slice-write-array-2
     add-i
     loop-less
     loop-again
