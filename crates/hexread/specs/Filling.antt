@@ -83,11 +83,12 @@ storable n upper line array good e z = record {
 pub record Filling (text before after : List ℕ) (at upper : ℕ) : Type 0 where
   pub within : at ≤ length text
   pub same : length after ≡ length before
+  pub low : upper < 65536
   pub good : refusalFrom (size before) upper (recordsFrom text at) ≡ 0
   pub left : wordsAfter (named upper (recordsFrom text at)) after ≡ wordsAfter (named 0 (recordLines text)) before
 
 pub fill-start : (text before : List ℕ) → refusalFrom (size before) 0 (recordLines text) ≡ 0 → Filling text before before 0 0
-fill-start text before e = record { within = omega arith; same = refl; good = e; left = refl }
+fill-start text before e = record { within = omega arith; same = refl; low = omega arith; good = e; left = refl }
 
 accepted-first : (n upper : ℕ) (l : List ℕ) (ls : List (List ℕ)) → refusalFrom n upper (l ∷ ls) ≡ 0 → recordRefusal n upper l ≡ 0
 unfolding refusalFrom
@@ -164,6 +165,7 @@ module _ (text before after : List ℕ) (at upper : ℕ) (inv : Filling text bef
           record {
             within = place .last;
             same = ap length e ∙ words-length (namedFrom (upper * 65536 + offset line) (dataOf line)) after ∙ inv .same;
+            low = inv .low;
             good = rw z at rest;
             left = sym put ∙ rw z at left-here
           }
@@ -171,9 +173,11 @@ module _ (text before after : List ℕ) (at upper : ℕ) (inv : Filling text bef
       pub fill-upper : (kind line ≡ 0 → ⊥) → Filling text before after (t .next) (getD (bytes line) 4 0 * 256 + getD (bytes line) 5 0)
       fill-upper n =
           let four : kind line ≡ 4 = type-four (kind line) (good-line .type) n on in
+          let small : Small (bytes line) = small-bytes line (good-line .formed .digits) in
           record {
             within = place .last;
             same = inv .same;
+            low = omega (arith, small 4, small 5);
             good = rw four at rest;
             left = rw (four, by-other upper line n) at left-here
           }

@@ -6,3 +6,4 @@ pub mod Put
 pub mod Judging
 pub mod Storing
 pub mod Filling
+pub mod Reading

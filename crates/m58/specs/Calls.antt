@@ -1,6 +1,6 @@
 -- What the calls from C mean: what is answered, and what the words of a saved state are afterwards. Definitions only; the laws are in Laws.
 -- Assumes nothing.
-use Prim.Native.Nat.{ℕ, _+_, _*_}
+use Prim.Native.Nat.{ℕ, _+_, _*_, min}
 use mathlib.Core.Bool.{Bool, true, cond, _&&_}
 use mathlib.Core.List.{List}
 use mathlib.Core.Path.{_≡_}
@@ -13,6 +13,8 @@ use Rattle.semantics.specs.State.{powerUp}
 use Rattle.semantics.specs.Steps.{afterAll}
 use Rattle.device.specs.Outcomes.{holding}
 use Rattle.playback.specs.Playback.{playable, machineOf, Played}
+use Rattle.hex.specs.Records.{verdict, arrayRead}
+use Rattle.hex.specs.Text.{written, roomAfter}
 use Rattle.saved.specs.Saved.{savedOf, isSaved, stateOf}
 
 -- power-up wants the number of a part, and room for 25 words
@@ -38,3 +40,22 @@ pub record Ran (ws codes room xs : List ℕ) (n : ℕ) (after answers array : Li
   pub kept : after ≡ cond (isSaved ws) (savedOf (stateAfter ws codes room xs)) ws
   -- so that the next call goes on with it
   pub goes-on : isSaved ws ≡ true → (isSaved after ≡ true) × (stateOf after ≡ stateAfter ws codes room xs)
+
+-- ---- Intel HEX
+
+-- a refusal and a number beside it in one number: the refusal from bit 32, and of the number no more than 32 bits hold
+abbrev pub hexCode : ℕ → ℕ → ℕ
+hexCode refusal number = refusal * 4294967296 + min number 4294967295
+
+-- 7 "part number above 3", where there is no part whose array could be asked for
+unfoldable pub hexVerdict : ℕ → List ℕ → List ℕ → ℕ
+hexVerdict part text ws = cond (leb part 3) (hexCode (verdict (partNumbered part) text ws .refusal) (verdict (partNumbered part) text ws .line)) (hexCode 7 0)
+
+unfoldable pub hexArray : ℕ → List ℕ → List ℕ → List ℕ
+hexArray part text ws = cond (leb part 3) (arrayRead (partNumbered part) text ws) ws
+
+unfoldable pub hexWritten : ℕ → List ℕ → List ℕ → ℕ
+hexWritten part ws room = cond (leb part 3) (hexCode (written (partNumbered part) ws room .refusal) (written (partNumbered part) ws room .length)) (hexCode 7 0)
+
+unfoldable pub hexRoom : ℕ → List ℕ → List ℕ → List ℕ
+hexRoom part ws room = cond (leb part 3) (roomAfter (partNumbered part) ws room) room

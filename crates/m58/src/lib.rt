@@ -6,7 +6,7 @@ ghost use Rattle.geometry.specs.Blocks.{lookupOf};
 ghost use Rattle.semantics.specs.Reading.{bitIf};
 ghost use Rattle.semantics.specs.Steps.{reportedOf};
 ghost use Rattle.saved.specs.Saved.{stateOf};
-ghost use Rattle.m58.specs.Calls.{powersUp, poweredUp, reportCode, Ran};
+ghost use Rattle.m58.specs.Calls.{powersUp, poweredUp, reportCode, Ran, hexCode, hexVerdict, hexArray, hexWritten, hexRoom};
 
 // ---- the lookup of an address of a part, by the part's number
 
@@ -92,4 +92,43 @@ pub extern "C" fn m58_report(state: &[u64]) -> u64
     let d = Device { state: s };
     let told = d.report();
     (told.refusal as u64) * 4294967296 + (told.count as u64) * 65536 + told.lowest as u64
+}
+
+// ---- Intel HEX
+
+// A refusal from bit 32, and a line or a length from bit 0. One of more than 32 bits is told as the greatest of 32 bits.
+fn coded(refusal: u32, number: usize) -> u64
+    ensures { λ r. ⌜ r ≡ hexCode refusal number ⌝ }
+{
+    let high = (refusal as u64) * 4294967296;
+    if number > 4294967295 {
+        return high + 4294967295;
+    }
+    high + number as u64
+}
+
+// Reads a text into a part's array, by the part's number, and answers the refusal and the line that decided.
+#[no_mangle]
+pub extern "C" fn m58_hex_read(part: u32, text: &[u8], array: &mut [u16]) -> u64
+    ensures { λ r. ⌜ r ≡ hexVerdict part (now (text .entry)) (now (array .entry)) ⌝ }
+    ensures array { λ r. ⌜ now (array .exit) ≡ hexArray part (now (text .entry)) (now (array .entry)) ⌝ }
+{
+    if part > 3 {
+        return coded(7, 0);
+    }
+    let v = hexread::read(geometry::part_numbered(part), text, array);
+    coded(v.refusal, v.line)
+}
+
+// Writes a part's array as text, by the part's number, and answers the refusal and the length of what was written.
+#[no_mangle]
+pub extern "C" fn m58_hex_write(part: u32, array: &[u16], text: &mut [u8]) -> u64
+    ensures { λ r. ⌜ r ≡ hexWritten part (now (array .entry)) (now (text .entry)) ⌝ }
+    ensures text { λ r. ⌜ now (text .exit) ≡ hexRoom part (now (array .entry)) (now (text .entry)) ⌝ }
+{
+    if part > 3 {
+        return coded(7, 0);
+    }
+    let w = hexwrite::write(geometry::part_numbered(part), array, text);
+    coded(w.refusal, w.length)
 }

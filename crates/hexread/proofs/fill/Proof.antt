@@ -1,40 +1,49 @@
 -- `hexread::fill` meets its contract. Assumes nothing.
+use Prim.Native.Nat.{ℕ, _-_, _*_}
+use mathlib.Core.Path.{_≡_, refl, sym, ap, _∙_}
+use native.Mathlib.Omega.{arith}
 use borrow.Author.Needs.{needs}
+use denote.Ref.{now}
+use lib.ListN.{length}
+use Rattle.hexread.specs.declared.Header.{Header}
+use Rattle.hexread.specs.Refusals.{long-enough, long-upper}
+use Rattle.hexread.specs.Judging.{Placed, placed-line, taken-ends}
+use Rattle.hexread.specs.Filling.{Filling, storable, fill-start, fill-none, good-line, fill-end, fill-data, fill-upper, is-upper}
 use Rattle.hexread.proofs.fill.Statement.{statement}
 use Rattle.hexread.proofs.fill.Tie as tie
 
 abbrev Inv-loop : tie.InvT-loop
-Inv-loop text array₀ at₀ upper₀ array at upper = ?
+Inv-loop text array₀ at₀ upper₀ array at upper = Filling text array₀ array at upper
 
 abbrev μ-loop : tie.MeasureT-loop
-μ-loop text array₀ at₀ upper₀ array at upper = ?
+μ-loop text array₀ at₀ upper₀ array at upper = length text - at
 
 loop-holds : tie.Need-loop-holds Inv-loop μ-loop
-loop-holds c = ?
+loop-holds c = fill-start _ _ (c .before .before .pre)
 
 taken-at-requires : tie.Need-taken-at-requires Inv-loop μ-loop
 taken-at-requires c κs = search needs
 
 record-end-requires : tie.Need-record-end-requires Inv-loop μ-loop
-record-end-requires c κs = ?
+record-end-requires c κs = taken-ends _ _ _ (c .before .loop-test .taken) (c .taken-at .ensures)
 
 sub-line : tie.Need-sub-line Inv-loop μ-loop
-sub-line c = search needs
+sub-line c = placed-line _ _ _ _ (c .before .before .loop-test .taken) (c .before .taken-at .ensures) (c .record-end .ensures) .from
 
 part-line-start : tie.Need-part-line-start Inv-loop μ-loop
-part-line-start c = search needs
+part-line-start c = placed-line _ _ _ _ (c .before .before .loop-test .taken) (c .before .taken-at .ensures) (c .record-end .ensures) .from
 
 part-line-end : tie.Need-part-line-end Inv-loop μ-loop
-part-line-end c = search needs
+part-line-end c = placed-line _ _ _ _ (c .before .before .loop-test .taken) (c .before .taken-at .ensures) (c .record-end .ensures) .inside
 
 header-of-requires : tie.Need-header-of-requires Inv-loop μ-loop
-header-of-requires c κs = search needs
+header-of-requires c κs = long-enough _ (good-line _ _ _ _ _ (c .before .before .before .before .loop .inv) (c .before .before .before .loop-test .taken) _ _ (placed-line _ _ _ _ (c .before .before .before .loop-test .taken) (c .before .before .taken-at .ensures) (c .before .record-end .ensures)) .formed)
 
 same-length : tie.Need-same-length Inv-loop μ-loop
-same-length c = ?
+same-length c = c .before .before .before .before .before .before .before .loop .inv .same
 
 returns : tie.Need-returns Inv-loop μ-loop
-returns c = ?
+returns c = fill-end _ _ _ _ _ (c .before .before .before .before .before .before .before .loop .inv) (c .before .before .before .before .before .before .loop-test .taken) _ _ (placed-line _ _ _ _ (c .before .before .before .before .before .before .loop-test .taken) (c .before .before .before .before .before .taken-at .ensures) (c .before .before .before .before .record-end .ensures)) (sym (ap (λ (h : Header). h .kind) (c .before .before .header-of .ensures)) ∙ c .if1 .taken)
 
 cast-start : tie.Need-cast-start Inv-loop μ-loop
 cast-start c = search needs
@@ -52,28 +61,33 @@ cast-store : tie.Need-cast-store Inv-loop μ-loop
 cast-store c = search needs
 
 store-requires : tie.Need-store-requires Inv-loop μ-loop
-store-requires c κs = search needs
+store-requires c κs =
+    rw (c .before .before .before .before .before .before .before .header-of .ensures)
+    (storable _ _ _ _ (good-line _ _ _ _ _ (c .before .before .before .before .before .before .before .before .before .before .before .before .loop .inv) (c .before .before .before .before .before .before .before .before .before .before .before .loop-test .taken) _ _ (placed-line _ _ _ _ (c .before .before .before .before .before .before .before .before .before .before .before .loop-test .taken) (c .before .before .before .before .before .before .before .before .before .before .taken-at .ensures) (c .before .before .before .before .before .before .before .before .before .record-end .ensures))) (ap (λ (k : ℕ). 2 * k) (sym (c .before .before .before .before .before .before .before .before .before .before .before .before .loop .inv .same))) (sym (ap (λ (h : Header). h .kind) (c .before .before .before .before .before .before .before .header-of .ensures)) ∙ c .before .before .before .if2 .taken))
 
 upper-of-requires : tie.Need-upper-of-requires Inv-loop μ-loop
-upper-of-requires c κs = search needs
+upper-of-requires c κs =
+    long-upper _ (good-line _ _ _ _ _ (c .before .before .before .before .before .before .before .before .before .loop .inv) (c .before .before .before .before .before .before .before .before .loop-test .taken) _ _ (placed-line _ _ _ _ (c .before .before .before .before .before .before .before .before .loop-test .taken) (c .before .before .before .before .before .before .before .taken-at .ensures) (c .before .before .before .before .before .before .record-end .ensures)) .formed) (is-upper _ _ _ _ _ (c .before .before .before .before .before .before .before .before .before .loop .inv) (c .before .before .before .before .before .before .before .before .loop-test .taken) _ _ (placed-line _ _ _ _ (c .before .before .before .before .before .before .before .before .loop-test .taken) (c .before .before .before .before .before .before .before .taken-at .ensures) (c .before .before .before .before .before .before .record-end .ensures)) (λ e. c .before .before .if1 .left (ap (λ (h : Header). h .kind) (c .before .before .before .before .header-of .ensures) ∙ e)) (λ e. c .if2 .left (ap (λ (h : Header). h .kind) (c .before .before .before .before .header-of .ensures) ∙ e)))
 
 loop-less : tie.Need-loop-less Inv-loop μ-loop
-loop-less c = search needs
+loop-less c = omega (arith, (placed-line _ _ _ _ (c .before .before .before .before .before .before .before .before .before .before .before .before .before .before .loop-test .taken) (c .before .before .before .before .before .before .before .before .before .before .before .before .before .taken-at .ensures) (c .before .before .before .before .before .before .before .before .before .before .before .before .record-end .ensures)) .later, (placed-line _ _ _ _ (c .before .before .before .before .before .before .before .before .before .before .before .before .before .before .loop-test .taken) (c .before .before .before .before .before .before .before .before .before .before .before .before .before .taken-at .ensures) (c .before .before .before .before .before .before .before .before .before .before .before .before .record-end .ensures)) .last)
 
 loop-again : tie.Need-loop-again Inv-loop μ-loop
-loop-again c = ?
+loop-again c =
+    fill-data _ _ _ _ _ (c .before .before .before .before .before .before .before .before .before .before .before .before .before .before .before .loop .inv) (c .before .before .before .before .before .before .before .before .before .before .before .before .before .before .loop-test .taken) _ _ (placed-line _ _ _ _ (c .before .before .before .before .before .before .before .before .before .before .before .before .before .before .loop-test .taken) (c .before .before .before .before .before .before .before .before .before .before .before .before .before .taken-at .ensures) (c .before .before .before .before .before .before .before .before .before .before .before .before .record-end .ensures)) (λ e. c .before .before .before .before .before .before .before .before .if1 .left (ap (λ (h : Header). h .kind) (c .before .before .before .before .before .before .before .before .before .before .header-of .ensures) ∙ e)) _ (sym (ap (λ (h : Header). h .kind) (c .before .before .before .before .before .before .before .before .before .before .header-of .ensures)) ∙ c .before .before .before .before .before .before .if2 .taken) (c .before .before .store .ensures ∙ rw (c .before .before .before .before .before .before .before .before .before .before .header-of .ensures))
 
 loop-less-2 : tie.Need-loop-less-2 Inv-loop μ-loop
-loop-less-2 c = search needs
+loop-less-2 c = omega (arith, (placed-line _ _ _ _ (c .before .before .before .before .before .before .before .before .before .loop-test .taken) (c .before .before .before .before .before .before .before .before .taken-at .ensures) (c .before .before .before .before .before .before .before .record-end .ensures)) .later, (placed-line _ _ _ _ (c .before .before .before .before .before .before .before .before .before .loop-test .taken) (c .before .before .before .before .before .before .before .before .taken-at .ensures) (c .before .before .before .before .before .before .before .record-end .ensures)) .last)
 
 loop-again-2 : tie.Need-loop-again-2 Inv-loop μ-loop
-loop-again-2 c = ?
+loop-again-2 c =
+    rw (c .upper-of .ensures) (fill-upper _ _ _ _ _ (c .before .before .before .before .before .before .before .before .before .before .loop .inv) (c .before .before .before .before .before .before .before .before .before .loop-test .taken) _ _ (placed-line _ _ _ _ (c .before .before .before .before .before .before .before .before .before .loop-test .taken) (c .before .before .before .before .before .before .before .before .taken-at .ensures) (c .before .before .before .before .before .before .before .record-end .ensures)) (λ e. c .before .before .before .if1 .left (ap (λ (h : Header). h .kind) (c .before .before .before .before .before .header-of .ensures) ∙ e)) (λ e. c .before .if2 .left (ap (λ (h : Header). h .kind) (c .before .before .before .before .before .header-of .ensures) ∙ e)))
 
 same-length-2 : tie.Need-same-length-2 Inv-loop μ-loop
-same-length-2 c = ?
+same-length-2 c = c .before .loop .inv .same
 
 returns-2 : tie.Need-returns-2 Inv-loop μ-loop
-returns-2 c = ?
+returns-2 c = absurd (fill-none _ _ _ _ _ (c .before .loop .inv) (c .loop-test .left))
 
 pub fill-spec : {M : Type 1} → statement M
 fill-spec =

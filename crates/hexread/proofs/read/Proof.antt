@@ -1,5 +1,8 @@
 -- `hexread::read` meets its contract. Assumes nothing.
+use mathlib.Core.Path.{sym, _∙_}
 use borrow.Author.Needs.{needs}
+use denote.Ref.{now}
+use Rattle.hexread.specs.Reading.{other-length, accepted, read-whole, read-refused}
 use Rattle.hexread.proofs.read.Statement.{statement}
 use Rattle.hexread.proofs.read.Tie as tie
 
@@ -10,7 +13,7 @@ cast-n : tie.Need-cast-n
 cast-n c = search needs
 
 returns : tie.Need-returns
-returns c = ?
+returns c = other-length _ _ _ (λ e. c .if1 .taken (e ∙ sym (c .before .length-of .ensures .0)))
 
 mul-judge : tie.Need-mul-judge
 mul-judge c = search needs
@@ -19,16 +22,16 @@ judge-requires : tie.Need-judge-requires
 judge-requires c κs = search needs
 
 fill-requires : tie.Need-fill-requires
-fill-requires c κs = search needs
+fill-requires c κs = let a = c .before .before .before .before .before .before .before .before .args in accepted (a .part) _ (now (a .array)) (c .before .before .before .before .if1 .left ∙ c .before .before .before .before .before .length-of .ensures .0) _ _ (c .before .before .before .before .before .length-of .ensures .0) (c .before .before .before .judge .ensures) (c .before .if2 .taken)
 
 same-length : tie.Need-same-length
 same-length c = search needs
 
 returns-2 : tie.Need-returns-2
-returns-2 c = ?
+returns-2 c = read-whole _ _ _ (c .before .before .before .before .before .before .before .if1 .left ∙ c .before .before .before .before .before .before .before .before .length-of .ensures .0) _ _ (c .before .before .before .before .before .before .before .before .length-of .ensures .0) (c .before .before .before .before .before .before .judge .ensures) _ (c .before .before .before .before .if2 .taken) (c .before .before .fill .ensures)
 
 returns-3 : tie.Need-returns-3
-returns-3 c = ?
+returns-3 c = read-refused _ _ _ (c .before .before .before .if1 .left ∙ c .before .before .before .before .length-of .ensures .0) _ _ (c .before .before .before .before .length-of .ensures .0) (c .before .before .judge .ensures) (c .if2 .left)
 
 pub read-spec : {M : Type 1} → statement M
 read-spec =

@@ -1,0 +1,3 @@
+-- The modules of the specification.
+pub mod Records
+pub mod Texts
