@@ -146,11 +146,11 @@ module _ (line : List ℕ) (n : ℕ) (size : length line ≡ 2 * n + 1) where
   pub scan-step : (digits : Bool) (sum i next : ℕ) → Scanning line n digits sum i → i < n → next ≡ (sum + pairAt line (2 * i + 1) % 256) % 256
       → Scanning line n (digits && (ltb (digit (getD line (2 * i + 1) 0)) 16 && ltb (digit (getD line (2 * i + 2) 0)) 16)) next (i + 1)
   scan-step digits sum i next inv h e = record {
-        within = omega arith;
-        small = omega arith;
-        digits-left = rw place (and-rest digits a b (allDigits rest) ∙ ap (λ (t : Bool). digits && t) (sym (rw two at (digits-next line (2 * i + 1) (omega arith)))) ∙ inv .digits-left);
-        sum-left = rw place (omega (arith, inv .sum-left, ap total (pairs-next line (2 * i + 1) (omega arith)), total-next (pairAt line (2 * i + 1)) (pairs rest)))
-      }
+    within = omega arith;
+    small = omega arith;
+    digits-left = rw place (and-rest digits a b (allDigits rest) ∙ ap (λ (t : Bool). digits && t) (sym (rw two at (digits-next line (2 * i + 1) (omega arith)))) ∙ inv .digits-left);
+    sum-left = rw place (omega (arith, inv .sum-left, ap total (pairs-next line (2 * i + 1) (omega arith)), total-next (pairAt line (2 * i + 1)) (pairs rest)));
+  }
     where
       rest : List ℕ
       rest = drop (2 * i + 1 + 2) line

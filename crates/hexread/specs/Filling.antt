@@ -63,10 +63,10 @@ type-four k e n m = eqb-true k 4 (not-false (eqb k 4) (rw (ne-eqb k 0 n, ne-eqb 
 pub storable : (n upper : ℕ) (line : List ℕ) (array : List ℕ) → Good n upper line → n ≡ 2 * length array → kind line ≡ 0
     → Storable line (upper * 65536 + offset line) (count line) array
 storable n upper line array good e z = record {
-      long = good .formed .size ∙ omega arith;
-      digits = good .formed .digits;
-      room = λ h. go h
-    }
+  long = good .formed .size ∙ omega arith;
+  digits = good .formed .digits;
+  room = λ h. go h;
+}
   where
     inside : ((eqb (kind line) 0 && (not (eqb (count line) 0) && ltb n (upper * 65536 + offset line + count line))) || ltb 65536 (offset line + count line)) ≡ false
     inside = good .inside
@@ -161,13 +161,13 @@ module _ (text before after : List ℕ) (at upper : ℕ) (inv : Filling text bef
           let small : Small (dataOf line) = small-take (count line) (drop 4 (bytes line)) (small-drop 4 (bytes line) (small-bytes line (able .digits))) in
           let size : length (dataOf line) ≡ count line = data-length 0 0 line (good-line .formed .size) in
           let put : wordsAfter (namedBy upper line ++ named upper next) after ≡ wordsAfter (named upper next) new =
-                  rw (e, by-data upper line z) (words-from (upper * 65536 + offset line) (dataOf line) (named upper next) after small (rw size (able .room))) in
+          rw (e, by-data upper line z) (words-from (upper * 65536 + offset line) (dataOf line) (named upper next) after small (rw size (able .room))) in
           record {
             within = place .last;
             same = ap length e ∙ words-length (namedFrom (upper * 65536 + offset line) (dataOf line)) after ∙ inv .same;
             low = inv .low;
             good = rw z at rest;
-            left = sym put ∙ rw z at left-here
+            left = sym put ∙ rw z at left-here;
           }
 
       pub fill-upper : (kind line ≡ 0 → ⊥) → Filling text before after (t .next) (getD (bytes line) 4 0 * 256 + getD (bytes line) 5 0)
@@ -179,7 +179,7 @@ module _ (text before after : List ℕ) (at upper : ℕ) (inv : Filling text bef
             same = inv .same;
             low = omega (arith, small 4, small 5);
             good = rw four at rest;
-            left = rw (four, by-other upper line n) at left-here
+            left = rw (four, by-other upper line n) at left-here;
           }
 
       pub is-upper : (kind line ≡ 0 → ⊥) → kind line ≡ 4

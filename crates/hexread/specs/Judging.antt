@@ -40,13 +40,13 @@ taken-ends text at t h e = rw e (end-from text at, end-within text at (omega ari
 
 pub placed-line : (text : List ℕ) (at : ℕ) (t : Taken) (to : ℕ) → at < length text → t ≡ takenAt text at → to ≡ recordEnd text at (t .to) → Placed text at t to
 placed-line text at t to h e f = record {
-      end = end;
-      from = omega (arith, end, within .0);
-      inside = omega (arith, end, within .1, end-within text at (omega arith));
-      next = next;
-      later = omega (arith, next, next-later text at h .0);
-      last = omega (arith, next, next-later text at h .1)
-    }
+  end = end;
+  from = omega (arith, end, within .0);
+  inside = omega (arith, end, within .1, end-within text at (omega arith));
+  next = next;
+  later = omega (arith, next, next-later text at h .0);
+  last = omega (arith, next, next-later text at h .1);
+}
   where
     end : to ≡ recordEnd text at (lineEnd text at)
     end = f ∙ ap (λ (t : Taken). recordEnd text at (t .to)) e
@@ -100,14 +100,14 @@ module _ (text : List ℕ) (n at upper number : ℕ) (inv : Judging text n at up
     pub judge-bad : (recordRefusal n upper (recordAt text at) ≡ 0 → ⊥) → record { refusal = recordRefusal n upper (recordAt text at); line = number + 1 } ≡ judged n text
     judge-bad e =
         let both : (refusalFrom n upper (recordsFrom text at) ≡ recordRefusal n upper (recordAt text at)) × (linesFrom n upper (recordsFrom text at) ≡ 1) =
-                rw here (refused-here n upper (recordAt text at) (recordsFrom text (lineNext text at)) e) in
+        rw here (refused-here n upper (recordAt text at) (recordsFrom text (lineNext text at)) e) in
         let k : number + 1 ≡ linesFrom n 0 (recordLines text) = rw (both .1) at (inv .line) in
         rw (← inv .refusal, both .0, k)
 
     pub judge-end : recordRefusal n upper (recordAt text at) ≡ 0 → isEnd (recordAt text at) ≡ true → record { refusal = 0; line = number + 1 } ≡ judged n text
     judge-end e f =
         let both : (refusalFrom n upper (recordsFrom text at) ≡ 0) × (linesFrom n upper (recordsFrom text at) ≡ 1) =
-                rw here (ended-here n upper (recordAt text at) (recordsFrom text (lineNext text at)) e f) in
+        rw here (ended-here n upper (recordAt text at) (recordsFrom text (lineNext text at)) e f) in
         let k : number + 1 ≡ linesFrom n 0 (recordLines text) = rw (both .1) at (inv .line) in
         rw (← inv .refusal, both .0, k)
 
@@ -115,12 +115,12 @@ module _ (text : List ℕ) (n at upper number : ℕ) (inv : Judging text n at up
     judge-on e f =
         let next : List (List ℕ) = recordsFrom text (lineNext text at) in
         let both : (refusalFrom n upper (recordsFrom text at) ≡ refusalFrom n (upperAfter upper (recordAt text at)) next) × (linesFrom n upper (recordsFrom text at) ≡ suc (linesFrom n (upperAfter upper (recordAt text at)) next)) =
-                rw here (passed-here n upper (recordAt text at) next e f) in
+        rw here (passed-here n upper (recordAt text at) next e f) in
         record {
           within = next-later text at h .1;
           few = omega (arith, inv .few, next-later text at h .0);
           refusal = sym (both .0) ∙ inv .refusal;
-          line = omega (arith, both .1, inv .line)
+          line = omega (arith, both .1, inv .line);
         }
 
     -- the same by what the code has of the line

@@ -72,9 +72,9 @@ module _ (line : List ℕ) (start count : ℕ) (before : List ℕ) where
           let a : start + (i + 1) ≡ start + i + 1 = omega arith in
           let d : 2 * (i + 1) + 9 ≡ 2 * i + 9 + 2 = omega arith in
           let put : wordsAfter (record { address = start + i; value = pairAt line (2 * i + 9) } ∷ rest) after ≡ wordsAfter rest (set after ((start + i) / 2) new) =
-                  rw e (put-byte rest after (start + i) (pairAt line (2 * i + 9)) word-inside byte-small) in
+          rw e (put-byte rest after (start + i) (pairAt line (2 * i + 9)) word-inside byte-small) in
           record {
             within = omega arith;
             same = length-set after ((start + i) / 2) new ∙ inv .same;
-            left = rw (a, d) (sym put ∙ rw first at (inv .left))
+            left = rw (a, d) (sym put ∙ rw first at (inv .left));
           }

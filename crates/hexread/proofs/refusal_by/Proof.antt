@@ -27,13 +27,29 @@ is-outside-requires c κs = search needs
 
 returns-5 : tie.Need-returns-5
 returns-5 c =
-    simp (not-false (c .before .before .before .before .before .before .before .before .before .before .before .before .args .s .digits) (c .before .before .before .before .before .before .before .before .before .before .if1 .left), ← c .before .before .before .before .before .before .before .before .before .is-shaped .ensures, not-false (c .before .before .before .before .before .before .before .before .before .is-shaped .result) (c .before .before .before .before .before .before .before .before .if2 .left), eq-eqb (c .before .before .before .before .before .before .before .before .before .before .before .before .args .s .sum) 0 (c .before .before .before .before .before .before .if3 .left), other-type, c .before .before .if4 .left,
-    ← c .before .is-outside .ensures, c .if5 .taken)
+    simp (
+      not-false (c .before .before .before .before .before .before .before .before .before .before .before .before .args .s .digits) (c .before .before .before .before .before .before .before .before .before .before .if1 .left),
+      ← c .before .before .before .before .before .before .before .before .before .is-shaped .ensures,
+      not-false (c .before .before .before .before .before .before .before .before .before .is-shaped .result) (c .before .before .before .before .before .before .before .before .if2 .left),
+      eq-eqb (c .before .before .before .before .before .before .before .before .before .before .before .before .args .s .sum) 0 (c .before .before .before .before .before .before .if3 .left),
+      other-type,
+      c .before .before .if4 .left,
+      ← c .before .is-outside .ensures,
+      c .if5 .taken,
+    )
 
 returns-6 : tie.Need-returns-6
 returns-6 c =
-    simp (not-false (c .before .before .before .before .before .before .before .before .before .before .before .before .args .s .digits) (c .before .before .before .before .before .before .before .before .before .before .if1 .left), ← c .before .before .before .before .before .before .before .before .before .is-shaped .ensures, not-false (c .before .before .before .before .before .before .before .before .before .is-shaped .result) (c .before .before .before .before .before .before .before .before .if2 .left), eq-eqb (c .before .before .before .before .before .before .before .before .before .before .before .before .args .s .sum) 0 (c .before .before .before .before .before .before .if3 .left), other-type, c .before .before .if4 .left,
-    ← c .before .is-outside .ensures, c .if5 .left)
+    simp (
+      not-false (c .before .before .before .before .before .before .before .before .before .before .before .before .args .s .digits) (c .before .before .before .before .before .before .before .before .before .before .if1 .left),
+      ← c .before .before .before .before .before .before .before .before .before .is-shaped .ensures,
+      not-false (c .before .before .before .before .before .before .before .before .before .is-shaped .result) (c .before .before .before .before .before .before .before .before .if2 .left),
+      eq-eqb (c .before .before .before .before .before .before .before .before .before .before .before .before .args .s .sum) 0 (c .before .before .before .before .before .before .if3 .left),
+      other-type,
+      c .before .before .if4 .left,
+      ← c .before .is-outside .ensures,
+      c .if5 .left,
+    )
 
 pub refusal-by-spec : {M : Type 1} → statement M
 refusal-by-spec =
