@@ -1,5 +1,5 @@
 -- The bytes of a record by their places in its line. Assumes nothing.
-use Prim.Native.Nat.{ℕ, zero, suc, _+_, _-_, _*_, _<_, _≤_, _%_}
+use Prim.Native.Nat.{ℕ, zero, suc, _+_, _-_, _*_, _/_, _<_, _≤_, _%_}
 use mathlib.Core.Bool.{Bool, true, false, cond, not, _&&_, _||_}
 use mathlib.Core.List.{List, [], _∷_}
 use mathlib.Core.Path.{_≡_, refl, sym, ap, _∙_}
@@ -9,7 +9,8 @@ use lib.ListN.{length, getD, take, drop, length-drop, drop-of-length-le}
 use lib.Seq.{drop-cons, drop-drop, getD-drop}
 use native.Mathlib.Numerals.{add-one}
 use borrow.Author.Tests.{ltb-true}
-use Rattle.semantics.specs.Engine.{and-true-l, and-true-r}
+use Rattle.semantics.specs.Engine.{and-true-l, and-true-r, or-false-l, or-false-r}
+use Rattle.semantics.specs.Numbers.{within, within-true}
 use Rattle.hex.specs.declared.Verdict.{Verdict}
 use Rattle.hex.specs.Records.{digit, allDigits, pairs, bytes, total, count, offset, kind, isEnd, shaped, otherType, upperAfter, recordLines, recordRefusal, refusalFrom, linesFrom}
 use Rattle.hexread.specs.declared.Header.{Header}
@@ -56,6 +57,31 @@ or-true false = refl
 pub or-false : (s : Bool) → (s || false) ≡ s
 or-false true = refl
 or-false false = refl
+
+-- whether a byte is a digit, and a digit's value from its bits
+abbrev isDigit : ℕ → Bool
+isDigit b = within 48 10 b || (within 65 6 b || within 97 6 b)
+
+module _ (b : ℕ) where
+  pub digit-value : isDigit b ≡ true → b % 16 + b / 64 * 9 ≡ digit b
+  unfolding digit
+  digit-value = go (within 48 10 b) refl (within 65 6 b) refl (within 97 6 b) refl
+    where
+      go : (u : Bool) → within 48 10 b ≡ u → (v : Bool) → within 65 6 b ≡ v → (w : Bool) → within 97 6 b ≡ w
+          → (u || (v || w)) ≡ true → b % 16 + b / 64 * 9 ≡ cond u (b - 48) (cond v (b - 55) (cond w (b - 87) 16))
+      go true p v q w r e = omega (arith, within-true 48 10 b p .0, within-true 48 10 b p .1)
+      go false p true q w r e = omega (arith, within-true 65 6 b q .0, within-true 65 6 b q .1)
+      go false p false q true r e = omega (arith, within-true 97 6 b r .0, within-true 97 6 b r .1)
+      go false p false q false r e = let z : _≡_ {A = ℕ} 0 1 = cc in absurd (omega arith)
+
+  pub digit-none : isDigit b ≡ false → 16 ≡ digit b
+  unfolding digit
+  digit-none e =
+      let rest : (within 65 6 b || within 97 6 b) ≡ false = or-false-r (within 48 10 b) (within 65 6 b || within 97 6 b) e in
+      let d : within 48 10 b ≡ false = or-false-l (within 48 10 b) (within 65 6 b || within 97 6 b) e in
+      let u : within 65 6 b ≡ false = or-false-l (within 65 6 b) (within 97 6 b) rest in
+      let l : within 97 6 b ≡ false = or-false-r (within 65 6 b) (within 97 6 b) rest in
+      rw (d, u, l)
 
 pub other-type : (k : ℕ) → otherType k ≡ (not (eqb k 0) && (not (eqb k 1) && not (eqb k 4)))
 other-type k = go (eqb k 0) (eqb k 1) (eqb k 4)

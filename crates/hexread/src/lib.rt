@@ -34,16 +34,17 @@ struct LineSeen {
     upper: u32,
 }
 
-// The value of a hex digit of either case, and 16 for any other byte.
+// The value of a hex digit of either case, and 16 for any other byte. Both answers are worked out and one is chosen, since no processor foresees which digit comes.
 fn digit(b: u8) -> u8
     ensures { λ r. ⌜ r ≡ digit b ⌝ }
 {
-    match b {
-        b'0'..=b'9' => b - 48,
-        b'A'..=b'F' => b - 55,
-        b'a'..=b'f' => b - 87,
-        _ => 16,
+    let decimal = (48 <= b) & (b < 58);
+    let upper = (65 <= b) & (b < 71);
+    let lower = (97 <= b) & (b < 103);
+    if decimal | (upper | lower) {
+        return b % 16 + b / 64 * 9;
     }
+    16
 }
 
 // The byte whose two digits begin at a place.
