@@ -1,7 +1,7 @@
 # shellcheck shell=sh disable=SC2154
-# Shared by compare-model, compare-plain, soak and benchmark, which read it in
-# with the dot command after setting $host to this folder. Takes their first two
-# arguments:
+# Shared by compare-model, compare-hex, compare-plain, soak and benchmark, which
+# read it in with the dot command after setting $host to this folder. Takes their
+# first two arguments:
 #   [build folder] [static library]
 # An empty or missing one has its default, from the repository: host/build and
 # target/staticlib/libm58.a
