@@ -1,12 +1,14 @@
 /*
  * Checks what m58.h says of its macros, of state words that are those of no
- * device, and of the write buffer. Prints one line; ends with 1 where something is otherwise.
+ * device, of the write buffer, and of Intel HEX text. Prints one line; ends with
+ * 1 where something is otherwise.
  *
  * To build:  cc header_checks.c libm58.a
  */
 #include <inttypes.h>
 #include <stdio.h>
 #include <stdlib.h>
+#include <string.h>
 
 #include "m58.h"
 
@@ -155,17 +157,173 @@ static void check_buffer(void)
     SAME(0xFFFF, array[0x48 + M58_BUFFER_WORDS]);
 }
 
+/* ---- Intel HEX ---- */
+
+#define HEX_END  ":00000001FF"
+#define HEX_DATA ":02008000341238\n" /* word 40h is 1234h */
+
+static uint8_t *hex_text; /* room for a full part's text, and HEX_MORE bytes */
+enum { HEX_MORE = 8, HEX_UNTOUCHED = 0xEE };
+
+static void fill_array(size_t words, uint16_t word)
+{
+    for (size_t i = 0; i < words; i++)
+        array[i] = word;
+}
+
+/* How many words of the array are not that one. */
+static size_t other_words(size_t words, uint16_t word)
+{
+    size_t other = 0;
+    for (size_t i = 0; i < words; i++)
+        other += array[i] != word;
+    return other;
+}
+
+static uint64_t hex_read(const char *lines, size_t count)
+{
+    return m58_hex_read(M58_BENCH_BOTTOM, (const uint8_t *)lines, count, array, M58_BENCH_WORDS);
+}
+
+static void check_hex_reading(void)
+{
+    static const char lines[] =
+        ":020000040000fa\r\n" HEX_DATA ":010082005a23\n" ":01008500A5D5\r\n" ":010080005629\n"
+        HEX_END "\nignored";
+    const size_t end = sizeof lines - sizeof "\nignored";
+    const uint64_t result = UINT64_C(0x0000000B00000007);
+    SAME(M58_REFUSED_SUM, M58_HEX_REFUSAL(result));
+    SAME(7, M58_HEX_LINE(result));
+    SAME(7, M58_HEX_LENGTH(result));
+    /* with what is ignored, with the LF of the end record, and without */
+    for (size_t i = 0; i < 3; i++) {
+        fill_array(M58_BENCH_WORDS, 0xFFFF);
+        SAME(6, hex_read(lines, i == 0 ? sizeof lines - 1 : end + 2 - i));
+        SAME(0x1256, array[0x40]);
+        SAME(0xFF5A, array[0x41]);
+        SAME(0xA5FF, array[0x42]);
+        SAME(3, other_words(M58_BENCH_WORDS, 0xFFFF));
+    }
+    SAME((uint64_t)M58_REFUSED_RECORD << 32 | 6, hex_read(lines, end - 1));
+    /* a record of type 04 counts for those after it: the last byte of a full part */
+    static const char last[] = ":0200000401FFFA\n" ":01FFFF00A061\n" HEX_END;
+    fill_array(M58_FULL_WORDS, 0x1234);
+    SAME(3, m58_hex_read(M58_FULL_TOP, (const uint8_t *)last, sizeof last - 1, array, M58_FULL_WORDS));
+    SAME(0xA034, array[M58_FULL_WORDS - 1]);
+    SAME(1, other_words(M58_FULL_WORDS, 0x1234));
+}
+
+/* Each after a record that would change a word. */
+static void check_hex_refusals(void)
+{
+    static const struct {
+        const char *lines;
+        uint32_t refusal, line;
+    } cases[] = {
+        { HEX_DATA "\n" HEX_END, M58_REFUSED_RECORD, 2 },
+        { HEX_DATA ":00000101FE\n" HEX_END, M58_REFUSED_RECORD, 2 },
+        { HEX_DATA ":0100000400FB\n" HEX_END, M58_REFUSED_RECORD, 2 },
+        { HEX_DATA HEX_DATA ":00000001FE\n" HEX_END, M58_REFUSED_SUM, 3 },
+        { HEX_DATA ":020000021000EC\n" HEX_END, M58_REFUSED_TYPE, 2 },
+        { HEX_DATA ":020000021000ED\n" HEX_END, M58_REFUSED_SUM, 2 },
+        { HEX_DATA ":01800000A0DF\nx\n" HEX_END, M58_REFUSED_PLACE, 2 },
+        { HEX_DATA ":02FFFF00A0B0B0\n" HEX_END, M58_REFUSED_PLACE, 2 },
+        { HEX_DATA ":020000040001F9\n" HEX_DATA HEX_END, M58_REFUSED_PLACE, 3 },
+        { HEX_DATA HEX_DATA, M58_REFUSED_NO_END, 2 },
+        { "", M58_REFUSED_NO_END, 0 },
+    };
+    fill_array(M58_BENCH_WORDS, 0xFFFF);
+    for (size_t i = 0; i < sizeof cases / sizeof cases[0]; i++) {
+        uint64_t result = hex_read(cases[i].lines, strlen(cases[i].lines));
+        SAME(cases[i].refusal, M58_HEX_REFUSAL(result));
+        SAME(cases[i].line, M58_HEX_LINE(result));
+        SAME(0, other_words(M58_BENCH_WORDS, 0xFFFF));
+    }
+    SAME((uint64_t)M58_REFUSED_NO_END << 32, hex_read(NULL, 0));
+}
+
+/* Reading and writing of a part, with an array of so many words: the same refusal, and 0 beside it. */
+static void refused_lent(uint32_t refusal, uint32_t part, size_t words)
+{
+    static const char lines[] = HEX_DATA HEX_END;
+    const uint64_t due = (uint64_t)refusal << 32;
+    uint16_t *lent = words == 0 ? NULL : array;
+    SAME(due, m58_hex_read(part, (const uint8_t *)lines, sizeof lines - 1, lent, words));
+    SAME(due, m58_hex_write(part, lent, words, hex_text, M58_HEX_FULL_BYTES));
+    SAME(due, m58_hex_write(part, lent, words, NULL, 0));
+}
+
+static void check_hex_lent(void)
+{
+    static const uint32_t above[] = { M58_PARTS, M58_PARTS + 1, UINT32_C(1) << 31, UINT32_MAX };
+    fill_array(M58_FULL_WORDS, 0xFFFF);
+    hex_text[0] = HEX_UNTOUCHED;
+    for (uint32_t part = 0; part < M58_PARTS; part++) {
+        size_t own = part < M58_BENCH_BOTTOM ? M58_FULL_WORDS : M58_BENCH_WORDS;
+        refused_lent(M58_REFUSED_ARRAY, part, 0);
+        refused_lent(M58_REFUSED_ARRAY, part, own - 1);
+        refused_lent(M58_REFUSED_ARRAY, part, own == M58_FULL_WORDS ? M58_BENCH_WORDS : own + 1);
+    }
+    for (size_t i = 0; i < sizeof above / sizeof above[0]; i++) {
+        refused_lent(M58_REFUSED_PART, above[i], M58_FULL_WORDS);
+        refused_lent(M58_REFUSED_PART, above[i], M58_BENCH_WORDS);
+        refused_lent(M58_REFUSED_PART, above[i], 0);
+    }
+    SAME(0, other_words(M58_FULL_WORDS, 0xFFFF));
+    SAME(HEX_UNTOUCHED, hex_text[0]);
+}
+
+/* The bytes of the text that are not as before, from one of them up to the end of its room. */
+static size_t touched(size_t from)
+{
+    size_t count = 0;
+    for (size_t i = from; i < M58_HEX_FULL_BYTES + HEX_MORE; i++)
+        count += hex_text[i] != HEX_UNTOUCHED;
+    return count;
+}
+
+/* Writing a part, and reading what was written. */
+static void check_hex_writing(uint32_t part, size_t words, size_t bytes, uint64_t lines)
+{
+    static const char end[] = HEX_END "\n";
+    for (size_t i = 0; i < words; i++)
+        array[i] = (uint16_t)(i * 40503 + (i >> 13));
+    memset(hex_text, HEX_UNTOUCHED, M58_HEX_FULL_BYTES + HEX_MORE);
+    SAME((uint64_t)M58_REFUSED_TEXT << 32, m58_hex_write(part, array, words, hex_text, bytes - 1));
+    SAME((uint64_t)M58_REFUSED_TEXT << 32, m58_hex_write(part, array, words, NULL, 0));
+    SAME(0, touched(0));
+    SAME(bytes, m58_hex_write(part, array, words, hex_text, bytes + HEX_MORE));
+    SAME(0, touched(bytes));
+    SAME(0, memcmp(hex_text + bytes - (sizeof end - 1), end, sizeof end - 1));
+    /* just so many bytes, at an address of any alignment */
+    SAME(bytes, m58_hex_write(part, array, words, hex_text + 1, bytes));
+    SAME(0, touched(bytes + 1));
+    fill_array(words, 0xFFFF);
+    SAME(lines, m58_hex_read(part, hex_text + 1, bytes, array, words));
+    size_t other = 0;
+    for (size_t i = 0; i < words; i++)
+        other += array[i] != (uint16_t)(i * 40503 + (i >> 13));
+    SAME(0, other);
+}
+
 int main(void)
 {
     array = calloc(M58_FULL_WORDS, sizeof *array);
-    if (array == NULL) {
-        fputs("header_checks: no memory for the array\n", stderr);
+    hex_text = calloc(M58_HEX_FULL_BYTES + HEX_MORE, 1);
+    if (array == NULL || hex_text == NULL) {
+        fputs("header_checks: no memory for the array and the text\n", stderr);
         return 1;
     }
     check_encoding();
     check_clamping();
     check_refusals();
     check_buffer();
+    check_hex_reading();
+    check_hex_refusals();
+    check_hex_lent();
+    check_hex_writing(M58_BENCH_TOP, M58_BENCH_WORDS, M58_HEX_BENCH_BYTES, 2050);
+    check_hex_writing(M58_FULL_BOTTOM, M58_FULL_WORDS, M58_HEX_FULL_BYTES, 2097665);
+    free(hex_text);
     free(array);
     printf("header_checks: %u checks, %u wrong\n", checks, wrong);
     return wrong != 0;

@@ -1,6 +1,7 @@
 /*
  * The M58LT256K flash model, for C programs: the lookup of blocks and
- * banks, and lists of steps played on a part.
+ * banks, lists of steps played on a part, and arrays read from Intel HEX text
+ * and written to it.
  *
  * THE LOOKUP is three pure functions on plain numbers. Any uint32_t may be passed for
  * either argument. They keep no state, touch no memory of the caller and
@@ -75,16 +76,18 @@ uint32_t m58_lookup_bank(uint32_t part, uint32_t address);
  * them as a whole.
  *
  * MEMORY. Each pointer is aligned as its type is (8 bytes for uint64_t, 2 for
- * uint16_t). Each count is a number of elements, not of bytes. State, steps,
- * answers and array may not overlap. A null pointer is good where its count is
- * 0. What a call only writes need not hold anything before it: the answers,
- * and the state words of m58_power_up. The state words of m58_run and
- * m58_report, the steps and the array are read.
+ * uint16_t, 1 for uint8_t). Each count is a number of elements, not of bytes.
+ * State, steps, answers, array and text may not overlap. A null pointer is good
+ * where its count is 0. What a call only writes need not hold anything before
+ * it: the answers, the state words of m58_power_up and the text of
+ * m58_hex_write. The state words of m58_run and m58_report, the steps, the text
+ * of m58_hex_read and every array are read.
  *
  * THREADS. The functions keep no state of their own: calls on different
- * memory may run at once. A call has its state, answers and array to itself,
- * except that any number of calls of m58_report may read the same state words
- * at once, and any number of calls of m58_run the same steps.
+ * memory may run at once. A call has its state, answers, array and text to
+ * itself, except for what it only reads: any number of calls at once may read
+ * the same state words (m58_report), steps (m58_run), text (m58_hex_read) or
+ * array (m58_hex_write).
  */
 #define M58_STATE_WORDS 25 /* other versions have other counts: build anew with this header */
 
@@ -152,6 +155,70 @@ size_t m58_run(uint64_t *state, size_t state_count, const uint64_t *steps,
  * refusal M58_REFUSED_STATE.
  */
 uint64_t m58_report(const uint64_t *state, size_t state_count);
+
+/*
+ * INTEL HEX. Text is the bytes of a file, without a 0 byte at its end; the array
+ * is the words of the part that is named. Byte address a is a half of word a / 2,
+ * the lower half where a is even.
+ *
+ * READING. Each line is one record and nothing else: a colon, then two hex digits
+ * of either case for each byte: the number of data bytes, the offset (upper byte
+ * first), the type, the data, and a check byte that makes the sum of all of them
+ * 0 modulo 256. Lines end in LF or CR LF, and the last may lack it.
+ *
+ *   00  data for the byte addresses from the offset up
+ *   01  `:00000001FF` alone: the end record; what follows it is ignored
+ *   04  two data bytes, offset 0: bits 31 to 16 of the byte addresses of the
+ *       records after it; they are 0 before the first
+ *
+ * A byte that is named twice keeps the later value; words and halves that are not
+ * named stay.
+ *
+ * WRITING. Upper case, LF after each record, 16 data bytes a record, from the
+ * lowest word up, with a 04 record before each 65,536 bytes (before the 32,768 of
+ * a bench part), the end record last. So the length depends on the part alone,
+ * and reading the text back gives the same words.
+ */
+#define M58_HEX_FULL_BYTES  UINT32_C(92282892) /* text of a full part */
+#define M58_HEX_BENCH_BYTES UINT32_C(90140)    /* text of a bench part */
+
+/* A result: the refusal's number in the upper half, a line or a length in the lower. */
+#define M58_HEX_REFUSAL(result) ((uint32_t)((result) >> 32))
+#define M58_HEX_LINE(result)    ((uint32_t)(result)) /* of m58_hex_read */
+#define M58_HEX_LENGTH(result)  ((uint32_t)(result)) /* of m58_hex_write */
+#define M58_HEX_LAST_LINE       UINT32_C(0xFFFFFFFF) /* this line or a later one */
+
+/* More refusals, of text; M58_REFUSED_ARRAY and M58_REFUSED_PART come before them. */
+#define M58_REFUSED_RECORD UINT32_C(10) /* malformed; also a 01 or 04 of other offset or length */
+#define M58_REFUSED_SUM    UINT32_C(11) /* the sum of the record's bytes is not 0 */
+#define M58_REFUSED_TYPE   UINT32_C(12) /* type is not 00, 01 or 04 */
+#define M58_REFUSED_PLACE  UINT32_C(13) /* byte outside the array, or offset plus length above 65,536 */
+#define M58_REFUSED_NO_END UINT32_C(14) /* no end record */
+#define M58_REFUSED_TEXT   UINT32_C(17) /* text is shorter than what is written */
+
+/*
+ * Reads `text` into `array`. Returns refusal << 32 | line. The first bad record
+ * decides, by the lowest number within it. The line is the one that decided,
+ * counted from 1: the bad record's; the end record's where nothing is refused;
+ * beside M58_REFUSED_NO_END the number of lines in the text, 0 where it is empty.
+ * A line past M58_HEX_LAST_LINE is told as that. Beside M58_REFUSED_ARRAY
+ * (array_count is not the part's) and M58_REFUSED_PART (part is above
+ * M58_BENCH_TOP; array_count is not looked at) it is 0.
+ *
+ * Text that is refused leaves every word of the array as it was.
+ */
+uint64_t m58_hex_read(uint32_t part, const uint8_t *text, size_t text_count,
+                      uint16_t *array, size_t array_count);
+
+/*
+ * Writes `array` into `text`. Returns refusal << 32 | length: the bytes that were
+ * written, M58_HEX_FULL_BYTES or M58_HEX_BENCH_BYTES by the part; bytes of the
+ * text past them stay. Refusals are M58_REFUSED_ARRAY and M58_REFUSED_PART, as
+ * above, and M58_REFUSED_TEXT; the length beside them is 0, and the whole text
+ * stays.
+ */
+uint64_t m58_hex_write(uint32_t part, const uint16_t *array, size_t array_count,
+                       uint8_t *text, size_t text_count);
 
 #ifdef __cplusplus
 }
