@@ -1,21 +1,37 @@
 /* Whole files: read into memory, and replaced at once or not at all. */
 #define _XOPEN_SOURCE 700
+#define _DEFAULT_SOURCE /* madvise */
 #include <errno.h>
 #include <fcntl.h>
 #include <signal.h>
 #include <stdio.h>
 #include <stdlib.h>
 #include <string.h>
+#include <sys/mman.h>
 #include <sys/stat.h>
 #include <unistd.h>
 
 #include "tool.h"
 
-enum { FIRST_ROOM = 65536 };
+enum { FIRST_ROOM = 65536, LARGE_PAGE = 2097152 };
+
+/* A long room is had in large pages, where the system has them: small ones take longer to hand out than to fill. NULL where memory is out. */
+static void *room_or_none(size_t bytes)
+{
+    if (bytes < LARGE_PAGE || bytes > SIZE_MAX - LARGE_PAGE)
+        return malloc(bytes);
+    size_t whole = (bytes + LARGE_PAGE - 1) / LARGE_PAGE * LARGE_PAGE;
+    void *room = aligned_alloc(LARGE_PAGE, whole);
+#ifdef MADV_HUGEPAGE
+    if (room != NULL)
+        (void)madvise(room, whole, MADV_HUGEPAGE);
+#endif
+    return room;
+}
 
 void *room_for(size_t bytes)
 {
-    void *room = malloc(bytes);
+    void *room = room_or_none(bytes);
     if (room == NULL)
         fprintf(stderr, "m58: out of memory: %zu bytes are needed\n", bytes);
     return room;
@@ -49,7 +65,7 @@ static ssize_t read_up_to(int file, uint8_t *to, size_t count)
 static int read_to_end(const char *path, int file, size_t room, size_t most, struct bytes *got)
 {
     for (;;) {
-        uint8_t *more = realloc(got->at, room);
+        uint8_t *more = got->at == NULL ? room_or_none(room) : realloc(got->at, room);
         if (more == NULL) {
             fprintf(stderr, "%s: out of memory: %zu bytes are needed to read it\n", path, room);
             return FAILED;
