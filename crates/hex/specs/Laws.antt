@@ -1,6 +1,6 @@
 -- Laws that document 02 states in words: what a byte is after the bytes that a text names, what a refused text leaves, and what a writing leaves in a lent room.
 -- Assumes nothing.
-use Prim.Native.Nat.{ℕ, _≤_}
+use Prim.Native.Nat.{ℕ, _<_, _≤_}
 use mathlib.Core.Bool.{Bool, true, false, cond}
 use mathlib.Core.List.{List, [], _∷_, _++_, List·Memᴰ, List·Memᴰ·head, List·Memᴰ·tail}
 use mathlib.Core.Path.{_≡_, refl, _∙_}
@@ -8,13 +8,14 @@ use native.Mathlib.Omega.{arith}
 use lib.Dec.{eqb, ltb}
 use lib.ListN.{length, take, drop}
 use lib.Seq.{take-append-seam}
-use borrow.Author.Tests.{eq-eqb, ne-eqb, eqb-true, ltb-false}
+use borrow.Author.Tests.{eq-eqb, ne-eqb, eqb-true, ltb-false, lt-ltb, le-ltb}
 use Rattle.geometry.specs.declared.Part.{Part}
 use Rattle.geometry.specs.Blocks.{geometryOf, words}
 use Rattle.printing.specs.Room.{advanced, put-whole}
 use Rattle.semantics.specs.Tabulate.{length-tabulate}
 use Rattle.hex.specs.Records.{Named, byteAfter, wordAfter, wordsAfter, named, recordLines, verdict, arrayRead}
 use Rattle.hex.specs.Text.{textOf, written, roomAfter}
+use Rattle.hex.specs.Sizes.{textLength, length-textOf}
 use Rattle.hex.specs.declared.Written.{Written}
 
 -- ---- the bytes that a text names
@@ -65,6 +66,23 @@ arrayRead-length part text ws = go (eqb (verdict part text ws .refusal) 0)
     go false = refl
 
 -- ---- the room
+
+-- "17 text too short", at its edges: a full part's text has 92,282,892 bytes, a bench part's 90,140. A room that is shorter, by one byte too, is refused and stays;
+-- one of just so many bytes, or of more, is not refused
+pub room-edges : (part : Part) (ws room : List ℕ) → length ws ≡ words (geometryOf part)
+    → (length room < textLength part → (written part ws room ≡ record { refusal = 17; length = 0 }) × (roomAfter part ws room ≡ room))
+    × (textLength part ≤ length room → written part ws room ≡ record { refusal = 0; length = textLength part })
+unfolding written roomAfter
+room-edges part ws room e = (
+  λ h. let short : ltb (length room) (textLength part) ≡ true = lt-ltb (length room) (textLength part) h in (rw (same, long, short), rw (same, long, short)),
+  λ h. rw (same, long, le-ltb (length room) (textLength part) h),
+)
+  where
+    same : eqb (length ws) (words (geometryOf part)) ≡ true
+    same = eq-eqb (length ws) (words (geometryOf part)) e
+
+    long : length (textOf part ws) ≡ textLength part
+    long = length-textOf part ws e
 
 -- what is written is an array of the part's length, fits the room, and comes with its length
 pub written-good : (part : Part) (ws room : List ℕ) → written part ws room .refusal ≡ 0
