@@ -1,24 +1,22 @@
 -- The loop that writes what an accepted text names, line by line. Assumes nothing.
-use Prim.Native.Nat.{ℕ, suc, _+_, _-_, _*_, _/_, _%_, _<_, _≤_}
+use Prim.Native.Nat.{ℕ, suc, _+_, _-_, _*_, _/_, _<_, _≤_}
 use mathlib.Core.Bool.{Bool, true, false, cond, not, _&&_, _||_}
 use mathlib.Core.List.{List, [], _∷_, _++_}
-use mathlib.Core.Path.{_≡_, refl, sym, ap, subst, _∙_}
+use mathlib.Core.Path.{_≡_, refl, sym, ap, _∙_}
 use native.Mathlib.Omega.{arith}
 use lib.Dec.{eqb, ltb}
 use lib.ListN.{length, getD, set, take, drop, length-set, drop-of-length-le}
 use borrow.Author.Tests.{eq-eqb, ne-eqb, eqb-true, ltb-true, ltb-false, not-false}
 use Rattle.lines.specs.declared.Taken.{Taken}
-use Rattle.lines.specs.Lines.{lineNext, next-later}
 use Rattle.semantics.specs.Engine.{or-false-l, and-true-l, and-true-r}
 use Rattle.semantics.specs.Tabulate.{length-tabulate}
 use Rattle.hex.specs.Records.{digit, allDigits, pairs, bytes, count, offset, kind, dataOf, isEnd, otherType, upperAfter, wordAfter, recordLines, recordRefusal, refusalFrom, Named, namedFrom, namedBy, named, wordsAfter, size}
 use Rattle.hex.specs.Bytes.{Small, small-none, small-cons, small-take, small-drop}
 use Rattle.hexread.specs.Ends.{records-next}
-use Rattle.hexread.specs.Bytes.{headerOf, outsideOf, digits-at}
-use Rattle.hexread.specs.Refusals.{Formed, Good, good-if, data-length}
+use Rattle.hexread.specs.Refusals.{Good, good-if, data-length}
 use Rattle.hexread.specs.Put.{withByte, put-none, put-byte}
 use Rattle.hexread.specs.Storing.{Storable}
-use Rattle.hexread.specs.Judging.{recordAt, recordsFrom, Placed}
+use Rattle.hexread.specs.Judging.{recordsFrom, Placed}
 
 -- ---- bytes of one record, and of others after it
 

@@ -1,17 +1,15 @@
 -- The loops that go over a text line by line: the first judges it, the second writes what it names.
 -- Assumes nothing.
-use Prim.Native.Nat.{ℕ, suc, _+_, _-_, _*_, _<_, _≤_}
-use mathlib.Core.Bool.{Bool, true, false, cond}
-use mathlib.Core.List.{List, [], _∷_, _++_}
+use Prim.Native.Nat.{ℕ, suc, _+_, _-_, _<_, _≤_}
+use mathlib.Core.Bool.{true, false}
+use mathlib.Core.List.{List, [], _∷_}
 use mathlib.Core.Path.{_≡_, refl, sym, ap, subst, _∙_}
 use native.Mathlib.Omega.{arith}
-use lib.Dec.{eqb}
 use lib.ListN.{length, take, drop, drop-of-length-le}
 use borrow.Author.Tests.{eq-eqb, ne-eqb}
 use Rattle.lines.specs.declared.Taken.{Taken}
 use Rattle.lines.specs.Lines.{lineEnd, lineNext, takenAt, end-from, end-within, next-later}
-use Rattle.hex.specs.declared.Verdict.{Verdict}
-use Rattle.hex.specs.Records.{recordLines, isEnd, upperAfter, recordRefusal, refusalFrom, linesFrom, named, namedBy, Named, wordsAfter}
+use Rattle.hex.specs.Records.{recordLines, isEnd, upperAfter, recordRefusal, refusalFrom, linesFrom}
 use Rattle.hexread.specs.Ends.{recordEnd, end-inside, records-next}
 use Rattle.hexread.specs.declared.LineSeen.{LineSeen}
 use Rattle.hexread.specs.Bytes.{Looked, judged}

@@ -1,16 +1,16 @@
 -- The refusal of a record by what the code looks at, one thing after the other; and what a good record has.
 -- Assumes nothing.
-use Prim.Native.Nat.{ℕ, suc, _+_, _-_, _*_, _<_, _≤_, _%_}
+use Prim.Native.Nat.{ℕ, suc, _+_, _*_, _<_, _≤_}
 use mathlib.Core.Bool.{Bool, true, false, cond, not, _&&_, _||_}
 use mathlib.Core.List.{List, [], _∷_}
-use mathlib.Core.Path.{_≡_, refl, sym, ap, _∙_}
+use mathlib.Core.Path.{_≡_, refl, sym, _∙_}
 use native.Mathlib.Omega.{arith}
 use native.Mathlib.Decide.{decLt}
 use lib.Dec.{eqb, ltb, leb, eqb·suc-zero}
-use lib.ListN.{length, getD, take, drop, length-take, length-drop}
-use borrow.Author.Tests.{eq-eqb, ne-eqb, lt-ltb, le-ltb, le-leb, lt-leb, leb-false, eqb-true, eqb-false, not-true, not-false}
+use lib.ListN.{length, getD, drop, length-take, length-drop}
+use borrow.Author.Tests.{eq-eqb, ne-eqb, lt-ltb, le-ltb, le-leb, lt-leb, eqb-true, not-false}
 use Rattle.semantics.specs.Engine.{and-true-l, and-true-r}
-use Rattle.hex.specs.Records.{allDigits, bytes, count, offset, kind, dataOf, framed, shaped, malformed, total, sumWrong, otherType, namedFrom, namedBy, outside, passes, recordRefusal}
+use Rattle.hex.specs.Records.{allDigits, bytes, count, offset, kind, dataOf, framed, shaped, malformed, sumWrong, otherType, namedFrom, namedBy, outside, passes, recordRefusal}
 use Rattle.hexread.specs.Bytes.{headerOf, scanned, outsideOf, refusalBy, and-true, length-pairs}
 
 -- ---- a malformed record

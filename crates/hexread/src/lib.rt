@@ -6,7 +6,7 @@ ghost use mathlib.Core.Path.{_≡_};
 ghost use mathlib.Core.Bool.{true};
 ghost use Prim.Native.Nat.{_+_, _*_, _<_, _≤_, _%_};
 ghost use lib.ListN.{length, getD, take, drop};
-ghost use Rattle.hex.specs.Records.{recordLines, digit, allDigits, bytes, total, shaped, otherType, namedFrom, dataOf, recordRefusal, refusalFrom, named, wordsAfter, size, verdict, arrayRead};
+ghost use Rattle.hex.specs.Records.{recordLines, digit, bytes, shaped, namedFrom, recordRefusal, refusalFrom, named, wordsAfter, size, verdict, arrayRead};
 ghost use Rattle.hexread.specs.Ends.{recordEnd};
 ghost use Rattle.hexread.specs.Put.{withByte};
 ghost use Rattle.hexread.specs.Storing.{Storable};

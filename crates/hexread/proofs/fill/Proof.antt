@@ -1,13 +1,12 @@
 -- `hexread::fill` meets its contract. Assumes nothing.
 use Prim.Native.Nat.{ℕ, _-_, _*_}
-use mathlib.Core.Path.{_≡_, refl, sym, ap, _∙_}
+use mathlib.Core.Path.{sym, ap, _∙_}
 use native.Mathlib.Omega.{arith}
 use borrow.Author.Needs.{needs}
-use denote.Ref.{now}
 use lib.ListN.{length}
 use Rattle.hexread.specs.declared.Header.{Header}
 use Rattle.hexread.specs.Refusals.{long-enough, long-upper}
-use Rattle.hexread.specs.Judging.{Placed, placed-line, taken-ends}
+use Rattle.hexread.specs.Judging.{placed-line, taken-ends}
 use Rattle.hexread.specs.Filling.{Filling, storable, fill-start, fill-none, good-line, fill-end, fill-data, fill-upper, is-upper}
 use Rattle.hexread.proofs.fill.Statement.{statement}
 use Rattle.hexread.proofs.fill.Tie as tie

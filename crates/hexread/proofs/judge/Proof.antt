@@ -1,11 +1,10 @@
 -- `hexread::judge` meets its contract. Assumes nothing.
 use Prim.Native.Nat.{_-_, _<_}
-use mathlib.Core.Path.{_≡_, refl, sym, ap, _∙_}
 use native.Mathlib.Omega.{arith}
 use borrow.Author.Needs.{needs}
 use denote.Ref.{now}
 use lib.ListN.{length}
-use Rattle.hexread.specs.Judging.{Judging, Placed, placed-line, taken-ends, judge-start, judge-none, step-bad, step-end, step-on}
+use Rattle.hexread.specs.Judging.{Judging, placed-line, taken-ends, judge-start, judge-none, step-bad, step-end, step-on}
 use Rattle.hexread.proofs.judge.Statement.{statement}
 use Rattle.hexread.proofs.judge.Tie as tie
 

@@ -1,13 +1,12 @@
 -- `hexread::look` meets its contract. Assumes nothing.
 use mathlib.Core.Bool.{false}
-use mathlib.Core.Path.{_≡_, refl, sym, ap, _∙_}
+use mathlib.Core.Path.{_≡_, sym, ap, _∙_}
 use borrow.Author.Needs.{needs}
 use borrow.Author.Tests.{ne-eqb}
 use denote.Ref.{now}
 use lib.Dec.{eqb}
 use Rattle.hex.specs.Records.{kind}
 use Rattle.hexread.specs.declared.Header.{Header}
-use Rattle.hexread.specs.Bytes.{Looked}
 use Rattle.hexread.specs.Refusals.{long-enough, long-upper, good-if}
 use Rattle.hexread.proofs.look.Statement.{statement}
 use Rattle.hexread.proofs.look.Tie as tie

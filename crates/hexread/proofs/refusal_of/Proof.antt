@@ -1,10 +1,8 @@
 -- `hexread::refusal_of` meets its contract. Assumes nothing.
-use Prim.Native.Nat.{_+_, _*_}
 use mathlib.Core.Path.{_≡_, sym, ap, _∙_}
 use native.Mathlib.Omega.{arith}
 use borrow.Author.Needs.{needs}
 use denote.Ref.{now}
-use lib.ListN.{length}
 use Rattle.hex.specs.Records.{count}
 use Rattle.hexread.specs.declared.Header.{Header}
 use Rattle.hexread.specs.Refusals.{no-colon, other-size, by-parts}

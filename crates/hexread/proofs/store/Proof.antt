@@ -3,7 +3,7 @@ use Prim.Native.Nat.{_-_}
 use mathlib.Core.Path.{_∙_}
 use native.Mathlib.Omega.{arith}
 use borrow.Author.Needs.{needs}
-use Rattle.hexread.specs.Storing.{Storing, store-start, store-end, byte-small, word-inside, store-step}
+use Rattle.hexread.specs.Storing.{Storing, store-start, store-end, byte-small, store-step}
 use Rattle.hexread.proofs.store.Statement.{statement}
 use Rattle.hexread.proofs.store.Tie as tie
 
