@@ -36,13 +36,22 @@ part-line-end : tie.Need-part-line-end Inv-loop μ-loop
 part-line-end c = placed-line _ _ _ _ (c .before .before .loop-test .taken) (c .before .taken-at .ensures) (c .record-end .ensures) .inside
 
 header-of-requires : tie.Need-header-of-requires Inv-loop μ-loop
-header-of-requires c κs = long-enough _ (good-line _ _ _ _ _ (c .before .before .before .before .loop .inv) (c .before .before .before .loop-test .taken) _ _ (placed-line _ _ _ _ (c .before .before .before .loop-test .taken) (c .before .before .taken-at .ensures) (c .before .record-end .ensures)) .formed)
+header-of-requires c κs =
+    let r = c .before in
+    let h = r .before .before .loop-test .taken in
+    let place = placed-line _ _ _ _ h (r .before .taken-at .ensures) (r .record-end .ensures) in
+    long-enough _ (good-line _ _ _ _ _ (r .before .before .before .loop .inv) h _ _ place .formed)
 
 same-length : tie.Need-same-length Inv-loop μ-loop
 same-length c = c .before .before .before .before .before .before .before .loop .inv .same
 
 returns : tie.Need-returns Inv-loop μ-loop
-returns c = fill-end _ _ _ _ _ (c .before .before .before .before .before .before .before .loop .inv) (c .before .before .before .before .before .before .loop-test .taken) _ _ (placed-line _ _ _ _ (c .before .before .before .before .before .before .loop-test .taken) (c .before .before .before .before .before .taken-at .ensures) (c .before .before .before .before .record-end .ensures)) (sym (ap (λ (h : Header). h .kind) (c .before .before .header-of .ensures)) ∙ c .if1 .taken)
+returns c =
+    let r = c .before .before .before .before in
+    let h = r .before .before .loop-test .taken in
+    let place = placed-line _ _ _ _ h (r .before .taken-at .ensures) (r .record-end .ensures) in
+    let kind = ap (λ (h : Header). h .kind) (c .before .before .header-of .ensures) in
+    fill-end _ _ _ _ _ (r .before .before .before .loop .inv) h _ _ place (sym kind ∙ c .if1 .taken)
 
 cast-start : tie.Need-cast-start Inv-loop μ-loop
 cast-start c = search needs
@@ -61,26 +70,51 @@ cast-store c = search needs
 
 store-requires : tie.Need-store-requires Inv-loop μ-loop
 store-requires c κs =
-    rw (c .before .before .before .before .before .before .before .header-of .ensures)
-    (storable _ _ _ _ (good-line _ _ _ _ _ (c .before .before .before .before .before .before .before .before .before .before .before .before .loop .inv) (c .before .before .before .before .before .before .before .before .before .before .before .loop-test .taken) _ _ (placed-line _ _ _ _ (c .before .before .before .before .before .before .before .before .before .before .before .loop-test .taken) (c .before .before .before .before .before .before .before .before .before .before .taken-at .ensures) (c .before .before .before .before .before .before .before .before .before .record-end .ensures))) (ap (λ (k : ℕ). 2 * k) (sym (c .before .before .before .before .before .before .before .before .before .before .before .before .loop .inv .same))) (sym (ap (λ (h : Header). h .kind) (c .before .before .before .before .before .before .before .header-of .ensures)) ∙ c .before .before .before .if2 .taken))
+    let r = c .before .before .before .before .before .before .before .before .before in
+    let h = r .before .before .loop-test .taken in
+    let place = placed-line _ _ _ _ h (r .before .taken-at .ensures) (r .record-end .ensures) in
+    let kind = ap (λ (h : Header). h .kind) (c .before .before .before .before .before .before .before .header-of .ensures) in
+    let same = ap (λ (k : ℕ). 2 * k) (sym (r .before .before .before .loop .inv .same)) in
+    rw (c .before .before .before .before .before .before .before .header-of .ensures) (storable _ _ _ _ (good-line _ _ _ _ _ (r .before .before .before .loop .inv) h _ _ place) same (sym kind ∙ c .before .before .before .if2 .taken))
 
 upper-of-requires : tie.Need-upper-of-requires Inv-loop μ-loop
 upper-of-requires c κs =
-    long-upper _ (good-line _ _ _ _ _ (c .before .before .before .before .before .before .before .before .before .loop .inv) (c .before .before .before .before .before .before .before .before .loop-test .taken) _ _ (placed-line _ _ _ _ (c .before .before .before .before .before .before .before .before .loop-test .taken) (c .before .before .before .before .before .before .before .taken-at .ensures) (c .before .before .before .before .before .before .record-end .ensures)) .formed) (is-upper _ _ _ _ _ (c .before .before .before .before .before .before .before .before .before .loop .inv) (c .before .before .before .before .before .before .before .before .loop-test .taken) _ _ (placed-line _ _ _ _ (c .before .before .before .before .before .before .before .before .loop-test .taken) (c .before .before .before .before .before .before .before .taken-at .ensures) (c .before .before .before .before .before .before .record-end .ensures)) (λ e. c .before .before .if1 .left (ap (λ (h : Header). h .kind) (c .before .before .before .before .header-of .ensures) ∙ e)) (λ e. c .if2 .left (ap (λ (h : Header). h .kind) (c .before .before .before .before .header-of .ensures) ∙ e)))
+    let r = c .before .before .before .before .before .before in
+    let h = r .before .before .loop-test .taken in
+    let place = placed-line _ _ _ _ h (r .before .taken-at .ensures) (r .record-end .ensures) in
+    let kind = ap (λ (h : Header). h .kind) (c .before .before .before .before .header-of .ensures) in
+    long-upper _ (good-line _ _ _ _ _ (r .before .before .before .loop .inv) h _ _ place .formed) (is-upper _ _ _ _ _ (r .before .before .before .loop .inv) h _ _ place (λ e. c .before .before .if1 .left (kind ∙ e)) (λ e. c .if2 .left (kind ∙ e)))
 
 loop-less : tie.Need-loop-less Inv-loop μ-loop
-loop-less c = omega (arith, (placed-line _ _ _ _ (c .before .before .before .before .before .before .before .before .before .before .before .before .before .before .loop-test .taken) (c .before .before .before .before .before .before .before .before .before .before .before .before .before .taken-at .ensures) (c .before .before .before .before .before .before .before .before .before .before .before .before .record-end .ensures)) .later, (placed-line _ _ _ _ (c .before .before .before .before .before .before .before .before .before .before .before .before .before .before .loop-test .taken) (c .before .before .before .before .before .before .before .before .before .before .before .before .before .taken-at .ensures) (c .before .before .before .before .before .before .before .before .before .before .before .before .record-end .ensures)) .last)
+loop-less c =
+    let r = c .before .before .before .before .before .before .before .before .before .before .before .before in
+    let h = r .before .before .loop-test .taken in
+    let place = placed-line _ _ _ _ h (r .before .taken-at .ensures) (r .record-end .ensures) in
+    omega (arith, place .later, place .last)
 
 loop-again : tie.Need-loop-again Inv-loop μ-loop
 loop-again c =
-    fill-data _ _ _ _ _ (c .before .before .before .before .before .before .before .before .before .before .before .before .before .before .before .loop .inv) (c .before .before .before .before .before .before .before .before .before .before .before .before .before .before .loop-test .taken) _ _ (placed-line _ _ _ _ (c .before .before .before .before .before .before .before .before .before .before .before .before .before .before .loop-test .taken) (c .before .before .before .before .before .before .before .before .before .before .before .before .before .taken-at .ensures) (c .before .before .before .before .before .before .before .before .before .before .before .before .record-end .ensures)) (λ e. c .before .before .before .before .before .before .before .before .if1 .left (ap (λ (h : Header). h .kind) (c .before .before .before .before .before .before .before .before .before .before .header-of .ensures) ∙ e)) _ (sym (ap (λ (h : Header). h .kind) (c .before .before .before .before .before .before .before .before .before .before .header-of .ensures)) ∙ c .before .before .before .before .before .before .if2 .taken) (c .before .before .store .ensures ∙ rw (c .before .before .before .before .before .before .before .before .before .before .header-of .ensures))
+    let r = c .before .before .before .before .before .before .before .before .before .before .before .before in
+    let h = r .before .before .loop-test .taken in
+    let place = placed-line _ _ _ _ h (r .before .taken-at .ensures) (r .record-end .ensures) in
+    let kind = ap (λ (h : Header). h .kind) (c .before .before .before .before .before .before .before .before .before .before .header-of .ensures) in
+    fill-data _ _ _ _ _ (r .before .before .before .loop .inv) h _ _ place (λ e. c .before .before .before .before .before .before .before .before .if1 .left (kind ∙ e)) _ (sym kind ∙ c .before .before .before .before .before .before .if2 .taken)
+    (c .before .before .store .ensures ∙ rw (c .before .before .before .before .before .before .before .before .before .before .header-of .ensures))
 
 loop-less-2 : tie.Need-loop-less-2 Inv-loop μ-loop
-loop-less-2 c = omega (arith, (placed-line _ _ _ _ (c .before .before .before .before .before .before .before .before .before .loop-test .taken) (c .before .before .before .before .before .before .before .before .taken-at .ensures) (c .before .before .before .before .before .before .before .record-end .ensures)) .later, (placed-line _ _ _ _ (c .before .before .before .before .before .before .before .before .before .loop-test .taken) (c .before .before .before .before .before .before .before .before .taken-at .ensures) (c .before .before .before .before .before .before .before .record-end .ensures)) .last)
+loop-less-2 c =
+    let r = c .before .before .before .before .before .before .before in
+    let h = r .before .before .loop-test .taken in
+    let place = placed-line _ _ _ _ h (r .before .taken-at .ensures) (r .record-end .ensures) in
+    omega (arith, place .later, place .last)
 
 loop-again-2 : tie.Need-loop-again-2 Inv-loop μ-loop
 loop-again-2 c =
-    rw (c .upper-of .ensures) (fill-upper _ _ _ _ _ (c .before .before .before .before .before .before .before .before .before .before .loop .inv) (c .before .before .before .before .before .before .before .before .before .loop-test .taken) _ _ (placed-line _ _ _ _ (c .before .before .before .before .before .before .before .before .before .loop-test .taken) (c .before .before .before .before .before .before .before .before .taken-at .ensures) (c .before .before .before .before .before .before .before .record-end .ensures)) (λ e. c .before .before .before .if1 .left (ap (λ (h : Header). h .kind) (c .before .before .before .before .before .header-of .ensures) ∙ e)) (λ e. c .before .if2 .left (ap (λ (h : Header). h .kind) (c .before .before .before .before .before .header-of .ensures) ∙ e)))
+    let r = c .before .before .before .before .before .before .before in
+    let h = r .before .before .loop-test .taken in
+    let place = placed-line _ _ _ _ h (r .before .taken-at .ensures) (r .record-end .ensures) in
+    let kind = ap (λ (h : Header). h .kind) (c .before .before .before .before .before .header-of .ensures) in
+    rw (c .upper-of .ensures) (fill-upper _ _ _ _ _ (r .before .before .before .loop .inv) h _ _ place (λ e. c .before .before .before .if1 .left (kind ∙ e)) (λ e. c .before .if2 .left (kind ∙ e)))
 
 same-length-2 : tie.Need-same-length-2 Inv-loop μ-loop
 same-length-2 c = c .before .loop .inv .same

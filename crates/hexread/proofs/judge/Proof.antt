@@ -37,20 +37,37 @@ look-requires c κs = search needs
 
 add-number : tie.Need-add-number Inv-loop μ-loop
 add-number c =
-    let h : c .before .before .before .before .before .loop .number < length (now (c .before .before .before .before .before .before .before .args .text)) = omega (arith, c .before .before .before .before .before .loop .inv .few, c .before .before .before .before .loop-test .taken) in
+    let l = c .before .before .before .before .before in
+    let h : l .loop .number < length (now (l .before .before .args .text)) = omega (arith, l .loop .inv .few, c .before .before .before .before .loop-test .taken) in
     search needs
 
 returns : tie.Need-returns Inv-loop μ-loop
-returns c = step-bad _ _ _ _ _ (c .before .before .before .before .before .before .before .loop .inv) (c .before .before .before .before .before .before .loop-test .taken) _ _ (placed-line _ _ _ _ (c .before .before .before .before .before .before .loop-test .taken) (c .before .before .before .before .before .taken-at .ensures) (c .before .before .before .before .record-end .ensures)) _ (c .before .before .look .ensures) (c .if1 .taken)
+returns c =
+    let r = c .before .before .before .before in
+    let h = r .before .before .loop-test .taken in
+    let place = placed-line _ _ _ _ h (r .before .taken-at .ensures) (r .record-end .ensures) in
+    step-bad _ _ _ _ _ (r .before .before .before .loop .inv) h _ _ place _ (c .before .before .look .ensures) (c .if1 .taken)
 
 returns-2 : tie.Need-returns-2 Inv-loop μ-loop
-returns-2 c = step-end _ _ _ _ _ (c .before .before .before .before .before .before .before .before .loop .inv) (c .before .before .before .before .before .before .before .loop-test .taken) _ _ (placed-line _ _ _ _ (c .before .before .before .before .before .before .before .loop-test .taken) (c .before .before .before .before .before .before .taken-at .ensures) (c .before .before .before .before .before .record-end .ensures)) _ (c .before .before .before .look .ensures) (c .before .if1 .left) (c .if2 .taken)
+returns-2 c =
+    let r = c .before .before .before .before .before in
+    let h = r .before .before .loop-test .taken in
+    let place = placed-line _ _ _ _ h (r .before .taken-at .ensures) (r .record-end .ensures) in
+    step-end _ _ _ _ _ (r .before .before .before .loop .inv) h _ _ place _ (c .before .before .before .look .ensures) (c .before .if1 .left) (c .if2 .taken)
 
 loop-less : tie.Need-loop-less Inv-loop μ-loop
-loop-less c = omega (arith, (placed-line _ _ _ _ (c .before .before .before .before .before .before .before .loop-test .taken) (c .before .before .before .before .before .before .taken-at .ensures) (c .before .before .before .before .before .record-end .ensures)) .later, (placed-line _ _ _ _ (c .before .before .before .before .before .before .before .loop-test .taken) (c .before .before .before .before .before .before .taken-at .ensures) (c .before .before .before .before .before .record-end .ensures)) .last)
+loop-less c =
+    let r = c .before .before .before .before .before in
+    let h = r .before .before .loop-test .taken in
+    let place = placed-line _ _ _ _ h (r .before .taken-at .ensures) (r .record-end .ensures) in
+    omega (arith, place .later, place .last)
 
 loop-again : tie.Need-loop-again Inv-loop μ-loop
-loop-again c = step-on _ _ _ _ _ (c .before .before .before .before .before .before .before .before .loop .inv) (c .before .before .before .before .before .before .before .loop-test .taken) _ _ (placed-line _ _ _ _ (c .before .before .before .before .before .before .before .loop-test .taken) (c .before .before .before .before .before .before .taken-at .ensures) (c .before .before .before .before .before .record-end .ensures)) _ (c .before .before .before .look .ensures) (c .before .if1 .left) (c .if2 .left)
+loop-again c =
+    let r = c .before .before .before .before .before in
+    let h = r .before .before .loop-test .taken in
+    let place = placed-line _ _ _ _ h (r .before .taken-at .ensures) (r .record-end .ensures) in
+    step-on _ _ _ _ _ (r .before .before .before .loop .inv) h _ _ place _ (c .before .before .before .look .ensures) (c .before .if1 .left) (c .if2 .left)
 
 returns-3 : tie.Need-returns-3 Inv-loop μ-loop
 returns-3 c = judge-none _ _ _ _ _ (c .before .loop .inv) (c .loop-test .left)

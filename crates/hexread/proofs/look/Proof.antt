@@ -22,18 +22,23 @@ header-of-requires c κs = long-enough _ (good-if _ _ _ (sym (c .before .refusal
 
 upper-of-requires : tie.Need-upper-of-requires
 upper-of-requires c κs =
-    long-upper _ (good-if _ _ _ (sym (c .before .before .before .before .refusal-of .ensures) ∙ c .before .before .before .if1 .left) .formed) (sym (ap (λ (h : Header). h .kind) (c .before .before .header-of .ensures)) ∙ c .if2 .taken)
+    let f = c .before .before .before .before in
+    let kind = ap (λ (h : Header). h .kind) (c .before .before .header-of .ensures) in
+    long-upper _ (good-if _ _ _ (sym (f .refusal-of .ensures) ∙ c .before .before .before .if1 .left) .formed) (sym kind ∙ c .if2 .taken)
 
 returns-2 : tie.Need-returns-2
 returns-2 c =
-    let four : kind (now (c .before .before .before .before .before .before .before .args .line)) ≡ 4 = sym (ap (λ (h : Header). h .kind) (c .before .before .before .header-of .ensures)) ∙ c .before .if2 .taken in
-    record { refusal = sym (c .before .before .before .before .if1 .left) ∙ c .before .before .before .before .before .refusal-of .ensures; ends = λ e. rw four; upperThen = λ e. rw four (c .upper-of .ensures) }
+    let f = c .before .before .before .before .before in
+    let same = ap (λ (h : Header). h .kind) (c .before .before .before .header-of .ensures) in
+    let four : kind (now (f .before .before .args .line)) ≡ 4 = sym same ∙ c .before .if2 .taken in
+    record { refusal = sym (c .before .before .before .before .if1 .left) ∙ f .refusal-of .ensures; ends = λ e. rw four; upperThen = λ e. rw four (c .upper-of .ensures) }
 
 returns-3 : tie.Need-returns-3
 returns-3 c =
-    let same : c .before .before .before .header-of .result .kind ≡ kind (now (c .before .before .before .before .before .before .before .args .line)) = ap (λ (h : Header). h .kind) (c .before .before .before .header-of .ensures) in
-    let other : eqb (kind (now (c .before .before .before .before .before .before .before .args .line))) 4 ≡ false = ne-eqb _ 4 (λ e. c .before .if2 .left (same ∙ e)) in
-    record { refusal = sym (c .before .before .before .before .if1 .left) ∙ c .before .before .before .before .before .refusal-of .ensures; ends = λ e. rw same; upperThen = λ e. rw other }
+    let f = c .before .before .before .before .before in
+    let same = ap (λ (h : Header). h .kind) (c .before .before .before .header-of .ensures) in
+    let other : eqb (kind (now (f .before .before .args .line))) 4 ≡ false = ne-eqb _ 4 (λ e. c .before .if2 .left (same ∙ e)) in
+    record { refusal = sym (c .before .before .before .before .if1 .left) ∙ f .refusal-of .ensures; ends = λ e. rw same; upperThen = λ e. rw other }
 
 pub look-spec : {M : Type 1} → statement M
 look-spec =

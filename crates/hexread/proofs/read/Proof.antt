@@ -22,16 +22,29 @@ judge-requires : tie.Need-judge-requires
 judge-requires c κs = search needs
 
 fill-requires : tie.Need-fill-requires
-fill-requires c κs = let a = c .before .before .before .before .before .before .before .before .args in accepted (a .part) _ (now (a .array)) (c .before .before .before .before .if1 .left ∙ c .before .before .before .before .before .length-of .ensures .0) _ _ (c .before .before .before .before .before .length-of .ensures .0) (c .before .before .before .judge .ensures) (c .before .if2 .taken)
+fill-requires c κs =
+    let j = c .before .before .before in
+    let n = j .before .before .length-of .ensures .0 in
+    let long = j .before .if1 .left ∙ n in
+    let a = c .before .before .before .before .before .before .before .before .args in
+    accepted (a .part) _ (now (a .array)) long _ _ n (j .judge .ensures) (c .before .if2 .taken)
 
 same-length : tie.Need-same-length
 same-length c = search needs
 
 returns-2 : tie.Need-returns-2
-returns-2 c = read-whole _ _ _ (c .before .before .before .before .before .before .before .if1 .left ∙ c .before .before .before .before .before .before .before .before .length-of .ensures .0) _ _ (c .before .before .before .before .before .before .before .before .length-of .ensures .0) (c .before .before .before .before .before .before .judge .ensures) _ (c .before .before .before .before .if2 .taken) (c .before .before .fill .ensures)
+returns-2 c =
+    let j = c .before .before .before .before .before .before in
+    let n = j .before .before .length-of .ensures .0 in
+    let long = j .before .if1 .left ∙ n in
+    read-whole _ _ _ long _ _ n (j .judge .ensures) _ (c .before .before .before .before .if2 .taken) (c .before .before .fill .ensures)
 
 returns-3 : tie.Need-returns-3
-returns-3 c = read-refused _ _ _ (c .before .before .before .if1 .left ∙ c .before .before .before .before .length-of .ensures .0) _ _ (c .before .before .before .before .length-of .ensures .0) (c .before .before .judge .ensures) (c .if2 .left)
+returns-3 c =
+    let j = c .before .before in
+    let n = j .before .before .length-of .ensures .0 in
+    let long = j .before .if1 .left ∙ n in
+    read-refused _ _ _ long _ _ n (j .judge .ensures) (c .if2 .left)
 
 pub read-spec : {M : Type 1} → statement M
 read-spec =

@@ -12,26 +12,35 @@ is-shaped-requires : tie.Need-is-shaped-requires
 is-shaped-requires c κs = search needs
 
 returns-2 : tie.Need-returns-2
-returns-2 c = simp (not-false (c .before .before .before .before .args .s .digits) (c .before .before .if1 .left), ← c .before .is-shaped .ensures, not-true (c .before .is-shaped .result) (c .if2 .taken))
+returns-2 c =
+    let shape = c .before in
+    let s = shape .before .before .before .args .s in
+    simp (not-false (s .digits) (shape .before .if1 .left), ← shape .is-shaped .ensures, not-true (shape .is-shaped .result) (c .if2 .taken))
 
 returns-3 : tie.Need-returns-3
 returns-3 c =
-    simp (not-false (c .before .before .before .before .before .before .args .s .digits) (c .before .before .before .before .if1 .left), ← c .before .before .before .is-shaped .ensures, not-false (c .before .before .before .is-shaped .result) (c .before .before .if2 .left), ne-eqb (c .before .before .before .before .before .before .args .s .sum) 0 (c .if3 .taken))
+    let shape = c .before .before .before in
+    let s = shape .before .before .before .args .s in
+    simp (not-false (s .digits) (shape .before .if1 .left), ← shape .is-shaped .ensures, not-false (shape .is-shaped .result) (c .before .before .if2 .left), ne-eqb (s .sum) 0 (c .if3 .taken))
 
 returns-4 : tie.Need-returns-4
 returns-4 c =
-    simp (not-false (c .before .before .before .before .before .before .before .before .before .before .args .s .digits) (c .before .before .before .before .before .before .before .before .if1 .left), ← c .before .before .before .before .before .before .before .is-shaped .ensures, not-false (c .before .before .before .before .before .before .before .is-shaped .result) (c .before .before .before .before .before .before .if2 .left), eq-eqb (c .before .before .before .before .before .before .before .before .before .before .args .s .sum) 0 (c .before .before .before .before .if3 .left), other-type, c .if4 .taken)
+    let shape = c .before .before .before .before .before .before .before in
+    let s = shape .before .before .before .args .s in
+    simp (not-false (s .digits) (shape .before .if1 .left), ← shape .is-shaped .ensures, not-false (shape .is-shaped .result) (c .before .before .before .before .before .before .if2 .left), eq-eqb (s .sum) 0 (c .before .before .before .before .if3 .left), other-type, c .if4 .taken)
 
 is-outside-requires : tie.Need-is-outside-requires
 is-outside-requires c κs = search needs
 
 returns-5 : tie.Need-returns-5
 returns-5 c =
+    let shape = c .before .before .before .before .before .before .before .before .before in
+    let s = shape .before .before .before .args .s in
     simp (
-      not-false (c .before .before .before .before .before .before .before .before .before .before .before .before .args .s .digits) (c .before .before .before .before .before .before .before .before .before .before .if1 .left),
-      ← c .before .before .before .before .before .before .before .before .before .is-shaped .ensures,
-      not-false (c .before .before .before .before .before .before .before .before .before .is-shaped .result) (c .before .before .before .before .before .before .before .before .if2 .left),
-      eq-eqb (c .before .before .before .before .before .before .before .before .before .before .before .before .args .s .sum) 0 (c .before .before .before .before .before .before .if3 .left),
+      not-false (s .digits) (shape .before .if1 .left),
+      ← shape .is-shaped .ensures,
+      not-false (shape .is-shaped .result) (c .before .before .before .before .before .before .before .before .if2 .left),
+      eq-eqb (s .sum) 0 (c .before .before .before .before .before .before .if3 .left),
       other-type,
       c .before .before .if4 .left,
       ← c .before .is-outside .ensures,
@@ -40,11 +49,13 @@ returns-5 c =
 
 returns-6 : tie.Need-returns-6
 returns-6 c =
+    let shape = c .before .before .before .before .before .before .before .before .before in
+    let s = shape .before .before .before .args .s in
     simp (
-      not-false (c .before .before .before .before .before .before .before .before .before .before .before .before .args .s .digits) (c .before .before .before .before .before .before .before .before .before .before .if1 .left),
-      ← c .before .before .before .before .before .before .before .before .before .is-shaped .ensures,
-      not-false (c .before .before .before .before .before .before .before .before .before .is-shaped .result) (c .before .before .before .before .before .before .before .before .if2 .left),
-      eq-eqb (c .before .before .before .before .before .before .before .before .before .before .before .before .args .s .sum) 0 (c .before .before .before .before .before .before .if3 .left),
+      not-false (s .digits) (shape .before .if1 .left),
+      ← shape .is-shaped .ensures,
+      not-false (shape .is-shaped .result) (c .before .before .before .before .before .before .before .before .if2 .left),
+      eq-eqb (s .sum) 0 (c .before .before .before .before .before .before .if3 .left),
       other-type,
       c .before .before .if4 .left,
       ← c .before .is-outside .ensures,

@@ -29,7 +29,8 @@ add-if2 c = search needs
 
 returns-2 : tie.Need-returns-2
 returns-2 c =
-    let k : c .before .before .header-of .result .count ≡ count (now (c .before .before .before .before .before .args .line)) = ap (λ (h : Header). h .count) (c .before .before .header-of .ensures) in
+    let o = c .before .before in
+    let k : o .header-of .result .count ≡ count (now (o .before .before .before .args .line)) = ap (λ (h : Header). h .count) (o .header-of .ensures) in
     sym (other-size _ _ _ (λ e. c .if2 .taken (omega arith)))
 
 shared-slice-read-if3 : tie.Need-shared-slice-read-if3
@@ -46,8 +47,9 @@ refusal-by-requires c κs = search needs
 
 returns-4 : tie.Need-returns-4
 returns-4 c =
-    let k : c .before .before .before .before .before .before .header-of .result .count ≡ count (now (c .before .before .before .before .before .before .before .before .before .args .line)) = ap (λ (h : Header). h .count) (c .before .before .before .before .before .before .header-of .ensures) in
-    c .refusal-by .ensures ∙ rw (c .before .before .before .before .before .before .header-of .ensures, c .before .scan .ensures) (sym (by-parts _ _ _ (omega arith) (c .before .before .if3 .left)))
+    let o = c .before .before .before .before .before .before in
+    let k : o .header-of .result .count ≡ count (now (o .before .before .before .args .line)) = ap (λ (h : Header). h .count) (o .header-of .ensures) in
+    c .refusal-by .ensures ∙ rw (o .header-of .ensures, c .before .scan .ensures) (sym (by-parts _ _ _ (omega arith) (c .before .before .if3 .left)))
 
 pub refusal-of-spec : {M : Type 1} → statement M
 refusal-of-spec =

@@ -66,10 +66,12 @@ loop-less c = search needs
 
 loop-again : tie.Need-loop-again Inv-loop μ-loop
 loop-again c =
-    let i = c .before .before .before .before .before .before .loop .i in
+    let l = c .before .before .before .before .before .before in
+    let i = l .loop .i in
+    let high = c .before .before .before .digit .ensures in
+    let low = c .before .digit2 .ensures in
     let two : 2 * i + 1 + 1 ≡ 2 * i + 2 = omega arith in
-    rw (c .before .before .before .digit .ensures, c .before .digit2 .ensures)
-    (scan-step _ _ (c .before .before .before .before .before .before .before .before .pre) _ _ _ _ (c .before .before .before .before .before .before .loop .inv) (omega arith) (rw two (c .wrapping-add-u8 .ensures ∙ rw (c .before .before .before .digit .ensures, c .before .digit2 .ensures))))
+    rw (high, low) (scan-step _ _ (l .before .before .pre) _ _ _ _ (l .loop .inv) (omega arith) (rw two (c .wrapping-add-u8 .ensures ∙ rw (high, low))))
 
 returns : tie.Need-returns Inv-loop μ-loop
 returns c =

@@ -35,7 +35,9 @@ slice-read-with-byte : tie.Need-slice-read-with-byte Inv-loop μ-loop
 slice-read-with-byte c = let fits = c .before .before .before .before .before .before .pre .room (omega arith) in search needs
 
 with-byte-requires : tie.Need-with-byte-requires Inv-loop μ-loop
-with-byte-requires c κs = rw (c .before .byte-at .ensures) (byte-small _ _ _ _ (c .before .before .before .before .before .before .pre) _ _ (c .before .before .before .loop .inv) (c .before .before .loop-test .taken))
+with-byte-requires c κs =
+    let l = c .before .before .before in
+    rw (c .before .byte-at .ensures) (byte-small _ _ _ _ (l .before .before .before .pre) _ _ (l .loop .inv) (c .before .before .loop-test .taken))
 
 mul-array : tie.Need-mul-array Inv-loop μ-loop
 mul-array c = let fits = c .before .before .before .before .before .before .before .pre .room (omega arith) in search needs
@@ -50,7 +52,9 @@ loop-less : tie.Need-loop-less Inv-loop μ-loop
 loop-less c = search needs
 
 loop-again : tie.Need-loop-again Inv-loop μ-loop
-loop-again c = store-step _ _ _ _ (c .before .before .before .before .before .before .before .pre) _ _ (c .before .before .before .before .loop .inv) (c .before .before .before .loop-test .taken) _ (c .with-byte .ensures ∙ rw (c .before .before .byte-at .ensures))
+loop-again c =
+    let l = c .before .before .before .before in
+    store-step _ _ _ _ (l .before .before .before .pre) _ _ (l .loop .inv) (c .before .before .before .loop-test .taken) _ (c .with-byte .ensures ∙ rw (c .before .before .byte-at .ensures))
 
 same-length : tie.Need-same-length Inv-loop μ-loop
 same-length c = c .before .loop .inv .same
