@@ -130,7 +130,10 @@ module _ (line : List ℕ) where
   -- byte i of a record has its digits at places 2i + 1 and 2i + 2 of the line
   pub byte-is : (i : ℕ) → 2 * i + 2 < length line → getD (bytes line) i 0 ≡ pairAt line (2 * i + 1)
   unfolding bytes
-  byte-is i h = pairs-at (drop 1 line) i (omega (arith, length-drop 1 line)) ∙ rw (getD-drop 1 line (2 * i) 0, getD-drop 1 line (2 * i + 1) 0) (let e : 1 + 2 * i ≡ 2 * i + 1 = omega arith in let f : 1 + (2 * i + 1) ≡ 2 * i + 1 + 1 = omega arith in rw (e, f))
+  byte-is i h =
+      let e : 1 + 2 * i ≡ 2 * i + 1 = omega arith in
+      let f : 1 + (2 * i + 1) ≡ 2 * i + 1 + 1 = omega arith in
+      pairs-at (drop 1 line) i (omega (arith, length-drop 1 line)) ∙ rw (getD-drop 1 line (2 * i) 0, getD-drop 1 line (2 * i + 1) 0, e, f)
 
   -- the data begin at place 9
   pub data-from : drop 4 (bytes line) ≡ pairs (drop 9 line)

@@ -118,7 +118,8 @@ at-cr-lf b a u e f =
     let n : (b ≡ 10 → ⊥) = λ g. omega arith in
     rw (before-next b (a ∷ u) n, before-here a u f, ne-eqb b 10 n, eq-eqb b 13 e, eq-eqb a 10 f, end-cr (b ∷ a ∷ u) 0 1 (omega arith) (omega arith) e)
 
-at-byte : (b : ℕ) (t : List ℕ) → (b ≡ 10 → ⊥) → (b ≡ 13 → getD t 0 0 ≡ 10 → ⊥) → (beforeLF t ≡ 0 → b ≡ 13 → ⊥) → Split t (beforeLF t) → Split (b ∷ t) (beforeLF (b ∷ t))
+at-byte : (b : ℕ) (t : List ℕ) → (b ≡ 10 → ⊥) → (b ≡ 13 → getD t 0 0 ≡ 10 → ⊥) → (beforeLF t ≡ 0 → b ≡ 13 → ⊥)
+    → Split t (beforeLF t) → Split (b ∷ t) (beforeLF (b ∷ t))
 at-byte b t n m z rest = byte-first b t n m ∙ ap (front b) rest ∙ rw (before-next b t n, end-shift b t (beforeLF t) z)
 
 one : (b : ℕ) → front b (recordLines []) ≡ take (recordEnd (b ∷ []) 0 (suc (beforeLF []))) (b ∷ []) ∷ recordLines (drop (suc (suc (beforeLF []))) (b ∷ []))
@@ -138,7 +139,8 @@ split b [] = alone (eqb b 10) refl
     alone false e = last b (eqb-false b 10 e)
 split b (a ∷ u) = go (eqb b 10) refl (eqb b 13) refl (eqb a 10) refl (split a u)
   where
-    go : (v : Bool) → eqb b 10 ≡ v → (w : Bool) → eqb b 13 ≡ w → (x : Bool) → eqb a 10 ≡ x → Split (a ∷ u) (beforeLF (a ∷ u)) → Split (b ∷ a ∷ u) (beforeLF (b ∷ a ∷ u))
+    go : (v : Bool) → eqb b 10 ≡ v → (w : Bool) → eqb b 13 ≡ w → (x : Bool) → eqb a 10 ≡ x
+        → Split (a ∷ u) (beforeLF (a ∷ u)) → Split (b ∷ a ∷ u) (beforeLF (b ∷ a ∷ u))
     go true e w f x g rest = at-lf b (a ∷ u) (eqb-true b 10 e)
     go false e true f true g rest = at-cr-lf b a u (eqb-true b 13 f) (eqb-true a 10 g)
     go false e true f false g rest = let n : (a ≡ 10 → ⊥) = eqb-false a 10 g in at-byte b (a ∷ u) (eqb-false b 10 e) (λ p q. n q) (λ p q. before-later a u n p) rest
@@ -166,7 +168,9 @@ end-from-place text at k h = go (decLt (at + k) (length text)) (decLt 0 k) (eqb 
         by v e same s
       where
         by : (v : Bool) → eqb (getD text (at + k - 1) 0) 13 ≡ v → getD l (k - 1) 0 ≡ getD text (at + k - 1) 0 → at + k - 1 ≡ at + (k - 1) → goal
-        by true e same s = end-cr text at (at + k) p (omega arith) (eqb-true _ _ e) ∙ s ∙ ap (λ (j : ℕ). at + j) (sym (end-cr l 0 k (omega (arith, length-drop at text)) q (same ∙ eqb-true _ _ e)))
+        by true e same s =
+            end-cr text at (at + k) p (omega arith) (eqb-true _ _ e) ∙ s
+            ∙ ap (λ (j : ℕ). at + j) (sym (end-cr l 0 k (omega (arith, length-drop at text)) q (same ∙ eqb-true _ _ e)))
         by false e same s = end-plain text at (at + k) (eqb-false _ _ e) ∙ ap (λ (j : ℕ). at + j) (sym (end-plain l 0 k (λ g. eqb-false _ _ e (sym same ∙ g))))
 
 -- the record of the line that begins at a place, and the records from the next line on

@@ -112,7 +112,8 @@ module _ (text : List ℕ) (n at upper number : ℕ) (inv : Judging text n at up
     pub judge-on : recordRefusal n upper (recordAt text at) ≡ 0 → isEnd (recordAt text at) ≡ false → Judging text n (lineNext text at) (upperAfter upper (recordAt text at)) (number + 1)
     judge-on e f =
         let next : List (List ℕ) = recordsFrom text (lineNext text at) in
-        let both : (refusalFrom n upper (recordsFrom text at) ≡ refusalFrom n (upperAfter upper (recordAt text at)) next) × (linesFrom n upper (recordsFrom text at) ≡ suc (linesFrom n (upperAfter upper (recordAt text at)) next)) =
+        let then : ℕ = upperAfter upper (recordAt text at) in
+        let both : (refusalFrom n upper (recordsFrom text at) ≡ refusalFrom n then next) × (linesFrom n upper (recordsFrom text at) ≡ suc (linesFrom n then next)) =
         rw here (passed-here n upper (recordAt text at) next e f) in
         record {
           within = next-later text at h .1;

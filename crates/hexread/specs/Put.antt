@@ -27,7 +27,9 @@ odd {a} n = go (decLt (a % 2) 1)
 module _ (l : List Named) (ws : List ℕ) where
   -- what is put at a word of the array, by the halves of every word before and after
   put-is : (x : Named) (after : List ℕ) → length after ≡ length ws
-      → ((i : ℕ) → i < length ws → (cond (eqb (x .address) (2 * i)) (x .value) (getD ws i 0 % 256) ≡ getD after i 0 % 256) × (cond (eqb (x .address) (2 * i + 1)) (x .value) (getD ws i 0 / 256) ≡ getD after i 0 / 256))
+      → ((i : ℕ) → i < length ws
+      → (cond (eqb (x .address) (2 * i)) (x .value) (getD ws i 0 % 256) ≡ getD after i 0 % 256)
+      × (cond (eqb (x .address) (2 * i + 1)) (x .value) (getD ws i 0 / 256) ≡ getD after i 0 / 256))
       → wordsAfter (x ∷ l) ws ≡ wordsAfter l after
   unfolding wordsAfter byteAfter
   put-is x after e halves =
@@ -54,7 +56,8 @@ module _ (l : List Named) (ws : List ℕ) where
       w = getD ws (a / 2) 0
 
       go : (t : Bool) → eqb (a % 2) 0 ≡ t
-          → (cond (eqb a (2 * (a / 2))) v (w % 256) ≡ cond t (w / 256 * 256 + v) (v * 256 + w % 256) % 256) × (cond (eqb a (2 * (a / 2) + 1)) v (w / 256) ≡ cond t (w / 256 * 256 + v) (v * 256 + w % 256) / 256)
+          → (cond (eqb a (2 * (a / 2))) v (w % 256) ≡ cond t (w / 256 * 256 + v) (v * 256 + w % 256) % 256)
+          × (cond (eqb a (2 * (a / 2) + 1)) v (w / 256) ≡ cond t (w / 256 * 256 + v) (v * 256 + w % 256) / 256)
       go true e =
           let z : a % 2 ≡ 0 = eqb-true (a % 2) 0 e in
           (rw (eq-eqb a (2 * (a / 2)) (omega arith)) (omega arith), rw (ne-eqb a (2 * (a / 2) + 1) (λ q. omega arith)) (omega arith))

@@ -131,6 +131,8 @@ formed-if line e =
 pub good-if : (n upper : ℕ) (line : List ℕ) → recordRefusal n upper line ≡ 0 → Good n upper line
 unfolding recordRefusal
 good-if n upper line e =
-    let z : (malformed line ≡ false) × ((sumWrong line ≡ false) × ((otherType (kind line) ≡ false) × ((outside n (namedBy upper line) || passes line) ≡ false))) = none (malformed line) (sumWrong line) (otherType (kind line)) (outside n (namedBy upper line) || passes line) e in
+    let far : Bool = outside n (namedBy upper line) || passes line in
+    let z : (malformed line ≡ false) × ((sumWrong line ≡ false) × ((otherType (kind line) ≡ false) × (far ≡ false))) =
+    none (malformed line) (sumWrong line) (otherType (kind line)) far e in
     let f : Formed line = formed-if line (z .0) in
     record { formed = f; type = z .1 .1 .0; inside = sym (outside-is n upper line (f .size)) ∙ z .1 .1 .1 }
