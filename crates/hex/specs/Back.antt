@@ -146,7 +146,7 @@ written-accepted part ws before long fits small =
     let whole : Whole (size before) (textOf part ws) (textLines part) (namedFrom 0 (bytesOf ws)) = text-whole part ws (size before) long (omega arith) small in
     rw (eq-eqb (length before) (words (geometryOf part)) fits, whole .refusal, whole .line)
 
--- reading back what was written gives the same words
+-- "such that reading it back gives the same words"
 pub written-read-back : (part : Part) (ws before : List ℕ) → length ws ≡ words (geometryOf part) → length before ≡ words (geometryOf part)
     → ((i : ℕ) → getD ws i 0 < 65536) → (verdict part (textOf part ws) before .refusal ≡ 0) × (arrayRead part (textOf part ws) before ≡ ws)
 unfolding arrayRead

@@ -1,5 +1,5 @@
 -- Reading Intel HEX: document 02, item 3. What a line is, what a record is, which refusal a text has, and what an accepted text makes of every byte of the array.
--- A text, a line and a record are lists of bytes; the words of the array are the document's. Definitions only.
+-- A text, a line and a record are lists of bytes, the array is the list of its words. Definitions only.
 -- Assumes nothing.
 use Prim.Native.Nat.{ℕ, suc, _+_, _-_, _*_, _/_, _%_}
 use mathlib.Core.Bool.{Bool, true, false, not, cond, _&&_, _||_}
@@ -54,7 +54,7 @@ kind line = getD (bytes line) 3 0
 abbrev pub dataOf : List ℕ → List ℕ
 dataOf line = take (count line) (drop 4 (bytes line))
 
--- "what follows is ignored": type 01 "ends the file"
+-- type 01 "ends the file, and what follows is ignored"
 abbrev pub isEnd : List ℕ → Bool
 isEnd line = eqb (kind line) 1
 
@@ -64,7 +64,7 @@ isEnd line = eqb (kind line) 1
 abbrev pub framed : List ℕ → Bool
 framed line = eqb (getD line 0 0) 58 && (allDigits (drop 1 line) && eqb (length line) (1 + 2 * (4 + count line + 1)))
 
--- "A 04 record has two data bytes and offset 0."; "`:00000001FF`, the one sound record of type 01"
+-- of a type t, an offset o and n data bytes: "A 04 record has two data bytes and offset 0."; "`:00000001FF`, the one sound record of type 01"
 abbrev pub shaped : ℕ → ℕ → ℕ → Bool
 shaped t o n = cond (eqb t 1) (eqb o 0 && eqb n 0) (cond (eqb t 4) (eqb o 0 && eqb n 2) true)
 
@@ -72,6 +72,7 @@ shaped t o n = cond (eqb t 1) (eqb o 0 && eqb n 0) (cond (eqb t 4) (eqb o 0 && e
 unfoldable pub malformed : List ℕ → Bool
 malformed line = not (framed line && shaped (kind line) (offset line) (count line))
 
+-- the sum of bytes
 unfoldable pub total : List ℕ → ℕ
 total [] = 0
 total (b ∷ t) = b + total t
@@ -80,7 +81,7 @@ total (b ∷ t) = b + total t
 unfoldable pub sumWrong : List ℕ → Bool
 sumWrong line = not (eqb (total (bytes line) % 256) 0)
 
--- "12 other type"
+-- "12 other type" than "records 00, 01 and 04"
 abbrev pub otherType : ℕ → Bool
 otherType t = not (eqb t 0 || (eqb t 1 || eqb t 4))
 
@@ -115,7 +116,7 @@ recordRefusal n upper line =
 
 -- ---- a text
 
--- a 04 record's two data bytes, the higher first, hold until the next one
+-- a 04 record's two data bytes, the higher first, hold until the next one; before the first the upper half is 0 (`verdict`, `arrayRead`)
 abbrev pub upperAfter : ℕ → List ℕ → ℕ
 upperAfter upper line = cond (eqb (kind line) 4) (getD (bytes line) 4 0 * 256 + getD (bytes line) 5 0) upper
 
@@ -150,11 +151,11 @@ wordsAfter l ws = tabulate (length ws) (wordAfter l ws)
 
 -- ---- a reading
 
--- the bytes of an array
+-- how many bytes an array has
 abbrev pub size : List ℕ → ℕ
 size ws = 2 * length ws
 
--- 1 "array length is not 256u" comes before the text's own
+-- 1 "array length is not 256u": "Refusals 1 to 3 come before an added part's own." The line is told beside the refusal
 unfoldable pub verdict : Part → List ℕ → List ℕ → Verdict
 verdict part text ws =
     cond (eqb (length ws) (words (geometryOf part)))

@@ -54,7 +54,7 @@ span FullTop = 65536
 span BenchBottom = 32768
 span BenchTop = 32768
 
--- what stands for "16 data bytes", those from address a on: their record, and before it a 04 record where a span begins there
+-- the text of the "16 data bytes" from address a on: their record, and before it a 04 record where a span begins there
 unfoldable pub sixteenAt : ℕ → List ℕ → ℕ → List ℕ
 sixteenAt s bs a = cond (eqb (a % s) 0) (upperRecord (a / 65536)) [] ++ dataRecord (a % 65536) (take 16 (drop a bs))
 
@@ -69,7 +69,7 @@ textOf part ws = sixteens (span part) (bytesOf ws) (length ws / 8) ++ endRecord
 
 -- ---- a writing
 
--- 1 "array length is not 256u", "17 text too short"; "What is written into lent room comes with its length"
+-- 1 "array length is not 256u", which comes "before an added part's own", and "17 text too short"; "What is written into lent room comes with its length"
 unfoldable pub written : Part → List ℕ → List ℕ → Written
 written part ws room =
     cond (eqb (length ws) (words (geometryOf part)))

@@ -34,7 +34,7 @@ struct LineSeen {
     upper: u32,
 }
 
-// The value of a hex digit of either case, and 16 for any other byte. Both answers are worked out and one is chosen, since no processor foresees which digit comes.
+// The value of a hex digit of either case, and 16 for any other byte. Both answers are worked out and one is chosen: a branch by the digit would be taken wrongly too often.
 fn digit(b: u8) -> u8
     ensures { λ r. ⌜ r ≡ digit b ⌝ }
 {
