@@ -239,7 +239,7 @@ lt-pow zero = omega arith
 lt-pow (suc w) = rw (pow-suc 2 w) (omega (arith, lt-pow w))
 
 -- numbers with the same digits are equal
-digits-same : (n a b : ℕ) → a < 2 ^ n → b < 2 ^ n → ((i : ℕ) → bit a i ≡ bit b i) → a ≡ b
+pub digits-same : (n a b : ℕ) → a < 2 ^ n → b < 2 ^ n → ((i : ℕ) → bit a i ≡ bit b i) → a ≡ b
 digits-same zero a b h k e = omega arith
 digits-same (suc n) a b h k e =
     let h₂ : a < 2 ^ n * 2 = rw (pow-suc 2 n) at h in

@@ -11,6 +11,7 @@ use Rattle.line.specs.Forms.{hexValue, digits as lineDigits, number, begins, is
 use Rattle.printing.specs.Text.{text, digitOf, digits, decimal, hex4, answerText, lineText, endText}
 use Rattle.semantics.specs.Tabulate.{tabulate}
 use Rattle.semantics.specs.State.{emptyBuffer, powerUp}
+use Rattle.semantics.specs.Register.{withoutReserved, reservedZero}
 use Rattle.semantics.specs.WellFormed.{runningAlone, programAlone, eraseAlone, eraseFits, wordsFit, bufferFits, setupFits, runningFits, programFits, suspendedEraseFits, allFit, runningApart, programApart, apart, activityFormed, setupPlaces, runningPlaces, programPlaces, placesUsed, zeroFrom, wellFormed}
 use Rattle.semantics.specs.Reading.{runsIn, statusWord, signatureWord, queryWord, shown, showsBy, readIn, readWord}
 use Rattle.semantics.specs.Writing.{commandOf, resume, accepts, setUp, clearStatus, firstCycle, programRuns, eraseCycle, lockCommandOf, lockCycle, settle, loads, countRight, firstRight, laterRight, confirmRight, confirmCycle, wordsCycle, cycle, keptIf, firstLoaded, wordsLoaded, loaded, writtenAt, written}
@@ -70,8 +71,15 @@ plays =
     ∷ play (replicate 3 0xFFFF) "X" "1 refused 1\nend 1\n"
     ∷ play (replicate 3 0xFFFF) "V 1\n\nK 00\nR 000000\nK 99999\n" "1 refused 1\n2 refused 1\n3 refused 1\n4 refused 1\n5 refused 1\nend 5\n"
     ∷ play (replicate 16385 0xFFFF) "X\nZ\n" "1 refused 1\n2 refused 1\nend 2\n"
+    -- document 02, item 4: the default register, and FFFFh stored as it; 5432h and 4030h stored without their reserved bits, and reset
+    ∷ play (replicate 16384 0xFFFF)
+    "W 000000 0090\nR 000005\nW 00FFFF 0060\nW 00FFFF 0003\nR 000005\nR 003C00\n"
+    "1 ok\n2 BFCF\n3 ok\n4 ok\n5 BFCF\n6 0080\nend 6\n"
+    ∷ play (replicate 16384 0xFFFF)
+    "W 000000 0090\nW 005432 0060\nW 005432 0003\nR 000005\nW 004030 0060\nR 000005\nW 004030 0003\nW 000000 0090\nR 000005\nZ\nW 000000 0090\nR 000005\n"
+    "1 ok\n2 ok\n3 ok\n4 1402\n5 ok\n6 0080\n7 ok\n8 ok\n9 0000\n10 ok\n11 ok\n12 BFCF\nend 12\n"
     ∷ []
 
 pub plays-hold : map printed plays ≡ map output plays
-unfolding scriptOf lines lineRefusal transcriptOf digitOf digits decimal hex4 answerText lineText endText hexValue lineDigits number begins isRead isWrite isWork isSupply isReset stepOfLine mirror blockFrom blockOf bankOf sizeOf startFrom startOf bankStart blockOffset bankOffset bankOfBlock lookupOf bit bitAt isUnprotected withUnprotected spareZero allProtected emptyBuffer powerUp runningAlone programAlone eraseAlone eraseFits wordsFit bufferFits setupFits runningFits programFits suspendedEraseFits allFit runningApart programApart apart activityFormed setupPlaces runningPlaces programPlaces placesUsed zeroFrom wellFormed runsIn statusWord signatureWord queryWord shown showsBy readIn readWord commandOf resume accepts setUp clearStatus firstCycle programRuns eraseCycle lockCommandOf lockCycle settle loads countRight firstRight laterRight confirmRight confirmCycle wordsCycle cycle keptIf firstLoaded wordsLoaded loaded writtenAt written unitsLeft unitsDone runningAfter wordAfter tabulate arrayAfter bufferAfter workedOn worked workedArray locationRefusal addressRefusal countRefusal stepRefusal stateRefusal firstRefusal refusalOf accepted acceptedArray stepOf arrayOf
+unfolding scriptOf lines lineRefusal transcriptOf digitOf digits decimal hex4 answerText lineText endText hexValue lineDigits number begins isRead isWrite isWork isSupply isReset stepOfLine mirror blockFrom blockOf bankOf sizeOf startFrom startOf bankStart blockOffset bankOffset bankOfBlock lookupOf bit bitAt isUnprotected withUnprotected spareZero allProtected emptyBuffer powerUp runningAlone programAlone eraseAlone eraseFits wordsFit bufferFits setupFits runningFits programFits suspendedEraseFits allFit runningApart programApart apart activityFormed setupPlaces runningPlaces programPlaces placesUsed zeroFrom reservedZero wellFormed runsIn statusWord signatureWord queryWord shown showsBy readIn readWord commandOf resume accepts setUp clearStatus firstCycle programRuns eraseCycle lockCommandOf withoutReserved lockCycle settle loads countRight firstRight laterRight confirmRight confirmCycle wordsCycle cycle keptIf firstLoaded wordsLoaded loaded writtenAt written unitsLeft unitsDone runningAfter wordAfter tabulate arrayAfter bufferAfter workedOn worked workedArray locationRefusal addressRefusal countRefusal stepRefusal stateRefusal firstRefusal refusalOf accepted acceptedArray stepOf arrayOf
 plays-hold = refl

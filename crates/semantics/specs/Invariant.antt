@@ -31,7 +31,9 @@ use Rattle.semantics.specs.declared.Next.{Next}
 use Rattle.semantics.specs.declared.Place.{Place}
 use Rattle.semantics.specs.declared.View.{View}
 use Rattle.semantics.specs.State.{geometry, withSupply, withBuffer, powerUp, runs}
-use Rattle.semantics.specs.View.{placeOf, withView}
+use Rattle.semantics.specs.View.{placeOf, viewAt, withView}
+use Rattle.semantics.specs.Register.{reservedZero}
+use Rattle.semantics.specs.RegisterBits.{default-zero, cycle-zero}
 use Rattle.semantics.specs.WellFormed.{wellFormed, activityFormed, placesUsed, zeroFrom}
 use Rattle.semantics.specs.Writing.{cycleAt, written, writtenAt}
 use Rattle.semantics.specs.Working.{unitsDone, runningAfter, bufferAfter, workedOn, worked, workedArray}
@@ -220,35 +222,38 @@ module _ (s : State) (xs : List ℕ) (good : stateRefusal s (length xs) ≡ 0) (
 
 -- ---- what no step changes
 
--- the part, the banks' number, the protection words' number, and their spare bits where these are zero, and the buffer's length
+-- the part, the banks' number, the protection words' number, and their spare bits where these are zero, the buffer's length, and the register's reserved bits where these are zero
 pub record Kept (s t : State) : Type 0 where
   pub part : t .part ≡ s .part
   pub sixteen : length (s .banks) ≡ 16 → length (t .banks) ≡ 16
   pub five : length (t .unprotected) ≡ length (s .unprotected)
   pub spare : spareZero (s .unprotected) ≡ true → spareZero (t .unprotected) ≡ true
   pub thirty-two : length (s .buffer) ≡ 32 → length (t .buffer) ≡ 32
+  pub reserved : reservedZero (s .control .configuration) ≡ true → reservedZero (t .control .configuration) ≡ true
 
-kept : (s t : State) → t .part ≡ s .part → t .banks ≡ s .banks → t .unprotected ≡ s .unprotected → (length (s .buffer) ≡ 32 → length (t .buffer) ≡ 32) → Kept s t
-kept s t p b u c = record { part = p; sixteen = λ h. ap length b ∙ h; five = ap length u; spare = λ h. ap spareZero u ∙ h; thirty-two = c }
+kept : (s t : State) → t .part ≡ s .part → t .banks ≡ s .banks → t .unprotected ≡ s .unprotected → t .control .configuration ≡ s .control .configuration → (length (s .buffer) ≡ 32 → length (t .buffer) ≡ 32) → Kept s t
+kept s t p b u r c = record { part = p; sixteen = λ h. ap length b ∙ h; five = ap length u; spare = λ h. ap spareZero u ∙ h; thirty-two = c; reserved = λ h. ap reservedZero r ∙ h }
 
-kept-view : (s : State) (p : Place) (v : View) (bs : List ℕ) → (length (s .buffer) ≡ 32 → length bs ≡ 32) → Kept s (withBuffer (withView s p v) bs)
-kept-view s p v bs c = record {
+kept-view : (s : State) (p : Place) (v : View) (bs : List ℕ) → (length (s .buffer) ≡ 32 → length bs ≡ 32) → (reservedZero (s .control .configuration) ≡ true → reservedZero (v .control .configuration) ≡ true) → Kept s (withBuffer (withView s p v) bs)
+kept-view s p v bs c r = record {
   part = refl;
   sixteen = λ h. length-set (s .banks) (p .bank) (record { mode = v .mode }) ∙ h;
   five = protection.with-length (s .unprotected) (p .block) (v .unprotected);
   spare = protection.with-spare (s .unprotected) (p .block) (v .unprotected);
   thirty-two = c;
+  reserved = r;
 }
 
 kept-accepted : (s : State) (xs : List ℕ) (x : Step) → length (s .unprotected) ≡ 5 → Kept s (accepted s xs x .state)
 unfolding accepted written writtenAt workedOn worked powerUp
-kept-accepted s xs (Read a) h = kept s s refl refl refl (λ z. z)
+kept-accepted s xs (Read a) h = kept s s refl refl refl refl (λ z. z)
 kept-accepted s xs (Write a w) h =
     kept-view s (placeOf (geometry s) a) (cycleAt s (placeOf (geometry s) a) w) (writtenAt s (placeOf (geometry s) a) w .buffer)
     (length-loaded (geometry s) (s .control .activity .setup) (placeOf (geometry s) a) w (cycleAt s (placeOf (geometry s) a) w .control .activity .running) (s .buffer))
-kept-accepted s xs (Work n) h = kept s (worked s n) refl refl refl (length-after (s .control .activity .running) (worked s n .control .activity .running) (s .buffer))
-kept-accepted s xs (Supply on) h = kept s (withSupply s on) refl refl refl (λ z. z)
-kept-accepted s xs Reset h = record { part = refl; sixteen = λ z. refl; five = protection.all-length ∙ sym h; spare = λ z. protection.all-spare; thirty-two = λ z. length-empty }
+    (cycle-zero (geometry s) (viewAt s (placeOf (geometry s) a)) (s .control .activity .setup) (placeOf (geometry s) a) w)
+kept-accepted s xs (Work n) h = kept s (worked s n) refl refl refl refl (length-after (s .control .activity .running) (worked s n .control .activity .running) (s .buffer))
+kept-accepted s xs (Supply on) h = kept s (withSupply s on) refl refl refl refl (λ z. z)
+kept-accepted s xs Reset h = record { part = refl; sixteen = λ z. refl; five = protection.all-length ∙ sym h; spare = λ z. protection.all-spare; thirty-two = λ z. length-empty; reserved = λ z. default-zero (s .part) }
 
 pub kept-step : (s : State) (xs : List ℕ) (x : Step) → length (s .unprotected) ≡ 5 → Kept s (stepOf s xs x .state)
 unfolding stepOf
@@ -256,7 +261,7 @@ kept-step s xs x h = go (eqb (refusalOf s (length xs) x) 0)
   where
     go : (b : Bool) → Kept s ((cond b (accepted s xs x) (next s (Refused (refusalOf s (length xs) x)))) .state)
     go true = kept-accepted s xs x h
-    go false = kept s s refl refl refl (λ z. z)
+    go false = kept s s refl refl refl refl (λ z. z)
 
 -- ---- the invariant: the device and the recorder agree, and the words are the journal's
 
@@ -267,6 +272,7 @@ pub record Agree (p : Part) (xs₀ : List ℕ) (m : Machine) (c : Recorder) : Ty
   pub spare : spareZero (m .state .unprotected) ≡ true
   pub thirty-two : length (m .state .buffer) ≡ 32
   pub spared : Spared (m .state .control .activity) (m .state .buffer)
+  pub reserved : reservedZero (m .state .control .configuration) ≡ true
   pub same : conditions (m .state) ≡ c .conditions
   pub sim : Sim (geometryOf p) (conditions (m .state)) (underWay (m .state)) (c .journal)
   pub word : (L : ℕ) → L < words (geometryOf p) → wordsOf (m .array) L ≡ After (geometryOf p) (c .journal) L (wordsOf xs₀ L)
@@ -279,7 +285,7 @@ agree-formed p xs₀ m c a =
     let f : activityFormed (geometryOf p) (s .control .activity) ≡ true =
     formed (geometryOf p) (s .buffer) (laws.sound p) (conditions s) (s .control .activity .setup) (s .control .activity .running) (s .control .activity .program) (s .control .activity .erase) (c .journal) refl (a .sim)
     in
-    rw (a .part, f, a .spare, a .spared)
+    rw (a .part, f, a .spare, a .spared, a .reserved)
 
 agree-good : (p : Part) (xs₀ : List ℕ) (m : Machine) (c : Recorder) → Agree p xs₀ m c → stateRefusal (m .state) (length (m .array)) ≡ 0
 agree-good p xs₀ m c a = state-good (m .state) (length (m .array)) (a .size ∙ ap (λ (q : Part). words (geometryOf q)) (sym (a .part))) (agree-formed p xs₀ m c a)
@@ -309,6 +315,7 @@ agree-step xs₀ m c x a =
       spare = k .spare (a .spare);
       thirty-two = k .thirty-two (a .thirty-two);
       spared = spared-step s xs (agree-good (s .part) xs₀ m c a) i x (a .spared);
+      reserved = k .reserved (a .reserved);
       same = f .0 ∙ ap (λ (d : Conditions). conditions-after v d) (a .same);
       sim = subst₂ (λ d e. Sim g d e (journal-after g v (c .journal))) (sym (f .0)) (sym (f .1)) (sim-do g (laws.sound (s .part)) (conditions s) (underWay s) (c .journal) v o (a .sim));
       word = λ L h. f .2 L (omega (arith, a .size)) ∙ words-after-ok g v (conditions s) (underWay s) (c .journal) (wordsOf xs) L (wordsOf xs₀ L) (a .sim) (a .word L h);
@@ -361,6 +368,7 @@ agree-fresh p xs h = record {
   spare = protection.all-spare;
   thirty-two = length-empty;
   spared = zero-empty _;
+  reserved = default-zero p;
   same = ap (λ (u : ℕ → Bool). record { supply = false; unprotected = u; setup = recorder.no-setup }) (fun-ext (λ b. protection.all-none b));
   sim = record { match = entries.start; order = tt; inside = tt; lying = tt; ready = tt };
   word = λ L k. refl;

@@ -14,6 +14,7 @@ use Rattle.protection.specs.Words.{spareZero}
 use Rattle.semantics.specs.declared.State.{State}
 use Rattle.semantics.specs.declared.Step.{Step}
 use Rattle.semantics.specs.State.{geometry}
+use Rattle.semantics.specs.Register.{reservedZero}
 use Rattle.semantics.specs.WellFormed.{wellFormed, activityFormed, placesUsed, zeroFrom}
 use Rattle.semantics.specs.Steps.{stateRefusal, firstRefusal, refusalOf, stepRefusal, next, stepOf, arrayOf}
 use Rattle.semantics.specs.Entries.{Entry}
@@ -26,10 +27,17 @@ use Rattle.semantics.specs.Invariant.{Steps, Fit, Kept, steps, spared-st
 -- on an array of the part's length
 keeps-good : (s : State) (xs : List ℕ) (x : Step) → length (s .unprotected) ≡ 5 → length (s .buffer) ≡ 32 → length xs ≡ words (geometry s) → wellFormed s ≡ true → wellFormed (stepOf s xs x .state) ≡ true
 unfolding wellFormed
-keeps-good s xs x h b n w = rw (q, z, k .spare (and-true-l (spareZero (s .unprotected)) _ rest), spared-step s xs (state-good s (length xs) n w) fit x (and-true-r (spareZero (s .unprotected)) _ rest))
+keeps-good s xs x h b n w =
+    rw (q, z, k .spare (and-true-l (spareZero (s .unprotected)) _ rest), spared-step s xs (state-good s (length xs) n w) fit x (and-true-l used _ more), k .reserved (and-true-r used _ more))
   where
-    rest : (spareZero (s .unprotected) && zeroFrom (placesUsed (s .control .activity)) (s .buffer)) ≡ true
+    used : Bool
+    used = zeroFrom (placesUsed (s .control .activity)) (s .buffer)
+
+    rest : (spareZero (s .unprotected) && (used && reservedZero (s .control .configuration))) ≡ true
     rest = and-true-r (activityFormed (geometry s) (s .control .activity)) _ w
+
+    more : (used && reservedZero (s .control .configuration)) ≡ true
+    more = and-true-r (spareZero (s .unprotected)) _ rest
 
     j : List (Entry Operation)
     j = own (geometry s) (s .buffer) (s .control .activity .running) (s .control .activity .program) (s .control .activity .erase)

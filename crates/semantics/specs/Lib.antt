@@ -2,10 +2,12 @@ pub mod Numbers
 pub mod Tabulate
 pub mod State
 pub mod View
+pub mod Register
 pub mod WellFormed
 pub mod Reading
 pub mod StatusBits
 pub mod Writing
+pub mod RegisterBits
 pub mod Working
 pub mod Arrays
 pub mod Steps
@@ -16,6 +18,7 @@ pub mod OperationCases
 pub mod RefusalCases
 pub mod BufferCases
 pub mod StatusCases
+pub mod RegisterCases
 pub mod FurtherCases
 pub mod Encoding
 pub mod Entries

@@ -50,10 +50,10 @@ operationCases =
     -- it puts every bank in array mode
     ∷ plays BenchBottom (bench 0x1111)
     (inBanks 0 16 (λ a. Write a 0x70 ⟶ Done) ++ write 0x400 0x90 ++ write 0x800 0x98 ++ reset ++ inBanks 0 16 (λ a. Read a ⟶ Word 0x1111) ++ shows 0x410 0x1111 ++ shows 0x810 0x1111)
-    -- it ends a set-up, clears the flags, sets the configuration register to FFFFh and protects every block
+    -- it ends a set-up, clears the flags, sets the configuration register to BFCFh and protects every block
     ∷ plays BenchBottom (bench 0xFFFF) (prepared 0x40 ++ write 0x40 0x40 ++ reset ++ write 0x40 0x70 ++ shows 0x40 0x80)
     ∷ plays BenchBottom (bench 0xFFFF) (erase 0x40 ++ supply true ++ program 0x40 0x1234 ++ shows 0x40 0xBA ++ reset ++ write 0x40 0x70 ++ shows 0x40 0x80)
-    ∷ plays BenchBottom (bench 0xFFFF) (cycles 0x1234 0x60 0x03 ++ reset ++ write 0x0 0x90 ++ shows 0x5 0xFFFF)
+    ∷ plays BenchBottom (bench 0xFFFF) (cycles 0x1234 0x60 0x03 ++ reset ++ write 0x0 0x90 ++ shows 0x5 0xBFCF)
     ∷ plays BenchBottom (bench 0xFFFF) (prepared 0x40 ++ reset ++ program 0x40 0x1234 ++ shows 0x40 0x92)
     ∷ reports BenchBottom (bench 0xFFFF) (prepared 0x3FFF ++ unprotect 0x80 ++ unprotect 0x40 ++ reset) 0 259
     -- it breaks off what runs and what is suspended: D0h resumes nothing, and the words stay as they were reached

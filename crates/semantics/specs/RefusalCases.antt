@@ -52,7 +52,7 @@ abbrev pub good : State → Case
 good s = starts s (bench 0) ((Supply true ⟶ Done) ∷ [])
 
 -- every step refused r, whatever its own numbers
-abbrev all : ℕ → List Exchange
+abbrev pub all : ℕ → List Exchange
 all r =
     (Read 0 ⟶ Refused r) ∷ (Write 0 0xFF ⟶ Refused r) ∷ (Work 1 ⟶ Refused r) ∷ (Supply true ⟶ Refused r) ∷ (Reset ⟶ Refused r) ∷ (Read 0x1000000 ⟶ Refused r)
     ∷ (Write 0x1000000 0xFF ⟶ Refused r) ∷ (Work 65536 ⟶ Refused r) ∷ []

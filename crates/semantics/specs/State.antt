@@ -115,12 +115,13 @@ joined f g = flagsOf (f .sr5 || g .sr5) (f .sr4 || g .sr4) (f .sr3 || g .sr3) (f
 
 -- ---- power-up
 
--- "supply off, every bank in array mode, nothing pending, running or suspended, flags clear, all blocks protected, configuration register FFFFh"; and the buffer empty
+-- "supply off, every bank in array mode, nothing pending, running or suspended, flags clear, all blocks protected"; of the configuration register document 02, item 4: "The default becomes BFCFh"; and
+-- the buffer empty
 unfoldable pub powerUp : Part → State
 powerUp p = record {
   part = p;
   banks = replicate 16 (record { mode = Array });
   unprotected = allProtected;
-  control = record { activity = activity setup.Nothing running.Idle program.Nothing erase.Nothing; flags = noFlags; configuration = 0xFFFF; supply = false };
+  control = record { activity = activity setup.Nothing running.Idle program.Nothing erase.Nothing; flags = noFlags; configuration = 0xBFCF; supply = false };
   buffer = emptyBuffer;
 }

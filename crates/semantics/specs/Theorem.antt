@@ -17,6 +17,10 @@ use Rattle.geometry.specs.Laws as laws
 use Rattle.semantics.specs.declared.Step.{Step}
 use Rattle.semantics.specs.Numbers.{within, within-in, within-out}
 use Rattle.semantics.specs.Layout.{inside, only}
+use Rattle.protection.specs.Words.{bit}
+use Rattle.semantics.specs.Register.{isReserved}
+use Rattle.semantics.specs.RegisterBits.{ShowsRegister, register-shown, zero-each}
+use Rattle.semantics.specs.Reading.{readWord}
 use Rattle.semantics.specs.WellFormed.{wellFormed}
 use Rattle.semantics.specs.Steps.{Machine, after, afterAll, fresh}
 use Rattle.semantics.specs.Entries as entries
@@ -124,6 +128,12 @@ demand-3 p l xs h L k = agree-words p xs (afterAll (fresh p xs) l) (recordedAll 
 -- every state on the way is well formed, and the array keeps its length: refusals 1 and 2 do not come
 pub reached-formed : (p : Part) (l : List Step) (xs : List ℕ) → length xs ≡ words (geometryOf p) → wellFormed (afterAll (fresh p xs) l .state) ≡ true
 reached-formed p l xs h = agree-formed p xs (afterAll (fresh p xs) l) (recordedAll (geometryOf p) beginning l) (reached p l xs h)
+
+-- "Reserved bits read 0": after any list of steps, where a read shows the configuration register, each reserved bit of the word is 0
+pub reserved-read-0 : (p : Part) (l : List Step) (xs : List ℕ) → length xs ≡ words (geometryOf p) → (a : ℕ) → ShowsRegister (afterAll (fresh p xs) l .state) a
+    → (i : ℕ) → isReserved i ≡ true → bit (readWord (afterAll (fresh p xs) l .state) (afterAll (fresh p xs) l .array) a) i ≡ 0
+reserved-read-0 p l xs h a r i e = let m : Machine = afterAll (fresh p xs) l in
+    ap (λ (w : ℕ). bit w i) (register-shown (m .state) (m .array) a r) ∙ zero-each _ (reached p l xs h .reserved) i e
 
 pub reached-length : (p : Part) (l : List Step) (xs : List ℕ) → length xs ≡ words (geometryOf p) → length (afterAll (fresh p xs) l .array) ≡ words (geometryOf p)
 reached-length p l xs h = reached p l xs h .size

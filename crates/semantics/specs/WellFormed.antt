@@ -19,6 +19,7 @@ use Rattle.semantics.specs.declared.SuspendedErase.the-variants as erase
 use Rattle.semantics.specs.declared.Activity.{Activity}
 use Rattle.semantics.specs.declared.State.{State}
 use Rattle.semantics.specs.State.{geometry, runs, programSuspended, eraseSuspended}
+use Rattle.semantics.specs.Register.{reservedZero}
 
 abbrev pub implies : Bool → Bool → Bool
 implies a b = not a || b
@@ -162,6 +163,9 @@ zeroFrom n [] = true
 zeroFrom zero (x ∷ l) = eqb x 0 && zeroFrom zero l
 zeroFrom (suc n) (x ∷ l) = zeroFrom n l
 
--- and "spare storage, if any, is zero": the protection words have more bits than there are blocks, and the buffer more places than are in use
+-- and "spare storage, if any, is zero": the protection words have more bits than there are blocks, and the buffer more places than are in use. Document 02, item 4, of the reserved bits of the
+-- configuration register: "a well made state has them 0"
 unfoldable pub wellFormed : State → Bool
-wellFormed s = activityFormed (geometry s) (s .control .activity) && (spareZero (s .unprotected) && zeroFrom (placesUsed (s .control .activity)) (s .buffer))
+wellFormed s =
+    activityFormed (geometry s) (s .control .activity)
+    && (spareZero (s .unprotected) && (zeroFrom (placesUsed (s .control .activity)) (s .buffer) && reservedZero (s .control .configuration)))

@@ -26,6 +26,7 @@ use Rattle.semantics.specs.declared.State.{State}
 use Rattle.semantics.specs.declared.Place.{Place}
 use Rattle.semantics.specs.declared.View.{View}
 use Rattle.semantics.specs.State.{geometry, activity, withSetup, withRunning, withBuffer, runs, programSuspended, eraseSuspended, emptyBuffer, flagsOf, noFlags}
+use Rattle.semantics.specs.Register.{withoutReserved}
 use Rattle.semantics.specs.View.{placeOf, viewAt, withView, withActivity, withFlags, withConfiguration, withMode, withProtection, raise}
 use Rattle.semantics.specs.Numbers.{within}
 use Rattle.semantics.specs.Tabulate.{tabulate}
@@ -138,11 +139,11 @@ unfoldable pub lockCommandOf : ℕ → LockCommand
 lockCommandOf c = cond (eqb c 0x01) lock.Protect (cond (eqb c 0xD0) lock.Unprotect (cond (eqb c 0x03) lock.Configure lock.Unknown))
 
 -- "01h protects the block, D0h opens it, 03h sets the configuration register to the address modulo 65,536; else SR5 and SR4. Supply is not
--- looked at."
+-- looked at." Document 02, item 4, of its reserved bits: "03h stores those bits as 0", whatever the address has there, and sets no flag
 unfoldable pub lockCycle : View → Place → LockCommand → View
 lockCycle v p lock.Protect = withProtection v false
 lockCycle v p lock.Unprotect = withProtection v true
-lockCycle v p lock.Configure = withConfiguration v (p .address % 65536)
+lockCycle v p lock.Configure = withConfiguration v (withoutReserved (p .address % 65536))
 lockCycle v p lock.Unknown = raise v (flagsOf true true false false)
 
 -- the end of the set-up, with the bank of the cycle's own address in status mode

@@ -21,6 +21,7 @@ ghost use lib.Dec.{eqb};
 ghost use Rattle.geometry.specs.Blocks.{geometryOf, words};
 ghost use Rattle.semantics.specs.State.{withProtection, withSupply, modeIn, flagsOf, noFlags, joined, powerUp};
 ghost use Rattle.semantics.specs.View.{placeOf, viewAt, withView};
+ghost use Rattle.semantics.specs.Register.{withoutReserved, reservedZero};
 ghost use Rattle.semantics.specs.WellFormed.{wellFormed};
 ghost use Rattle.semantics.specs.Steps.{stateRefusal, addressRefusal, countRefusal, stepRefusal, firstRefusal};
 
@@ -129,6 +130,22 @@ pub fn join(f: Flags, g: Flags) -> Flags
     }
 }
 
+// ---- the configuration register
+
+// A word with the register's reserved bits, 14, 5 and 4, at 0.
+pub fn without_reserved(w: u16) -> u16
+    ensures { λ r. ⌜ r ≡ withoutReserved w ⌝ }
+{
+    w & 0xbfcf
+}
+
+// Whether a word has them at 0, and so is left as it is by the mask.
+pub fn reserved_zero(w: u16) -> bool
+    ensures { λ r. ⌜ r ≡ reservedZero w ⌝ }
+{
+    without_reserved(w) == w
+}
+
 // ---- power-up
 
 pub fn power_up(part: Part) -> State
@@ -146,7 +163,7 @@ pub fn power_up(part: Part) -> State
                 erase: SuspendedErase::Nothing,
             },
             flags: no_flags(),
-            configuration: 0xffff,
+            configuration: 0xbfcf,
             supply: false,
         },
         buffer: buffer::empty(),
@@ -164,7 +181,7 @@ pub fn reset(s: State) -> State
 
 // ---- refusals
 
-// Whether the state is well formed (document 01: well made). Where nothing runs, is suspended or is loaded, only the spare storage is left to test.
+// Whether the state is well formed (document 01: well made). Where nothing runs, is suspended or is loaded, only the spare storage and the register are left to test.
 pub fn well_formed(s: State) -> bool
     ensures { λ r. ⌜ r ≡ wellFormed s ⌝ }
 {
@@ -172,11 +189,14 @@ pub fn well_formed(s: State) -> bool
     let a = s.control.activity;
     let words = s.unprotected;
     let buffer = s.buffer;
+    let register = s.control.configuration;
     if operation::at_rest(a) {
-        return protection::spare_zero(words) & buffer::zero_from(buffer, 0);
+        return protection::spare_zero(words)
+            & (buffer::zero_from(buffer, 0) & reserved_zero(register));
     }
     operation::activity_formed(part, a)
-        & (protection::spare_zero(words) & buffer::zero_from(buffer, operation::places_used(a)))
+        & (protection::spare_zero(words)
+            & (buffer::zero_from(buffer, operation::places_used(a)) & reserved_zero(register)))
 }
 
 // The refusal beside an array of n words of a state of the part that is well formed or not, 0 where there is none: 1 for the length, or else 2 for the state.

@@ -202,7 +202,7 @@ fn lock_command_of(c: u16) -> LockCommand
     }
 }
 
-// After a lock set-up. The configuration is the address's low 16 bits, whatever the location is.
+// After a lock set-up. The configuration is the address's low 16 bits, whatever the location is, without the reserved ones.
 fn lock_cycle(mut v: View, p: Place, c: LockCommand) -> View
     ensures { λ r. ⌜ r ≡ lockCycle v p c ⌝ }
 {
@@ -217,7 +217,8 @@ fn lock_cycle(mut v: View, p: Place, c: LockCommand) -> View
         }
         LockCommand::Configure => {
             let low = (p.address % 65536) as u16;
-            v.control.configuration = low;
+            let stored = state::without_reserved(low);
+            v.control.configuration = stored;
             v
         }
         LockCommand::Unknown => with_raised(v, state::flags_of(true, true, false, false)),

@@ -16,6 +16,9 @@ enum-told-3 c = search needs
 cast-low : tie.Need-cast-low
 cast-low c = search needs
 
+without-reserved-requires : tie.Need-without-reserved-requires
+without-reserved-requires c κs = search needs
+
 enum-told-4 : tie.Need-enum-told-4
 enum-told-4 c = search needs
 
@@ -35,7 +38,7 @@ returns-2 c = simp (c .enum-told2 .given .1)
 
 returns-3 : tie.Need-returns-3
 unfolding lockCycle
-returns-3 c = simp (c .before .before .enum-told3 .given .1)
+returns-3 c = simp (c .before .without-reserved .ensures, c .before .before .before .enum-told3 .given .1)
 
 returns-4 : tie.Need-returns-4
 unfolding lockCycle
@@ -49,6 +52,7 @@ lock-cycle-spec =
     enum-told-2
     enum-told-3
     cast-low
+    without-reserved-requires
     enum-told-4
     flags-of-requires
     with-raised-requires

@@ -1,0 +1,211 @@
+-- The configuration register bit by bit: what the mask leaves of a word, over the bit index; that a word has its reserved bits 0 exactly where the mask leaves it; where the register is
+-- read; and what a cycle makes of it.
+-- Assumes nothing.
+use Prim.Native.Nat.{ℕ, _<_, _≤_, _+_, _-_, _%_, _/_, _^_, min}
+use mathlib.Core.Bool.{Bool, true, false, not, cond, _&&_, _||_}
+use mathlib.Core.List.{List}
+use mathlib.Core.Logic.{_⊎_, inl, inr}
+use mathlib.Core.Path.{_≡_, refl, sym, ap, _∙_}
+use native.Mathlib.Nat.{pow-le-pow-right}
+use native.Mathlib.Omega.{arith}
+use lib.Bits.{bitAnd, and-shr, and-step, and-lt}
+use lib.Dec.{eqb, ltb, lit<}
+use borrow.Author.Tests.{lt-ltb, le-ltb, eq-eqb, eqb-true}
+use Rattle.geometry.specs.declared.Part.{Part}
+use Rattle.geometry.specs.declared.Geometry.{Geometry}
+use Rattle.geometry.specs.Blocks.{location, bankOf, bankOffset}
+use Rattle.geometry.specs.Laws.{order}
+use Rattle.protection.specs.Words.{bit}
+use Rattle.protection.specs.Digits.{bit-lt, bit-low, bit-none, digits-same}
+use Rattle.semantics.specs.declared.Command.{Command}
+use Rattle.semantics.specs.declared.Command.the-variants as command
+use Rattle.semantics.specs.declared.LockCommand.{LockCommand}
+use Rattle.semantics.specs.declared.LockCommand.the-variants as lock
+use Rattle.semantics.specs.declared.Mode.the-variants.{Signature}
+use Rattle.semantics.specs.declared.State.{State}
+use Rattle.semantics.specs.declared.Setup.{Setup}
+use Rattle.semantics.specs.declared.Setup.the-variants as setup
+use Rattle.semantics.specs.declared.Running.{Running}
+use Rattle.semantics.specs.declared.Running.the-variants as running
+use Rattle.semantics.specs.declared.Place.{Place}
+use Rattle.semantics.specs.declared.View.{View}
+use Rattle.semantics.specs.State.{geometry, modeOf, runs, powerUp}
+use Rattle.semantics.specs.Reading.{bitIf, signatureWord, shown, showsBy, readIn, readWord}
+use Rattle.semantics.specs.Register.{isReserved, registerMask, withoutReserved, reservedZero}
+use Rattle.semantics.specs.StatusBits.{lines-bit}
+use Rattle.semantics.specs.WellFormed.{erasing}
+use Rattle.semantics.specs.Writing.{commandOf, accepts, setUp, pend, clearStatus, firstCycle, programRuns, eraseCycle, lockCommandOf, lockCycle, settle, loads, countRight, firstRight, laterRight, confirmRight, confirmCycle, wordsCycle, cycle}
+use Rattle.semantics.specs.Engine.{and-true-l, and-true-r}
+
+-- ---- the mask
+
+-- a digit of two words anded
+and-digit : (w d i : ℕ) → bit (bitAnd w d) i ≡ min (bit w i) (bit d i)
+unfolding bit
+and-digit w d i = rw (and-shr w d i) (ap (λ (x : ℕ). x % 2) (and-step (w / 2 ^ i) (d / 2 ^ i)) ∙ omega (arith, bit-lt w i, bit-lt d i))
+
+-- the mask's own bits: it is the sum of the weights of those below 16 that are not reserved, which the checker adds up
+pub mask-bit : (i : ℕ) → bit registerMask i ≡ bitIf (ltb i 16 && not (isReserved i)) 1
+unfolding isReserved
+mask-bit i = lines-bit (λ k. not (isReserved k)) 16 i
+
+-- each reserved bit of the result is 0, each other bit is the word's
+pub each-bit : (w i : ℕ) → w < 65536 → bit (withoutReserved w) i ≡ cond (isReserved i) 0 (bit w i)
+unfolding withoutReserved
+each-bit w i h = and-digit w registerMask i ∙ ap (min (bit w i)) (mask-bit i) ∙ go (isReserved i) (order i 16)
+  where
+    go : (b : Bool) → (i < 16) ⊎ (16 ≤ i) → min (bit w i) (bitIf (ltb i 16 && not b) 1) ≡ cond b 0 (bit w i)
+    go true (inl l) = rw (lt-ltb i 16 l) (omega (arith, bit-lt w i))
+    go false (inl l) = rw (lt-ltb i 16 l) (omega (arith, bit-lt w i))
+    go true (inr l) = rw (le-ltb i 16 l) (omega (arith, bit-lt w i))
+    go false (inr l) = rw (le-ltb i 16 l) (omega (arith, bit-none w i (omega (arith, pow-le-pow-right {n = 2} (omega arith) l))))
+
+-- so what 03h stores of an address: bit i below 16 is the address's, or 0 where it is reserved
+pub stored-bit : (a i : ℕ) → i < 16 → bit (withoutReserved (a % 65536)) i ≡ cond (isReserved i) 0 (bit a i)
+stored-bit a i h = each-bit (a % 65536) i (omega arith) ∙ ap (λ (x : ℕ). cond (isReserved i) 0 x) (bit-low a 16 i h)
+
+-- ---- words whose reserved bits are 0
+
+-- all of them are
+pub zero-each : (w : ℕ) → reservedZero w ≡ true → (i : ℕ) → isReserved i ≡ true → bit w i ≡ 0
+unfolding reservedZero isReserved
+zero-each w z i e = go (eqb i 14) (eqb i 5) refl refl e
+  where
+    low : (eqb (bit w 5) 0 && eqb (bit w 4) 0) ≡ true
+    low = and-true-r (eqb (bit w 14) 0) _ z
+
+    at : (k : ℕ) → eqb i k ≡ true → eqb (bit w k) 0 ≡ true → bit w i ≡ 0
+    at k q h = rw (eqb-true i k q) (eqb-true (bit w k) 0 h)
+
+    go : (b c : Bool) → eqb i 14 ≡ b → eqb i 5 ≡ c → (b || (c || eqb i 4)) ≡ true → bit w i ≡ 0
+    go true c p q r = at 14 p (and-true-l (eqb (bit w 14) 0) _ z)
+    go false true p q r = at 5 q (and-true-l (eqb (bit w 5) 0) _ low)
+    go false false p q r = at 4 r (and-true-r (eqb (bit w 5) 0) _ low)
+
+-- the mask makes such a word of any
+pub masked-zero : (w : ℕ) → w < 65536 → reservedZero (withoutReserved w) ≡ true
+unfolding reservedZero isReserved
+masked-zero w h = rw (each-bit w 14 h, each-bit w 5 h, each-bit w 4 h)
+
+-- and leaves such a word: by this a program tests it
+pub masked-same : (w : ℕ) → w < 65536 → eqb (withoutReserved w) w ≡ reservedZero w
+unfolding withoutReserved
+masked-same w h = go (reservedZero w) refl
+  where
+    same : reservedZero w ≡ true → (i : ℕ) → bit (withoutReserved w) i ≡ bit w i
+    same z i = each-bit w i h ∙ at (isReserved i) refl
+      where
+        at : (b : Bool) → isReserved i ≡ b → cond b 0 (bit w i) ≡ bit w i
+        at true e = sym (zero-each w z i e)
+        at false e = refl
+
+    go : (b : Bool) → reservedZero w ≡ b → eqb (withoutReserved w) w ≡ b
+    go true e = eq-eqb (withoutReserved w) w (digits-same 16 (withoutReserved w) w (and-lt 16 w registerMask h (lit< tt)) h (same e))
+    go false e = at (eqb (withoutReserved w) w) refl
+      where
+        at : (t : Bool) → eqb (withoutReserved w) w ≡ t → t ≡ false
+        at true q = sym (masked-zero w h) ∙ ap reservedZero (eqb-true (withoutReserved w) w q) ∙ e
+        at false q = refl
+
+-- the default is such a word, and every bit of it that is not reserved is 1, as in Table 11
+pub default-zero : (p : Part) → reservedZero (powerUp p .control .configuration) ≡ true
+unfolding powerUp reservedZero bit
+default-zero p = refl
+
+pub default-ones : (p : Part) → powerUp p .control .configuration ≡ withoutReserved 0xFFFF
+unfolding powerUp withoutReserved
+default-ones p = refl
+
+-- ---- where the register is read
+
+-- a read at the address shows it: its bank is in signature mode, and the address is at the bank's offset 5
+pub record ShowsRegister (s : State) (a : ℕ) : Type 0 where
+  pub mode : modeOf s (bankOf (geometry s) (location (geometry s) a)) ≡ Signature
+  pub offset : bankOffset (geometry s) (location (geometry s) a) ≡ 5
+
+pub register-shown : (s : State) (xs : List ℕ) (a : ℕ) → ShowsRegister s a → readWord s xs a ≡ s .control .configuration
+unfolding readWord readIn shown showsBy signatureWord
+register-shown s xs a r = rw (r .mode, r .offset)
+
+-- ---- what a cycle makes of the register
+
+-- the command is 03h
+abbrev pub isConfigure : LockCommand → Bool
+isConfigure lock.Protect = false
+isConfigure lock.Unprotect = false
+isConfigure lock.Configure = true
+isConfigure lock.Unknown = false
+
+-- the cycle of a word w is 03h after a lock set-up
+abbrev pub configures : Setup → ℕ → Bool
+configures setup.Nothing w = false
+configures setup.Program w = false
+configures setup.Erase w = false
+configures setup.Lock w = isConfigure (lockCommandOf (w % 256))
+configures (setup.BufferCount b) w = false
+configures (setup.BufferFirst b n) w = false
+configures (setup.BufferWords l n due) w = false
+
+-- a view that has register r
+abbrev Has : ℕ → View → Type 0
+Has r v = v .control .configuration ≡ r
+
+has-cond : (r : ℕ) (b : Bool) (x y : View) → Has r x → Has r y → Has r (cond b x y)
+has-cond r true x y p q = p
+has-cond r false x y p q = q
+
+module _ (v : View) (p : Place) where
+  first-has : (c : Command) → Has (v .control .configuration) (firstCycle v p c)
+  unfolding firstCycle setUp clearStatus
+  first-has command.ReadArray = refl
+  first-has command.ReadStatus = refl
+  first-has command.ReadSignature = refl
+  first-has command.ReadQuery = refl
+  first-has command.Suspend = refl
+  first-has command.Resume = refl
+  first-has command.ClearStatus = has-cond _ (runs (v .control .activity .running)) _ _ refl refl
+  first-has command.SetUpProgram = has-cond _ (accepts (v .control .activity) setup.Program) _ _ refl refl
+  first-has command.SetUpErase = has-cond _ (accepts (v .control .activity) setup.Erase) _ _ refl refl
+  first-has command.SetUpLock = has-cond _ (accepts (v .control .activity) setup.Lock) _ _ refl refl
+  first-has command.SetUpBuffer = has-cond _ (accepts (v .control .activity) (setup.BufferCount (p .block))) _ _ refl refl
+  first-has command.Unknown = refl
+
+  program-has : (r : Running) → Has (v .control .configuration) (programRuns (settle v) p r)
+  unfolding programRuns settle
+  program-has r =
+      has-cond _ (not (v .control .supply)) _ _ refl (has-cond _ (not (v .unprotected)) _ _ refl (has-cond _ (erasing (v .control .activity .erase) (p .block)) _ _ refl refl))
+
+  erase-has : (c : ℕ) → Has (v .control .configuration) (eraseCycle (settle v) p c)
+  unfolding eraseCycle settle
+  erase-has c = has-cond _ (not (eqb c 0xD0)) _ _ refl (has-cond _ (not (v .control .supply)) _ _ refl (has-cond _ (not (v .unprotected)) _ _ refl refl))
+
+  loads-has : (right : Bool) (c : Setup) → Has (v .control .configuration) (loads right v c)
+  unfolding loads settle
+  loads-has right c = has-cond _ right _ _ refl refl
+
+  lock-has : (c : LockCommand) → Has (cond (isConfigure c) (withoutReserved (p .address % 65536)) (v .control .configuration)) (lockCycle (settle v) p c)
+  unfolding lockCycle settle
+  lock-has lock.Protect = refl
+  lock-has lock.Unprotect = refl
+  lock-has lock.Configure = refl
+  lock-has lock.Unknown = refl
+
+-- only 03h after a lock set-up writes the register: what it stores is the address modulo 65,536 without its reserved bits
+pub cycle-register : (g : Geometry) (v : View) (c : Setup) (p : Place) (w : ℕ) → cycle g v c p w .control .configuration ≡ cond (configures c w) (withoutReserved (p .address % 65536)) (v .control .configuration)
+unfolding cycle wordsCycle confirmCycle settle
+cycle-register g v setup.Nothing p w = first-has v p (commandOf (w % 256))
+cycle-register g v setup.Program p w = program-has v p (running.Program (p .location) w)
+cycle-register g v setup.Erase p w = erase-has v p (w % 256)
+cycle-register g v setup.Lock p w = lock-has v p (lockCommandOf (w % 256))
+cycle-register g v (setup.BufferCount b) p w = loads-has v p (countRight b p w) (setup.BufferFirst b (w + 1))
+cycle-register g v (setup.BufferFirst b n) p w = loads-has v p (firstRight g b n p) (setup.BufferWords (p .location) n (n - 1))
+cycle-register g v (setup.BufferWords l n due) p w =
+    has-cond _ (eqb due 0) _ _ (has-cond _ (confirmRight g l p w) _ _ (program-has v p (running.Buffer l n 0)) refl) (loads-has v p (laterRight l n p) (setup.BufferWords l n (due - 1)))
+
+-- so the reserved bits stay 0
+pub cycle-zero : (g : Geometry) (v : View) (c : Setup) (p : Place) (w : ℕ) → reservedZero (v .control .configuration) ≡ true → reservedZero (cycle g v c p w .control .configuration) ≡ true
+cycle-zero g v c p w h = ap reservedZero (cycle-register g v c p w) ∙ go (configures c w)
+  where
+    go : (b : Bool) → reservedZero (cond b (withoutReserved (p .address % 65536)) (v .control .configuration)) ≡ true
+    go true = masked-zero (p .address % 65536) (omega arith)
+    go false = h
