@@ -250,9 +250,9 @@ impl Author {
         Step::Write(address, data)
     }
 
-    /// An address for 03h, whose lower 16 bits become the register: often with one
-    /// of the reserved bits set, with all of them or with none, and on a bench part
-    /// most often not a location.
+    /// An address for 03h, which stores its lower 16 bits but for the reserved ones:
+    /// often one of those is set, or all or none of them. On a bench part it is most
+    /// often no location.
     fn register_address(&mut self) -> u32 {
         let word = self.dice.next() as u16;
         let reserved = match self.dice.below(8) {

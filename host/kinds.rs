@@ -262,6 +262,7 @@ enum Register {
     Given,
     /// From 03h, with a reserved bit set in its address.
     Reserved,
+    /// From 03h, with none set.
     Plain,
     /// From a reset that changed it.
     Reset,

@@ -28,9 +28,9 @@ pub const CLAUSES: [&str; 22] = [
     "a buffer program in the block of the suspended erase",
     "a word in the buffer, and neither a load with a word nor a buffer program",
     "a word in the buffer past those of the load or buffer program",
-    "a configuration register with bit 14 set",
-    "a configuration register with bit 5 set",
-    "a configuration register with bit 4 set",
+    "a configuration register with reserved bit 14 set",
+    "a configuration register with reserved bit 5 set",
+    "a configuration register with reserved bit 4 set",
     "a configuration register with two or three reserved bits set",
 ];
 
