@@ -176,6 +176,9 @@ fn probes(part: Part) -> Vec<u64> {
         Step::Write(0, 0x00D0),
         Step::Reset,
         Step::Supply(false),
+        // Where a lock set-up was refused with all else, 03h would be its second cycle.
+        Step::Write(part.unit(), 0x0060),
+        Step::Write(0xC035, 0x0003),
     ];
     steps.map(library::number).to_vec()
 }
@@ -470,12 +473,19 @@ fn malformed(part: Part) -> Vec<(String, Words)> {
     states
 }
 
-/// "a well made state has them 0" (document 02, item 4): power-up, and a device
-/// with supply and unprotected blocks, with reserved bits set.
+/// "a well made state has them 0" (document 02, item 4): power-up, a device with
+/// supply and unprotected blocks, and one for which 03h would store a good
+/// register, with reserved bits set.
 fn malformed_registers(base: &Device) -> Vec<(String, Words)> {
     let fresh = Device::power_up(base.part.number());
+    let mut lock = base.clone();
+    lock.setup = Some(Setup::Lock);
     let mut states = Vec::new();
-    for (name, device) in [("power-up", &fresh), ("all unprotected", base)] {
+    for (name, device) in [
+        ("power-up", &fresh),
+        ("all unprotected", base),
+        ("lock set-up", &lock),
+    ] {
         for register in [
             0x4000, 0x0020, 0x0010, 0x4020, 0x4010, 0x0030, 0x4030, 0xFFFF, 0xFFCF, 0xBFEF, 0xBFDF,
         ] {
@@ -710,8 +720,9 @@ fn stored_registers(part: Part, upper: u32) -> Vec<u64> {
         steps.extend([Step::Write(last, 0x60), Step::Write(address, 0x03)]);
         steps.extend([Step::Write(0, 0x90), Step::Read(5)]);
     }
-    // The last one is reset.
-    steps.extend([Step::Reset, Step::Write(0, 0x90), Step::Read(5)]);
+    // No flag was set; the last one is reset.
+    steps.extend([Step::Write(0, 0x70), Step::Read(0), Step::Reset]);
+    steps.extend([Step::Write(0, 0x90), Step::Read(5)]);
     steps.into_iter().map(library::number).collect()
 }
 

@@ -78,6 +78,12 @@ static void check_clamping(void)
 
 static uint16_t *array;
 
+/* The array words of a part. */
+static size_t words_of(uint32_t part)
+{
+    return part < M58_BENCH_BOTTOM ? M58_FULL_WORDS : M58_BENCH_WORDS;
+}
+
 static void fill_array(size_t words, uint16_t word)
 {
     for (size_t i = 0; i < words; i++)
@@ -119,8 +125,8 @@ static void check_refusals(void)
     }
     /* a count that is not M58_STATE_WORDS: the first word still names the part */
     for (uint64_t part = 0; part < M58_PARTS; part++) {
-        size_t own = part < M58_BENCH_BOTTOM ? M58_FULL_WORDS : M58_BENCH_WORDS;
-        size_t other = part < M58_BENCH_BOTTOM ? M58_BENCH_WORDS : M58_FULL_WORDS;
+        size_t own = words_of((uint32_t)part);
+        size_t other = own == M58_FULL_WORDS ? M58_BENCH_WORDS : M58_FULL_WORDS;
         same("power-up", 1, m58_power_up((uint32_t)part, state, M58_STATE_WORDS));
         SAME(M58_REFUSED_STATE, refusal(state, M58_STATE_WORDS - 1, M58_RESET, own));
         SAME(M58_REFUSED_ARRAY, refusal(state, M58_STATE_WORDS - 1, M58_RESET, other));
@@ -216,8 +222,14 @@ static void check_register_stored(void)
         { M58_WRITE(0x004030, 0x0003), 0 }, { M58_WRITE(0x000000, 0x0090), 0 }, { M58_READ(0x000005), 0x0000 },
         { M58_RESET, 0 },                   { M58_WRITE(0x000000, 0x0090), 0 }, { M58_READ(0x000005), 0xBFCF },
     };
+    /* the set-up's address says nothing, nor do upper lines, and codes that the sheet reserves are stored */
+    static const struct line elsewhere[] = {
+        { M58_WRITE(0x001234, 0x0060), 0 }, { M58_WRITE(0xAB8134, 0x0003), 0 }, { M58_WRITE(0x000000, 0x0090), 0 },
+        { M58_READ(0x000005), 0x8104 },
+    };
     check_lines(all, sizeof all / sizeof all[0]);
     check_lines(some, sizeof some / sizeof some[0]);
+    check_lines(elsewhere, sizeof elsewhere / sizeof elsewhere[0]);
 }
 
 static uint64_t register_of(const uint64_t *state)
@@ -225,27 +237,28 @@ static uint64_t register_of(const uint64_t *state)
     return state[REGISTER_WORD] >> REGISTER_BIT & 0xFFFF;
 }
 
-/* The power-up words of a part, with another register. */
-static void power_up_with(uint64_t *state, uint32_t part, uint64_t reg)
+/* The words of a part after power-up and one step, with another register. */
+static void power_up_with(uint64_t *state, uint32_t part, uint64_t step, uint64_t reg)
 {
     same("power-up", 1, m58_power_up(part, state, M58_STATE_WORDS));
+    SAME(M58_REFUSED_NOTHING, refusal(state, M58_STATE_WORDS, step, words_of(part)));
     SAME(REGISTER_DEFAULT, register_of(state));
     state[REGISTER_WORD] ^= (REGISTER_DEFAULT ^ reg) << REGISTER_BIT;
 }
 
-/* Steps of every kind; the two writes would store a good register. */
+/* Steps of every kind; 03h, after a set-up, and reset would give a good register. */
 static const uint64_t kinds[] = {
-    M58_READ(5), M58_WRITE(0, 0x90), M58_WRITE(0, 0x60), M58_WRITE(0, 0x03), M58_WORK(1), M58_SUPPLY(1), M58_RESET
+    M58_READ(5), M58_WRITE(0, 0x03), M58_WRITE(0, 0x90), M58_WORK(1), M58_SUPPLY(1), M58_RESET
 };
 enum { KINDS = sizeof kinds / sizeof kinds[0] };
 
 /* State words with a reserved bit set: refused by each step, by a list of them and by the report, and all stays. */
-static void check_register_refused(uint32_t part, uint64_t reg)
+static void check_register_refused(uint32_t part, uint64_t first, uint64_t reg)
 {
-    const size_t own = part < M58_BENCH_BOTTOM ? M58_FULL_WORDS : M58_BENCH_WORDS;
+    const size_t own = words_of(part);
     const uint64_t due = (uint64_t)M58_REFUSED_STATE << 32;
     uint64_t state[M58_STATE_WORDS], before[M58_STATE_WORDS], answers[KINDS];
-    power_up_with(state, part, reg);
+    power_up_with(state, part, first, reg);
     memcpy(before, state, sizeof before);
     for (size_t i = 0; i < KINDS; i++) {
         SAME(M58_REFUSED_STATE, refusal(state, M58_STATE_WORDS, kinds[i], own));
@@ -263,7 +276,7 @@ static void check_register_refused(uint32_t part, uint64_t reg)
 static void check_register_accepted(uint64_t reg)
 {
     uint64_t state[M58_STATE_WORDS];
-    power_up_with(state, M58_BENCH_BOTTOM, reg);
+    power_up_with(state, M58_BENCH_BOTTOM, M58_SUPPLY(0), reg);
     SAME(M58_BLOCKS, m58_report(state, M58_STATE_WORDS));
     played(state, M58_WRITE(0, 0x90));
     SAME(reg, played(state, M58_READ(5)));
@@ -278,11 +291,12 @@ static void check_register_states(void)
 {
     static const uint16_t refused[] = { 0x4000, 0x0010, 0x0020, 0xFFFF, 0x4030, 0xFFCF, 0xBFDF, 0xBFEF };
     for (uint32_t part = 0; part < M58_PARTS; part++) {
-        const size_t own = part < M58_BENCH_BOTTOM ? M58_FULL_WORDS : M58_BENCH_WORDS;
-        fill_array(own, 0x1234);
-        for (size_t i = 0; i < sizeof refused / sizeof refused[0]; i++)
-            check_register_refused(part, refused[i]);
-        SAME(0, other_words(own, 0x1234));
+        fill_array(words_of(part), 0x1234);
+        for (size_t i = 0; i < sizeof refused / sizeof refused[0]; i++) {
+            check_register_refused(part, M58_SUPPLY(0), refused[i]); /* still the power-up state */
+            check_register_refused(part, M58_WRITE(0, 0x60), refused[i]);
+        }
+        SAME(0, other_words(words_of(part), 0x1234));
     }
     check_register_accepted(0x0000);
     check_register_accepted(REGISTER_DEFAULT);
@@ -378,7 +392,7 @@ static void check_hex_lent(void)
     fill_array(M58_FULL_WORDS, 0xFFFF);
     hex_text[0] = HEX_UNTOUCHED;
     for (uint32_t part = 0; part < M58_PARTS; part++) {
-        size_t own = part < M58_BENCH_BOTTOM ? M58_FULL_WORDS : M58_BENCH_WORDS;
+        size_t own = words_of(part);
         refused_lent(M58_REFUSED_ARRAY, part, 0);
         refused_lent(M58_REFUSED_ARRAY, part, own - 1);
         refused_lent(M58_REFUSED_ARRAY, part, own == M58_FULL_WORDS ? M58_BENCH_WORDS : own + 1);

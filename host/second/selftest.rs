@@ -380,6 +380,7 @@ fn check_states(ill: &[Change], well: &[Change]) -> u32 {
         Step::Read(0),
         Step::Read(ADDRESSES),
         Step::Write(0, 0xFF),
+        Step::Write(0, 0x03),
         Step::Write(ADDRESSES, 0xFF),
         Step::Work(1),
         Step::Work(65_536),
