@@ -48,12 +48,12 @@ impl Bench {
 }
 
 fn worked_examples() {
-    // 4a: the default, and FFFFh stored as it; 00FFFF marks bank 15.
+    // The default, and FFFFh stored as it; 00FFFF marks bank 15.
     check_example(
         "W 000000 0090; R 000005 = BFCF; W 00FFFF 0060; W 00FFFF 0003; R 000005 = BFCF;
          R 003C00 = 0080",
     );
-    // 4b: 5432h is stored as 1402h, 4030h as 0000h; reset gives the default.
+    // 5432h is stored as 1402h, 4030h as 0000h; reset gives the default.
     check_example(
         "W 000000 0090; W 005432 0060; W 005432 0003; R 000005 = 1402; W 004030 0060;
          R 000005 = 0080; W 004030 0003; W 000000 0090; R 000005 = 0000; Z; W 000000 0090;
@@ -226,9 +226,9 @@ fn nothing_in_the_journal() {
     assert!(recorder.unprotected_blocks().iter().all(|&open| !open));
 }
 
-/// "a well made state has them 0": example 4c, and each reserved bit and each
-/// union of them, beside the other bits and in devices of many shapes. Gives the
-/// number of states that are not well formed.
+/// "a well made state has them 0": each reserved bit and each union of them, beside
+/// the other bits and in devices of many shapes, power-up first. Gives the number of
+/// states that are not well formed.
 pub fn check_states() -> u32 {
     let unions = (1..8_u16).map(|set| {
         let chosen = (0..3).filter(|place| set >> place & 1 == 1);
