@@ -8,7 +8,8 @@ pub mod states;
 
 use crate::library;
 use crate::second::model::{
-    Device, Operation, Part, Program, Setup, ADDRESSES, BANKS, BLOCKS, BUFFER_WORDS,
+    without_reserved_bits, Device, Mode, Operation, Part, Program, Setup, ADDRESSES, BANKS, BLOCKS,
+    BUFFER_WORDS, RESERVED_BITS,
 };
 use crate::second::steps::Step;
 use loads::Order;
@@ -149,7 +150,8 @@ impl Author {
 
     fn fitting_step(&mut self, device: &Device) -> Step {
         match self.dice.below(100) {
-            0..=13 => return Step::Read(self.address()),
+            0..=11 => return Step::Read(self.address()),
+            12..=13 => return Step::Read(self.register_place(device)),
             14 => return Step::Supply(self.dice.percent(70)),
             15..=16 => return Step::Work(self.count(lacking(device))),
             // Not in a load, which few of them would leave standing.
@@ -228,6 +230,9 @@ impl Author {
     }
 
     fn second_cycle(&mut self, device: &Device, setup: Setup) -> Step {
+        if setup == Setup::Lock && self.dice.percent(15) {
+            return Step::Write(self.register_address(), self.dressed(0x03));
+        }
         let address = match setup {
             Setup::Lock => self.address(),
             _ => self.address_to_change(device),
@@ -243,6 +248,37 @@ impl Author {
             _ => self.command(),
         };
         Step::Write(address, data)
+    }
+
+    /// An address for 03h, which stores its lower 16 bits but for the reserved ones:
+    /// often one of those is set, or all or none of them. On a bench part it is most
+    /// often no location.
+    fn register_address(&mut self) -> u32 {
+        let word = self.dice.next() as u16;
+        let reserved = match self.dice.below(8) {
+            0..=3 => 1 << self.dice.pick(&RESERVED_BITS),
+            4 => !without_reserved_bits(!0),
+            5 => word,
+            _ => 0,
+        };
+        let lower = without_reserved_bits(word) | reserved;
+        let upper = self.dice.pick(&[0, 0, 1, 0x80, 0xFF]);
+        upper << 16 | u32::from(lower)
+    }
+
+    /// Where a bank in signature mode shows the register; any address where no
+    /// bank is in that mode.
+    fn register_place(&mut self, device: &Device) -> u32 {
+        let banks = (0..BANKS as u32).zip(&device.modes);
+        let banks: Vec<u32> = banks
+            .filter_map(|(bank, &mode)| (mode == Mode::Signature).then_some(bank))
+            .collect();
+        if banks.is_empty() {
+            return self.address();
+        }
+        let bank = self.dice.pick(&banks);
+        let start = self.part.bank_start(bank).expect("a bank of the part");
+        self.raised(start + 5)
     }
 
     /// A word to program.

@@ -1,13 +1,13 @@
 //! Checks that need no chance: power-up, states that are not well formed, each
-//! number of the state and each state word changed to many values, and memory of
-//! other counts.
+//! number of the state and each state word changed to many values, every
+//! configuration register, and memory of other counts.
 
 use crate::author::states::CLAUSES;
 use crate::author::Author;
 use crate::library::{self, STATE_WORDS};
 use crate::pair::{Difference, Pair, Start};
 use crate::second::model::{
-    lookup, Device, Erase, Flags, Mode, Operation, Part, Program, Setup, ADDRESSES, BLOCKS,
+    lookup, Device, Erase, Flags, Mode, Operation, Part, Program, Setup, ADDRESSES, BANKS, BLOCKS,
 };
 use crate::second::steps::Step;
 use crate::state::{self, Field, Words};
@@ -176,6 +176,9 @@ fn probes(part: Part) -> Vec<u64> {
         Step::Write(0, 0x00D0),
         Step::Reset,
         Step::Supply(false),
+        // Where a lock set-up was refused with all else, 03h would be its second cycle.
+        Step::Write(part.unit(), 0x0060),
+        Step::Write(0xC035, 0x0003),
     ];
     steps.map(library::number).to_vec()
 }
@@ -465,12 +468,37 @@ fn malformed(part: Part) -> Vec<(String, Words)> {
         long(name, device, state::number(four, 2), &[16, 31]);
     }
     states.extend(malformed_buffer_words(&base));
+    states.extend(malformed_registers(&base));
     states.extend(broken_clauses(part));
     states
 }
 
-/// What the rule of well-formed states says of the write buffer, broken clause
-/// by clause.
+/// "a well made state has them 0" (document 02, item 4): power-up, a device with
+/// supply and unprotected blocks, and one for which 03h would store a good
+/// register, with reserved bits set.
+fn malformed_registers(base: &Device) -> Vec<(String, Words)> {
+    let fresh = Device::power_up(base.part.number());
+    let mut lock = base.clone();
+    lock.setup = Some(Setup::Lock);
+    let mut states = Vec::new();
+    for (name, device) in [
+        ("power-up", &fresh),
+        ("all unprotected", base),
+        ("lock set-up", &lock),
+    ] {
+        for register in [
+            0x4000, 0x0020, 0x0010, 0x4020, 0x4010, 0x0030, 0x4030, 0xFFFF, 0xFFCF, 0xBFEF, 0xBFDF,
+        ] {
+            let mut words = state::encode(device);
+            state::CONFIGURATION.put(&mut words, register);
+            states.push((format!("{name}, register {register:04X}h"), words));
+        }
+    }
+    states
+}
+
+/// What the rule of well-formed states says of the write buffer and of the
+/// configuration register, broken clause by clause.
 fn broken_clauses(part: Part) -> Vec<(String, Words)> {
     let mut states = Vec::new();
     let seeds = BROKEN[usize::from(part.unit() == 64)];
@@ -575,7 +603,7 @@ fn shapes(part: Part) -> Vec<Device> {
     let mut busy = Device {
         unprotected,
         supply: true,
-        configuration: 0x1234,
+        configuration: 0x1204,
         flags: Flags {
             sr5: true,
             sr1: true,
@@ -626,6 +654,9 @@ pub fn check_each_number(pair: &mut Pair) -> Result<u64, Failure> {
     let whole = !pair.is_full();
     let mut changed = 0;
     for (shape, device) in shapes(part).into_iter().enumerate() {
+        // Else every changed state would be refused.
+        let check = format!("shape {shape} of part {}, well formed", part.number());
+        same(&check, "well formed", 1, u64::from(device.well_formed()))?;
         let rest = rest_of_load(&device);
         for damaged in changed_words(part, &state::encode(&device)) {
             let mut tried = probe(pair, &damaged, length, whole);
@@ -648,6 +679,51 @@ pub fn check_each_number(pair: &mut Pair) -> Result<u64, Failure> {
         })?;
     }
     Ok(changed)
+}
+
+/// Every configuration register of 16 bits, handed in and stored by 03h. Gives how
+/// many.
+pub fn check_registers(pair: &mut Pair) -> Result<u64, Failure> {
+    let part = pair.part();
+    let failed = |what: &str, difference| Failure {
+        check: format!("{what} on part {}", part.number()),
+        difference,
+    };
+    let mut shown = Device::power_up(part.number());
+    shown.modes = [Mode::Signature; BANKS];
+    for register in 0..=0xFFFF {
+        shown.configuration = register;
+        let reads = [library::number(Step::Read(5))];
+        let words = state::encode(&shown);
+        probe_with(pair, &reads, &words, part.array_length(), false)
+            .map_err(|d| failed(&format!("register {register:04X}h handed in"), d))?;
+    }
+    let fresh = state::encode(&Device::power_up(part.number()));
+    for upper in 0..=0xFF {
+        let numbers = stored_registers(part, upper);
+        probe_with(pair, &numbers, &fresh, part.array_length(), false)
+            .map_err(|d| failed("a register stored by 03h", d))?;
+    }
+    pair.finish()
+        .map_err(|d| failed("array after the registers", d))?;
+    Ok(1 << 16)
+}
+
+/// The registers whose upper byte is the one given, each stored and read, by
+/// addresses that have all upper lines in turn. The set-up goes elsewhere: its
+/// address says nothing.
+fn stored_registers(part: Part, upper: u32) -> Vec<u64> {
+    let last = part.array_length() as u32 - 1;
+    let mut steps = Vec::new();
+    for lower in 0..=0xFF {
+        let address = (upper ^ lower) << 16 | upper << 8 | lower;
+        steps.extend([Step::Write(last, 0x60), Step::Write(address, 0x03)]);
+        steps.extend([Step::Write(0, 0x90), Step::Read(5)]);
+    }
+    // No flag was set; the last one is reset.
+    steps.extend([Step::Write(0, 0x70), Step::Read(0), Step::Reset]);
+    steps.extend([Step::Write(0, 0x90), Step::Read(5)]);
+    steps.into_iter().map(library::number).collect()
 }
 
 /// State words with one number, or one word, changed.

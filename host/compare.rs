@@ -93,7 +93,7 @@ fn quick() -> Result<String, String> {
     let missing = counts.reached.missing();
     if !missing.is_empty() {
         return Err(format!(
-            "compare quick: never reached: {}",
+            "compare quick: never reached, or too seldom: {}",
             missing.join("; ")
         ));
     }
@@ -116,8 +116,11 @@ fn fixed_checks() -> Result<Counts, String> {
             checks::check_malformed(&mut pair).map_err(|f| check_message(&f, Some(&pair)))?;
         let changed =
             checks::check_each_number(&mut pair).map_err(|f| check_message(&f, Some(&pair)))?;
+        let registers =
+            checks::check_registers(&mut pair).map_err(|f| check_message(&f, Some(&pair)))?;
         println!(
-            "{}: {named} states that are not well formed and {changed} with one number or word changed",
+            "{}: {named} states that are not well formed, {changed} with one number or word changed, \
+             {registers} configuration registers",
             name(part)
         );
         counts = counts.plus(pair.counts);

@@ -1,7 +1,7 @@
 /*
  * Checks what m58.h says of its macros, of state words that are those of no
- * device, of the write buffer, and of Intel HEX text. Prints one line; ends with
- * 1 where something is otherwise.
+ * device, of the write buffer, of the configuration register, and of Intel HEX
+ * text. Prints one line; ends with 1 where something is otherwise.
  *
  * To build:  cc header_checks.c libm58.a
  */
@@ -78,6 +78,27 @@ static void check_clamping(void)
 
 static uint16_t *array;
 
+/* The array words of a part. */
+static size_t words_of(uint32_t part)
+{
+    return part < M58_BENCH_BOTTOM ? M58_FULL_WORDS : M58_BENCH_WORDS;
+}
+
+static void fill_array(size_t words, uint16_t word)
+{
+    for (size_t i = 0; i < words; i++)
+        array[i] = word;
+}
+
+/* How many words of the array are not that one. */
+static size_t other_words(size_t words, uint16_t word)
+{
+    size_t other = 0;
+    for (size_t i = 0; i < words; i++)
+        other += array[i] != word;
+    return other;
+}
+
 /* The refusal of the one step, on so many words of the array. */
 static uint64_t refusal(uint64_t *state, size_t state_count, uint64_t step, size_t words)
 {
@@ -104,8 +125,8 @@ static void check_refusals(void)
     }
     /* a count that is not M58_STATE_WORDS: the first word still names the part */
     for (uint64_t part = 0; part < M58_PARTS; part++) {
-        size_t own = part < M58_BENCH_BOTTOM ? M58_FULL_WORDS : M58_BENCH_WORDS;
-        size_t other = part < M58_BENCH_BOTTOM ? M58_BENCH_WORDS : M58_FULL_WORDS;
+        size_t own = words_of((uint32_t)part);
+        size_t other = own == M58_FULL_WORDS ? M58_BENCH_WORDS : M58_FULL_WORDS;
         same("power-up", 1, m58_power_up((uint32_t)part, state, M58_STATE_WORDS));
         SAME(M58_REFUSED_STATE, refusal(state, M58_STATE_WORDS - 1, M58_RESET, own));
         SAME(M58_REFUSED_ARRAY, refusal(state, M58_STATE_WORDS - 1, M58_RESET, other));
@@ -132,8 +153,7 @@ static void check_buffer(void)
 {
     uint64_t state[M58_STATE_WORDS];
     same("power-up", 1, m58_power_up(M58_BENCH_BOTTOM, state, M58_STATE_WORDS));
-    for (size_t i = 0; i < M58_BENCH_WORDS; i++)
-        array[i] = 0xFFFF;
+    fill_array(M58_BENCH_WORDS, 0xFFFF);
     played(state, M58_SUPPLY(1));
     played(state, M58_WRITE(0x40, 0x60));
     played(state, M58_WRITE(0x40, 0xD0));
@@ -157,6 +177,134 @@ static void check_buffer(void)
     SAME(0xFFFF, array[0x48 + M58_BUFFER_WORDS]);
 }
 
+/* ---- The configuration register: bits 14, 5 and 4 are reserved (document 02, item 4) ---- */
+
+enum { REGISTER_WORD = 11, REGISTER_BIT = 32 }; /* its place in the state words: state.rs */
+enum { REGISTER_DEFAULT = 0xBFCF, REGISTER_RESERVED = 0x4030 };
+
+/* A step and the value that it answers. */
+struct line {
+    uint64_t step, value;
+};
+
+enum { MOST_LINES = 16 };
+
+/* Lists from power-up of a bench bottom part: a call for each step, and one call for all, come to the same. */
+static void check_lines(const struct line *lines, size_t count)
+{
+    uint64_t alone[M58_STATE_WORDS], together[M58_STATE_WORDS], steps[MOST_LINES], answers[MOST_LINES];
+    same("power-up", 1, m58_power_up(M58_BENCH_BOTTOM, alone, M58_STATE_WORDS));
+    memcpy(together, alone, sizeof together);
+    fill_array(M58_BENCH_WORDS, 0xFFFF);
+    for (size_t i = 0; i < count; i++) {
+        SAME(lines[i].value, played(alone, lines[i].step));
+        steps[i] = lines[i].step;
+    }
+    SAME(count, m58_run(together, M58_STATE_WORDS, steps, count, answers, count, array, M58_BENCH_WORDS));
+    for (size_t i = 0; i < count; i++)
+        SAME(lines[i].value, answers[i]);
+    SAME(0, memcmp(alone, together, sizeof alone));
+    SAME(0, other_words(M58_BENCH_WORDS, 0xFFFF));
+}
+
+/* 03h takes the register from its address, without the reserved bits and without a flag; reset gives the default. */
+static void check_register_stored(void)
+{
+    /* FFFFh is stored as the default; its cycles mark the bank of location 3FFFh */
+    static const struct line all[] = {
+        { M58_WRITE(0x000000, 0x0090), 0 }, { M58_READ(0x000005), 0xBFCF }, { M58_WRITE(0x00FFFF, 0x0060), 0 },
+        { M58_WRITE(0x00FFFF, 0x0003), 0 }, { M58_READ(0x000005), 0xBFCF }, { M58_READ(0x003C00), 0x0080 },
+    };
+    /* the cycles at 4030h mark the bank that is read */
+    static const struct line some[] = {
+        { M58_WRITE(0x000000, 0x0090), 0 }, { M58_WRITE(0x005432, 0x0060), 0 }, { M58_WRITE(0x005432, 0x0003), 0 },
+        { M58_READ(0x000005), 0x1402 },     { M58_WRITE(0x004030, 0x0060), 0 }, { M58_READ(0x000005), 0x0080 },
+        { M58_WRITE(0x004030, 0x0003), 0 }, { M58_WRITE(0x000000, 0x0090), 0 }, { M58_READ(0x000005), 0x0000 },
+        { M58_RESET, 0 },                   { M58_WRITE(0x000000, 0x0090), 0 }, { M58_READ(0x000005), 0xBFCF },
+    };
+    /* the set-up's address says nothing, nor do upper lines, and codes that the sheet reserves are stored */
+    static const struct line elsewhere[] = {
+        { M58_WRITE(0x001234, 0x0060), 0 }, { M58_WRITE(0xAB8134, 0x0003), 0 }, { M58_WRITE(0x000000, 0x0090), 0 },
+        { M58_READ(0x000005), 0x8104 },
+    };
+    check_lines(all, sizeof all / sizeof all[0]);
+    check_lines(some, sizeof some / sizeof some[0]);
+    check_lines(elsewhere, sizeof elsewhere / sizeof elsewhere[0]);
+}
+
+static uint64_t register_of(const uint64_t *state)
+{
+    return state[REGISTER_WORD] >> REGISTER_BIT & 0xFFFF;
+}
+
+/* The words of a part after power-up and one step, with another register. */
+static void power_up_with(uint64_t *state, uint32_t part, uint64_t step, uint64_t reg)
+{
+    same("power-up", 1, m58_power_up(part, state, M58_STATE_WORDS));
+    SAME(M58_REFUSED_NOTHING, refusal(state, M58_STATE_WORDS, step, words_of(part)));
+    SAME(REGISTER_DEFAULT, register_of(state));
+    state[REGISTER_WORD] ^= (REGISTER_DEFAULT ^ reg) << REGISTER_BIT;
+}
+
+/* Steps of every kind; 03h, after a set-up, and reset would give a good register. */
+static const uint64_t kinds[] = {
+    M58_READ(5), M58_WRITE(0, 0x03), M58_WRITE(0, 0x90), M58_WORK(1), M58_SUPPLY(1), M58_RESET
+};
+enum { KINDS = sizeof kinds / sizeof kinds[0] };
+
+/* State words with a reserved bit set: refused by each step, by a list of them and by the report, and all stays. */
+static void check_register_refused(uint32_t part, uint64_t first, uint64_t reg)
+{
+    const size_t own = words_of(part);
+    const uint64_t due = (uint64_t)M58_REFUSED_STATE << 32;
+    uint64_t state[M58_STATE_WORDS], before[M58_STATE_WORDS], answers[KINDS];
+    power_up_with(state, part, first, reg);
+    memcpy(before, state, sizeof before);
+    for (size_t i = 0; i < KINDS; i++) {
+        SAME(M58_REFUSED_STATE, refusal(state, M58_STATE_WORDS, kinds[i], own));
+        SAME(M58_REFUSED_ARRAY, refusal(state, M58_STATE_WORDS, kinds[i], own - 1));
+        SAME(0, memcmp(before, state, sizeof before));
+    }
+    SAME(KINDS, m58_run(state, M58_STATE_WORDS, kinds, KINDS, answers, KINDS, array, own));
+    for (size_t i = 0; i < KINDS; i++)
+        SAME(due, answers[i]);
+    SAME(due, m58_report(state, M58_STATE_WORDS));
+    SAME(0, memcmp(before, state, sizeof before));
+}
+
+/* Any other register is shown as it was handed in, and stays until a reset. */
+static void check_register_accepted(uint64_t reg)
+{
+    uint64_t state[M58_STATE_WORDS];
+    power_up_with(state, M58_BENCH_BOTTOM, M58_SUPPLY(0), reg);
+    SAME(M58_BLOCKS, m58_report(state, M58_STATE_WORDS));
+    played(state, M58_WRITE(0, 0x90));
+    SAME(reg, played(state, M58_READ(5)));
+    played(state, M58_SUPPLY(1));
+    SAME(0, played(state, M58_WORK(1)));
+    SAME(reg, register_of(state));
+    played(state, M58_RESET);
+    SAME(REGISTER_DEFAULT, register_of(state));
+}
+
+static void check_register_states(void)
+{
+    static const uint16_t refused[] = { 0x4000, 0x0010, 0x0020, 0xFFFF, 0x4030, 0xFFCF, 0xBFDF, 0xBFEF };
+    for (uint32_t part = 0; part < M58_PARTS; part++) {
+        fill_array(words_of(part), 0x1234);
+        for (size_t i = 0; i < sizeof refused / sizeof refused[0]; i++) {
+            check_register_refused(part, M58_SUPPLY(0), refused[i]); /* still the power-up state */
+            check_register_refused(part, M58_WRITE(0, 0x60), refused[i]);
+        }
+        SAME(0, other_words(words_of(part), 0x1234));
+    }
+    check_register_accepted(0x0000);
+    check_register_accepted(REGISTER_DEFAULT);
+    for (uint64_t bit = 1; bit <= 0x8000; bit <<= 1)
+        if ((bit & REGISTER_RESERVED) == 0)
+            check_register_accepted(bit);
+}
+
 /* ---- Intel HEX ---- */
 
 #define HEX_END  ":00000001FF"
@@ -164,21 +312,6 @@ static void check_buffer(void)
 
 static uint8_t *hex_text; /* room for a full part's text, and HEX_MORE bytes */
 enum { HEX_MORE = 8, HEX_UNTOUCHED = 0xEE };
-
-static void fill_array(size_t words, uint16_t word)
-{
-    for (size_t i = 0; i < words; i++)
-        array[i] = word;
-}
-
-/* How many words of the array are not that one. */
-static size_t other_words(size_t words, uint16_t word)
-{
-    size_t other = 0;
-    for (size_t i = 0; i < words; i++)
-        other += array[i] != word;
-    return other;
-}
 
 static uint64_t hex_read(const char *lines, size_t count)
 {
@@ -259,7 +392,7 @@ static void check_hex_lent(void)
     fill_array(M58_FULL_WORDS, 0xFFFF);
     hex_text[0] = HEX_UNTOUCHED;
     for (uint32_t part = 0; part < M58_PARTS; part++) {
-        size_t own = part < M58_BENCH_BOTTOM ? M58_FULL_WORDS : M58_BENCH_WORDS;
+        size_t own = words_of(part);
         refused_lent(M58_REFUSED_ARRAY, part, 0);
         refused_lent(M58_REFUSED_ARRAY, part, own - 1);
         refused_lent(M58_REFUSED_ARRAY, part, own == M58_FULL_WORDS ? M58_BENCH_WORDS : own + 1);
@@ -318,6 +451,8 @@ int main(void)
     check_clamping();
     check_refusals();
     check_buffer();
+    check_register_stored();
+    check_register_states();
     check_hex_reading();
     check_hex_refusals();
     check_hex_lent();

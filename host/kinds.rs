@@ -1,9 +1,12 @@
-//! What the lists reach of the write buffer and of the status word: each kind of
-//! step and of state, and each status word that is read, is counted, by the second
-//! model's device before and after the step.
+//! What the lists reach of the write buffer, of the configuration register and of
+//! the status word: each kind of step and of state, and each status word that is
+//! read, is counted, by the second model's device before and after the step.
 
 use crate::author::states::CLAUSES;
-use crate::second::model::{Answer, Device, Erase, Flags, Mode, Operation, Program, Setup};
+use crate::second::model::{
+    without_reserved_bits, Answer, Device, Erase, Flags, Mode, Operation, Program, Setup,
+    DEFAULT_CONFIGURATION, RESERVED_BITS,
+};
 use crate::second::steps::Step;
 
 /// The kinds, each with its text.
@@ -85,6 +88,30 @@ kinds! {
     GivenRunning, "state with a running buffer program";
     GivenSuspended, "state with a suspended buffer program";
     GivenNested, "state with a buffer program beside a suspended erase";
+
+    Stored14, "03h, of the reserved bits only bit 14 set in the address";
+    Stored5, "03h, of the reserved bits only bit 5 set in the address";
+    Stored4, "03h, of the reserved bits only bit 4 set in the address";
+    StoredSeveral, "03h, two or three reserved bits set in the address";
+    StoredPlain, "03h, no reserved bit set in the address";
+    StoredPastArray, "03h at an address that is not its location";
+    StoredNotLocation, "03h that stores other bits than the location's";
+    ResetRegister, "reset of a register that was not the default";
+    ReadReserved, "register read after 03h with a reserved bit set";
+    ReadPlain, "register read after 03h with none set";
+    ReadReset, "register read after a reset of one that was not the default";
+    ReadGiven, "register read as the list began with it";
+    GivenRegister, "state with a register that is not the default";
+}
+
+/// How often the lists of `quick` have to reach each kind, at the least: those of
+/// the register come last.
+fn least(kind: usize) -> u64 {
+    if kind < Kind::Stored14 as usize {
+        1
+    } else {
+        200
+    }
 }
 
 /// How often each kind was reached, each clause of a well-formed state broken,
@@ -142,16 +169,17 @@ impl Reached {
         self
     }
 
-    fn named(&self) -> impl Iterator<Item = (u64, String)> + '_ {
-        let kinds = self.kinds.iter().zip(NAMES);
+    /// Each count with the least that it has to be, and its name.
+    fn named(&self) -> impl Iterator<Item = (u64, u64, String)> + '_ {
+        let kinds = self.kinds.iter().zip(NAMES).enumerate();
         let clauses = self.clauses.iter().zip(&CLAUSES);
         let bits = (0..8usize).rev().flat_map(|bit| [(bit, 0), (bit, 1)]);
         kinds
-            .map(|(&count, name)| (count, name.to_string()))
-            .chain(clauses.map(|(&count, name)| (count, format!("malformed state: {name}"))))
+            .map(|(kind, (&count, name))| (count, least(kind), name.to_string()))
+            .chain(clauses.map(|(&count, name)| (count, 1, format!("malformed state: {name}"))))
             .chain(bits.map(|(bit, value)| {
                 let name = format!("status word read with SR{bit} = {value}");
-                (self.status_reads(|word| word >> bit & 1 == value), name)
+                (self.status_reads(|word| word >> bit & 1 == value), 1, name)
             }))
     }
 
@@ -178,16 +206,17 @@ impl Reached {
             read + unread.len()
         );
         self.named()
-            .map(|(count, name)| format!("{count:>9} {name}\n"))
+            .map(|(count, _, name)| format!("{count:>9} {name}\n"))
             .chain([words])
             .collect()
     }
 
-    /// What was never reached.
+    /// What was never reached, or too seldom.
     pub fn missing(&self) -> Vec<String> {
         let unread = self.status_words().0.into_iter();
         self.named()
-            .filter_map(|(count, name)| (count == 0).then_some(name))
+            .filter(|&(count, least, _)| count < least)
+            .map(|(count, least, name)| format!("{name} ({count}, at least {least})"))
             .chain(unread.map(|word| format!("status word {word:02X}h")))
             .collect()
     }
@@ -201,6 +230,7 @@ pub struct Glance {
     pub suspended_program: Option<Program>,
     pub suspended_erase: Option<Erase>,
     flags: Flags,
+    configuration: u16,
 }
 
 impl Glance {
@@ -211,6 +241,7 @@ impl Glance {
             suspended_program: device.suspended_program,
             suspended_erase: device.suspended_erase,
             flags: device.flags,
+            configuration: device.configuration,
         }
     }
 
@@ -224,8 +255,21 @@ impl Glance {
     }
 }
 
-/// Watches the steps of a list; of a load it keeps which words were given, which
-/// the device does not tell.
+/// Where the register's bits come from.
+#[derive(Clone, Copy, Default)]
+enum Register {
+    #[default]
+    Given,
+    /// From 03h, with a reserved bit set in its address.
+    Reserved,
+    /// From 03h, with none set.
+    Plain,
+    /// From a reset that changed it.
+    Reset,
+}
+
+/// Watches the steps of a list; of a load it keeps which words were given, and of
+/// the register where it comes from, which the device does not tell.
 #[derive(Clone, Copy, Default)]
 pub struct Watch {
     /// Of a load whose first word was seen: a bit for each word given.
@@ -233,6 +277,7 @@ pub struct Watch {
     last: u32,
     upward: bool,
     repeated: bool,
+    register: Register,
 }
 
 impl Watch {
@@ -255,6 +300,7 @@ impl Watch {
             let shown = after.shown(bank) == Mode::Status;
             reached.status[usize::from(answer.value & 0xFF)] += u64::from(shown);
         }
+        self.register_step(reached, before, step, after);
         match (step, before.load()) {
             (Step::Write(address, data), Some(load)) => {
                 let cycle = Cycle::new(after, address, data);
@@ -270,6 +316,38 @@ impl Watch {
             (Step::Read(address), None) => note_read(reached, before, address, after),
             (Step::Supply(_), load) => reached.add_if(load.is_some(), Kind::LoadSupply),
             (Step::Reset, load) => note_reset(reached, before, load),
+        }
+    }
+
+    /// Counts the steps that store, reset or read the configuration register.
+    fn register_step(
+        &mut self,
+        reached: &mut Reached,
+        before: &Glance,
+        step: Step,
+        after: &Device,
+    ) {
+        match (step, before.setup) {
+            (Step::Write(address, data), Some(Setup::Lock)) if data % 256 == 0x03 => {
+                let set = note_stored(reached, address, after);
+                self.register = match set {
+                    0 => Register::Plain,
+                    _ => Register::Reserved,
+                };
+            }
+            (Step::Reset, _) if before.configuration != DEFAULT_CONFIGURATION => {
+                reached.add(Kind::ResetRegister);
+                self.register = Register::Reset;
+            }
+            (Step::Read(address), _) if shows_register(after, address) => {
+                reached.add(match self.register {
+                    Register::Given => Kind::ReadGiven,
+                    Register::Reserved => Kind::ReadReserved,
+                    Register::Plain => Kind::ReadPlain,
+                    Register::Reset => Kind::ReadReset,
+                });
+            }
+            _ => {}
         }
     }
 
@@ -304,6 +382,7 @@ impl Watch {
             *self = Watch {
                 given: Some(1),
                 upward: true,
+                register: self.register,
                 ..Watch::default()
             };
         } else if let Some(given) = self.given {
@@ -353,6 +432,33 @@ impl Cycle {
             data,
         }
     }
+}
+
+/// Whether a read of an address shows the configuration register.
+fn shows_register(device: &Device, address: u32) -> bool {
+    let Cycle { location, bank, .. } = Cycle::new(device, address, 0);
+    let start = device.part.bank_start(bank).expect("a bank of the part");
+    device.shown(bank) == Mode::Signature && location - start == 5
+}
+
+/// Counts an accepted 03h by its address; gives how many reserved bits are set
+/// there.
+fn note_stored(reached: &mut Reached, address: u32, after: &Device) -> usize {
+    let kinds = [Kind::Stored14, Kind::Stored5, Kind::Stored4];
+    let bits = RESERVED_BITS.iter().zip(kinds);
+    let set: Vec<Kind> = bits
+        .filter_map(|(bit, kind)| (address >> bit & 1 == 1).then_some(kind))
+        .collect();
+    reached.add(match set[..] {
+        [] => Kind::StoredPlain,
+        [kind] => kind,
+        _ => Kind::StoredSeveral,
+    });
+    let location = after.part.location(address);
+    reached.add_if(location != address, Kind::StoredPastArray);
+    let other = without_reserved_bits(location as u16) != after.configuration;
+    reached.add_if(other, Kind::StoredNotLocation);
+    set.len()
 }
 
 /// The block of a load.
@@ -466,6 +572,8 @@ pub fn note_state(reached: &mut Reached, device: &Device) {
     if !device.well_formed() {
         return;
     }
+    let changed = device.configuration != DEFAULT_CONFIGURATION;
+    reached.add_if(changed, Kind::GivenRegister);
     let erased = device.suspended_erase.map(|erase| erase.block);
     if let Some(load) = Glance::at(device).load() {
         reached.add(match load {

@@ -100,6 +100,15 @@ uint32_t m58_lookup_bank(uint32_t part, uint32_t address);
 #define M58_BUFFER_WORDS UINT32_C(32)
 
 /*
+ * THE CONFIGURATION REGISTER. The writes 60h and 03h store the lower 16 bits of
+ * the second one's address. Bits 14, 5 and 4 are reserved: they are stored as 0,
+ * without a flag. It is BFCFh after power-up and after a reset, and is read at
+ * offset 5 of a bank in signature mode (90h). State words that have a reserved
+ * bit set, such as those of older libraries, whose default was FFFFh, are not
+ * those of a well-formed device: every step and m58_report refuse them.
+ */
+
+/*
  * The steps, as constant expressions where the arguments are. An address or a
  * count that 32 bits do not hold, also a negative one, is encoded as
  * 0xFFFFFFFF, which is refused as it would be (3 for an address, 4 for a

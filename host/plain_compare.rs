@@ -22,7 +22,7 @@ use author::{Author, Dice};
 use plain::Plain;
 use second::model::{
     Answer, Device, Flags, Mode, Operation, Part, Place, Program, Setup, BANKS, BLOCKS,
-    BUFFER_WORDS,
+    BUFFER_WORDS, DEFAULT_CONFIGURATION,
 };
 use second::steps::Step;
 use std::collections::BTreeMap;
@@ -33,7 +33,7 @@ const LISTS: [u64; 4] = [30, 30, 3_000, 3_000];
 
 /// How many different things become of a step. Fewer would mean that the lists
 /// try less than they seem to.
-const OUTCOMES: usize = 158;
+const OUTCOMES: usize = 169;
 
 /// What lies in an answer before a call.
 const UNTOUCHED: u64 = 0xA5A5_5A5A_C3C3_3C3C;
@@ -251,6 +251,9 @@ impl Pair {
         };
         self.tally.count(asked(&before, step), became, 1);
         self.follow_load(&before, step);
+        if answer.refusal == 0 {
+            self.count_register(&before, step);
+        }
         self.tally.steps += 1;
         library::answer(answer)
     }
@@ -295,6 +298,31 @@ impl Pair {
         }
         if self.device.suspended_erase.is_some() {
             count("in a suspended erase");
+        }
+    }
+
+    /// Counts what an accepted step does to the configuration register: 03h by the
+    /// reserved bits that its address has set, and by whether its location would do
+    /// for its address.
+    fn count_register(&mut self, before: &Device, step: Step) {
+        let mut count = |fact| self.tally.count("configuration register", fact, 1);
+        match (step, before.setup) {
+            (Step::Write(address, data), Some(Setup::Lock)) if data % 256 == 0x03 => {
+                count(match address & 0x4030 {
+                    0x0000 => "stored as written",
+                    0x4000 => "stored without bit 14",
+                    0x0020 => "stored without bit 5",
+                    0x0010 => "stored without bit 4",
+                    _ => "stored without two or three bits",
+                });
+                if (address ^ self.part.location(address)) & 0xBFCF != 0 {
+                    count("stored other than the location");
+                }
+            }
+            (Step::Reset, _) if before.configuration != DEFAULT_CONFIGURATION => {
+                count("reset from another than the default");
+            }
+            _ => {}
         }
     }
 
@@ -373,6 +401,10 @@ fn asked(device: &Device, step: Step) -> &'static str {
         (Step::Read(address), _) => match device.modes[bank(device, address) as usize] {
             Mode::Array => "read, array mode",
             Mode::Status => "read, status mode",
+            // Banks begin at multiples of their 16u words, so this is bank offset 5.
+            Mode::Signature if address % (16 * device.part.unit()) == 5 => {
+                "read, configuration register"
+            }
             Mode::Signature => "read, signature mode",
             Mode::Query => "read, query mode",
         },

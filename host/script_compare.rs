@@ -294,7 +294,7 @@ fn random_script(r: &mut Random, damage: bool) -> Vec<u8> {
         } else {
             *r.pick(PLACES)
         };
-        match r.below(22) {
+        match r.below(23) {
             0..=4 => text.push_str(&format!("R {address:06X}\n")),
             5..=8 => {
                 // both cycles of a command to one place
@@ -332,6 +332,7 @@ fn random_script(r: &mut Random, damage: bool) -> Vec<u8> {
             }
             18 => text.push_str(if r.below(3) == 0 { "V 0\n" } else { "V 1\n" }),
             19..=20 => text.push_str(&random_load(r, address)),
+            21 => text.push_str(&random_register(r)),
             _ => text.push_str(if r.below(3) == 0 { "Z\n" } else { "R 000040\n" }),
         }
     }
@@ -376,6 +377,16 @@ fn random_load(r: &mut Random, address: u32) -> String {
     }
     let confirm = if r.below(6) == 0 { 0xFF } else { 0xD0 };
     text + &format!("W {address:06X} {confirm:04X}\n")
+}
+
+/// A configuration register from any address, shown, and sometimes shown again after a reset: its reserved bits are 0 (document 02, item 4).
+fn random_register(r: &mut Random) -> String {
+    let address = r.below(1 << 24) as u32 | *r.pick(&[0, 0x4000, 0x0020, 0x0010]);
+    let mut text = format!("W {address:06X} 0060\nW {address:06X} 0003\nW 000400 0090\nR 000405\n");
+    if r.below(4) == 0 {
+        text += "Z\nW 000400 0090\nR 000405\n";
+    }
+    text
 }
 
 fn examples(compare: &mut Compare, folder: &str) -> u64 {

@@ -1,13 +1,15 @@
 //! Random states to begin from: well formed, or with one clause broken of what
-//! the rule of well-formed states says of the write buffer.
+//! the rule of well-formed states says of the write buffer and of the
+//! configuration register.
 
 use super::{some_block, Author};
 use crate::second::model::{
-    Device, Erase, Flags, Mode, Operation, Program, Setup, BLOCKS, BUFFER_WORDS,
+    without_reserved_bits, Device, Erase, Flags, Mode, Operation, Program, Setup, BLOCKS,
+    BUFFER_WORDS, RESERVED_BITS,
 };
 
 /// The clauses that `Author::broken` breaks.
-pub const CLAUSES: [&str; 18] = [
+pub const CLAUSES: [&str; 22] = [
     "a load beside a running operation",
     "a load beside a suspended program",
     "a load of a block that the part has not",
@@ -26,6 +28,10 @@ pub const CLAUSES: [&str; 18] = [
     "a buffer program in the block of the suspended erase",
     "a word in the buffer, and neither a load with a word nor a buffer program",
     "a word in the buffer past those of the load or buffer program",
+    "a configuration register with reserved bit 14 set",
+    "a configuration register with reserved bit 5 set",
+    "a configuration register with reserved bit 4 set",
+    "a configuration register with two or three reserved bits set",
 ];
 
 /// Numbers of words that the buffer has not.
@@ -64,6 +70,9 @@ impl Author {
 
     /// A device that breaks a clause; the number is a place in `CLAUSES`.
     pub fn broken(&mut self, clause: usize) -> Device {
+        if clause >= 18 {
+            return self.break_register(clause - 18);
+        }
         let mut device = self.idle_device();
         if clause < 8 {
             self.break_load(clause, &mut device);
@@ -73,6 +82,21 @@ impl Author {
             return self.break_spare(clause - 16, device);
         }
         self.fill_buffer(&mut device);
+        device
+    }
+
+    /// Any device that would be well formed but for the reserved bits of its
+    /// register: one of them, or two or three.
+    fn break_register(&mut self, clause: usize) -> Device {
+        let mut device = self.device();
+        let spared = self.dice.index(4);
+        for (place, bit) in RESERVED_BITS.iter().enumerate() {
+            let set = match clause {
+                3 => place != spared,
+                _ => place == clause,
+            };
+            device.configuration |= u16::from(set) << bit;
+        }
         device
     }
 
@@ -179,7 +203,8 @@ impl Author {
         for unprotected in &mut device.unprotected {
             *unprotected = dice.percent(density);
         }
-        device.configuration = dice.next() as u16;
+        // Else every step would be refused.
+        device.configuration = without_reserved_bits(dice.next() as u16);
         device.supply = dice.percent(70);
         device
     }

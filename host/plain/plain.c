@@ -5,6 +5,8 @@
 enum { ADDRESSES = 1 << 24, MOST_WORK = 65535 };
 enum { WRONG_LENGTH = 1, WRONG_ADDRESS = 3, WRONG_COUNT = 4 }; /* the numbers of the refusal card */
 enum { READ, WRITE, WORK, SUPPLY, RESET };                     /* the kind of a step: its number's upper 16 bits */
+/* The configuration register: bits 14, 5 and 4 are reserved, and its default has all others set (document 02, item 4). */
+enum { RESERVED_BITS = 1 << 14 | 1 << 5 | 1 << 4, DEFAULT_CONFIGURATION = 0xBFCF };
 enum { SR7 = 0x80, SR6 = 0x40, SR5 = 0x20, SR4 = 0x10, SR3 = 0x08, SR2 = 0x04, SR1 = 0x02, SR0 = 0x01 };
 
 /* Geometry */
@@ -43,7 +45,7 @@ static void power_up(struct plain *device, unsigned unit_shift, bool top) {
     memset(device, 0, sizeof *device);
     device->unit_shift = unit_shift;
     device->top = top;
-    device->configuration = 0xFFFF;
+    device->configuration = DEFAULT_CONFIGURATION;
     for (size_t block = 0; block < PLAIN_BLOCKS; block++)
         device->protected[block] = true;
 }
@@ -158,7 +160,8 @@ static void lock_second(struct plain *device, uint32_t address, uint8_t command)
     switch (command) {
     case 0x01: device->protected[block] = true; break;
     case 0xD0: device->protected[block] = false; break;
-    case 0x03: device->configuration = (uint16_t)address; break;
+    /* "03h stores those bits as 0" (document 02, item 4), without a flag: of the address, and not of the location */
+    case 0x03: device->configuration = (uint16_t)(address & ~(uint32_t)RESERVED_BITS); break;
     default: device->flags |= SR5 | SR4; break;
     }
 }

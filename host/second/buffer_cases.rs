@@ -4,9 +4,8 @@
 
 use crate::journal::{Kind, Recorder, State};
 use crate::model::{Device, Erase, Flags, Mode, Operation, Program, Setup, BUFFER_WORDS};
-use crate::script::transcript;
 use crate::steps::Step;
-use crate::{refused, Bench, Change};
+use crate::{check_example, refused, Bench, Change};
 
 /// Plays all cases; gives their number.
 pub fn check() -> u32 {
@@ -75,23 +74,6 @@ impl Bench {
     fn loading(&self) -> bool {
         self.device.setup.is_some_and(Setup::is_load)
     }
-}
-
-/// Lines of a script, each that prints more than `ok` with what it prints.
-fn check_example(text: &str) {
-    let (mut input, mut output, mut count) = (String::new(), String::new(), 0);
-    for item in text.split(';').map(str::trim) {
-        let (line, printed) = item.split_once(" = ").unwrap_or((item, "ok"));
-        count += 1;
-        input += &format!("{line}\n");
-        output += &format!("{count} {printed}\n");
-    }
-    output += &format!("end {count}\n");
-    assert_eq!(
-        String::from_utf8(transcript(input.as_bytes())),
-        Ok(output),
-        "{text}"
-    );
 }
 
 fn worked_examples() {

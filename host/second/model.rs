@@ -1,5 +1,5 @@
-//! A second model of the flash chip, written from document 01 and document 02, item 1 (the write
-//! buffer) alone.
+//! A second model of the flash chip, written from document 01 and document 02, items 1 (the write
+//! buffer) and 4 (the reserved bits of the configuration register) alone.
 
 #![allow(dead_code)] // a program that takes this module in need not use all of it
 
@@ -17,6 +17,12 @@ pub enum Mode {
 
 /// The places of the write buffer: "up to 32 words at once" (document 02, item 1).
 pub const BUFFER_WORDS: usize = 32;
+
+/// "bits 14, 5 and 4 of the configuration register are reserved" (document 02, item 4).
+pub const RESERVED_BITS: [u32; 3] = [14, 5, 4];
+
+/// "The default becomes BFCFh" (document 02, item 4).
+pub const DEFAULT_CONFIGURATION: u16 = 0xBFCF;
 
 /// "a pending set-up (none, program, erase, lock)"; none is `Option::None`. The
 /// others are a load, a buffer program before its D0h, by the cycle that is due.
@@ -147,8 +153,8 @@ impl Device {
     }
 
     /// "supply off, every bank in array mode, nothing pending, running or
-    /// suspended, flags clear, all blocks protected, configuration register
-    /// FFFFh".
+    /// suspended, flags clear, all blocks protected"; the configuration register
+    /// is no longer FFFFh (document 02, item 4).
     fn fresh(part: Part) -> Device {
         Device {
             part,
@@ -159,7 +165,7 @@ impl Device {
             suspended_erase: None,
             flags: Flags::default(),
             unprotected: [false; BLOCKS],
-            configuration: 0xFFFF,
+            configuration: DEFAULT_CONFIGURATION,
             supply: false,
             buffer: [0; BUFFER_WORDS],
         }
@@ -194,6 +200,7 @@ impl Device {
             && self.program_well_formed(program)
             && self.load_well_formed()
             && self.spare_is_zero(program)
+            && self.reserved_bits_are_zero()
     }
 
     /// "blocks are of the part, and an erase has done fewer words than its
@@ -247,6 +254,14 @@ impl Device {
             return self.buffer.iter().fold(0, |all, word| all | word) == 0;
         }
         self.buffer[used as usize..].iter().all(|&word| word == 0)
+    }
+
+    /// "03h stores those bits as 0, and a well made state has them 0" (document
+    /// 02, item 4).
+    fn reserved_bits_are_zero(&self) -> bool {
+        RESERVED_BITS
+            .iter()
+            .all(|&bit| self.configuration >> bit & 1 == 0)
     }
 
     /// The block in which so many words from a location on lie; none where they
@@ -531,7 +546,7 @@ impl Device {
             0x01 => self.unprotected[block as usize] = false,
             0xD0 => self.unprotected[block as usize] = true,
             // "the address modulo 65,536": the address, not the location
-            0x03 => self.configuration = (address % 65_536) as u16,
+            0x03 => self.configuration = without_reserved_bits((address % 65_536) as u16),
             _ => self.wrong_cycle(),
         }
     }
@@ -669,6 +684,14 @@ impl Device {
     fn bank_start(&self, bank: u32) -> u32 {
         self.part.bank_start(bank).expect("a bank of the part")
     }
+}
+
+/// "03h stores those bits as 0" (document 02, item 4), each apart from the other
+/// bits, which are stored as written.
+pub fn without_reserved_bits(word: u16) -> u16 {
+    RESERVED_BITS
+        .iter()
+        .fold(word, |word, &bit| word & !(1 << bit))
 }
 
 /// Whether a load or a buffer program may have so many words.

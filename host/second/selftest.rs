@@ -1,12 +1,13 @@
 //! Self-test of the second model: document 01's twelve proved cases, its
-//! worked script, the refusal card, the write buffer's cases, and random lists of
-//! steps whose array is compared with the recorder's reading. Prints one line;
-//! panics on a difference.
+//! worked script, the refusal card, the cases of the write buffer and of the
+//! configuration register, and random lists of steps whose array is compared with
+//! the recorder's reading. Prints one line; panics on a difference.
 //!
 //!     rustc -O --edition 2021 selftest.rs -o selftest
 //!     ./selftest [seed]
 
 mod buffer_cases;
+mod configuration_cases;
 mod geometry;
 mod journal;
 mod model;
@@ -33,6 +34,7 @@ fn main() {
     let cases = check_proved_cases();
     let errors = check_errors_that_look_right();
     let loads = buffer_cases::check();
+    let registers = configuration_cases::check();
     let states = check_malformed_states();
     check_reads();
     check_modes_and_flags();
@@ -52,7 +54,7 @@ fn main() {
     }
     println!(
         "selftest ok: seed {seed}, {cases} proved cases, {errors} errors that look right, \
-         {loads} buffer cases, {states} malformed states, {scripts} scripts, {locations} locations, {}",
+         {loads} buffer cases, {registers} configuration register cases, {states} malformed states, {scripts} scripts, {locations} locations, {}",
         tally.text()
     );
 }
@@ -368,7 +370,7 @@ fn check_malformed_states() -> u32 {
             d.suspended_program = Some(program(0x3F));
         },
     ];
-    check_states(&ill, &well) + buffer_cases::check_states()
+    check_states(&ill, &well) + buffer_cases::check_states() + configuration_cases::check_states()
 }
 
 /// All five steps and the report of unprotected blocks refuse 2 in the first
@@ -378,6 +380,7 @@ fn check_states(ill: &[Change], well: &[Change]) -> u32 {
         Step::Read(0),
         Step::Read(ADDRESSES),
         Step::Write(0, 0xFF),
+        Step::Write(0, 0x03),
         Step::Write(ADDRESSES, 0xFF),
         Step::Work(1),
         Step::Work(65_536),
@@ -428,7 +431,7 @@ fn check_reads() {
             let expected = match offset {
                 0 => 0x0020,
                 1 => device_code,
-                5 => 0xC405,
+                5 => 0x8405, // C405h without bit 14
                 _ if 0x400 + offset == block.start + 2 => u16::from(place.block != unprotected),
                 _ => 0,
             };
@@ -599,6 +602,23 @@ fn check_scripts() -> u32 {
         assert_eq!(String::from_utf8(transcript(input)).as_ref(), Ok(output));
     }
     scripts.len() as u32
+}
+
+/// Lines of a script, each that prints more than `ok` with what it prints.
+fn check_example(text: &str) {
+    let (mut input, mut output, mut count) = (String::new(), String::new(), 0);
+    for item in text.split(';').map(str::trim) {
+        let (line, printed) = item.split_once(" = ").unwrap_or((item, "ok"));
+        count += 1;
+        input += &format!("{line}\n");
+        output += &format!("{count} {printed}\n");
+    }
+    output += &format!("end {count}\n");
+    assert_eq!(
+        String::from_utf8(transcript(input.as_bytes())),
+        Ok(output),
+        "{text}"
+    );
 }
 
 /// What the random lists came to.
