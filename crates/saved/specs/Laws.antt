@@ -13,7 +13,7 @@ use borrow.Author.Tests.{eq-eqb, ne-eqb, eqb-true, eqb-false}
 use Rattle.geometry.specs.declared.Part.{Part}
 use Rattle.geometry.specs.declared.Part.the-variants.{FullBottom, FullTop, BenchBottom, BenchTop}
 use Rattle.geometry.specs.Blocks.{partNumbered}
-use Rattle.protection.specs.Words.{spareZero, allProtected}
+use Rattle.protection.specs.Words.{bit, spareZero, allProtected}
 use Rattle.semantics.specs.declared.Mode.{Mode}
 use Rattle.semantics.specs.declared.Mode.the-variants.{Array, Status, Signature, Query}
 use Rattle.semantics.specs.declared.Bank.{Bank}
@@ -30,6 +30,8 @@ use Rattle.semantics.specs.declared.State.{State}
 use Rattle.semantics.specs.State.{activity, flagsOf, emptyBuffer, powerUp}
 use Rattle.semantics.specs.Reading.{bitIf}
 use Rattle.semantics.specs.WellFormed.{runningAlone, programAlone, eraseAlone, setupFits, runningFits, programFits, suspendedEraseFits, allFit, runningApart, programApart, apart, activityFormed, wellFormed}
+use Rattle.semantics.specs.Register.{isReserved}
+use Rattle.semantics.specs.Refusals.{reserved-unformed}
 use Rattle.saved.specs.Saved.{partNumber, modeNumber, modeNumbered, bankNumber, bankNumbered, flagNumbered, setupNumbers, setupOf, runningNumbers, runningOf, programNumbers, programOf, eraseNumbers, eraseOf, flagNumbers, joined, inHalves, ofHalves, bytes, fromByte, listed, first, modesWord, modesIn, bankWords, activityWords, activityOf, flagsIn, controlWord, restOf, packed, lane, packedAt, laneAt, bufferWords, bufferIn, savedOf, loadedOf, same, isSaved, noState, stateOf, putInto}
 
 -- ---- lists
@@ -423,6 +425,15 @@ saved-length ws h = ap length (same-true ws (savedOf (loadedOf ws)) h)
 pub unsaved-refused : (ws : List ℕ) → isSaved ws ≡ false → wellFormed (stateOf ws) ≡ false
 unfolding stateOf noState powerUp runningAlone programAlone eraseAlone setupFits runningFits programFits suspendedEraseFits allFit runningApart programApart apart activityFormed wellFormed spareZero
 unsaved-refused ws h = rw h
+
+-- and so do words whose register has a reserved bit set, in bits 32 to 47 of word 11
+pub reserved-words : (ws : List ℕ) (i : ℕ) → isReserved i ≡ true → bit (getD ws 11 0 / 4294967296 % 65536) i ≡ 1 → wellFormed (stateOf ws) ≡ false
+unfolding stateOf loadedOf
+reserved-words ws i e h = go (isSaved ws) refl
+  where
+    go : (b : Bool) → isSaved ws ≡ b → wellFormed (stateOf ws) ≡ false
+    go true q = rw q (reserved-unformed (loadedOf ws) i e h)
+    go false q = unsaved-refused ws q
 
 zeros : (n k : ℕ) → _≡_ {A = ℕ} (getD (replicate n 0) k 0) 0
 zeros zero k = refl

@@ -310,7 +310,7 @@ activityInRange ws =
     && (ofHalves programInRange (getD ws 7 0) (getD ws 8 0)
     && ofHalves eraseInRange (getD ws 9 0) (getD ws 10 0)))
 
--- the four flags 0 or 1, and so the supply; the configuration register is any 16 bits
+-- the four flags 0 or 1, and so the supply; the configuration register is any 16 bits, of which `wellFormed` judges the reserved ones
 abbrev pub controlInRange : ℕ → Bool
 controlInRange w = bytesBelow 2 3 (w % 4294967296) && ltb (w / 4294967296 / 65536) 2
 

@@ -1,19 +1,23 @@
--- Which refusal comes, and that it changes nothing: document 01, "Refusal card".
+-- Which refusal comes, and that it changes nothing: document 01, "Refusal card"; and of a reserved bit that is set, document 02, item 4.
 -- Assumes nothing.
 use mathlib.Core.Path.{_≡_, refl, sym, _∙_}
 use mathlib.Core.List.{List}
-use mathlib.Core.Bool.{Bool, true, false, cond, not}
+use mathlib.Core.Bool.{Bool, true, false, cond, not, _&&_, and-false}
 use Prim.Native.Nat.{ℕ, suc, _-_}
+use native.Mathlib.Omega.{arith}
 use lib.Dec.{eqb, eqb·suc-zero}
 use lib.ListN.{length}
 use borrow.Author.Tests.{eqb-true, eq-eqb, ne-eqb}
 use Rattle.geometry.specs.Blocks.{words, blocks}
+use Rattle.protection.specs.Words.{bit, spareZero}
 use Rattle.semantics.specs.declared.State.{State}
 use Rattle.semantics.specs.declared.Step.{Step}
 use Rattle.semantics.specs.declared.Step.the-variants.{Read, Write, Work, Supply, Reset}
 use Rattle.semantics.specs.declared.Answer.the-variants.{Refused}
 use Rattle.semantics.specs.State.{geometry}
-use Rattle.semantics.specs.WellFormed.{wellFormed}
+use Rattle.semantics.specs.Register.{isReserved, reservedZero}
+use Rattle.semantics.specs.RegisterBits.{zero-each}
+use Rattle.semantics.specs.WellFormed.{activityFormed, placesUsed, zeroFrom, wellFormed}
 use Rattle.semantics.specs.Steps.{stateRefusal, firstRefusal, refusalOf, next, accepted, stepOf, arrayOf, numberOf, reportedOf}
 
 -- "A refusal gives its number beside the answer 0, gives back the state it got and leaves all lent memory."
@@ -50,3 +54,22 @@ refusal-2 s n x h f = rw (eq-eqb n (words (geometry s)) h, f)
 pub report-refused : (s : State) → wellFormed s ≡ false → reportedOf s ≡ record { refusal = 2; count = 0; lowest = 0 }
 unfolding reportedOf
 report-refused s f = rw f
+
+-- ---- the reserved bits of the configuration register
+
+-- "a well made state has them 0": a state with one of them set is not well formed
+pub reserved-unformed : (s : State) (i : ℕ) → isReserved i ≡ true → bit (s .control .configuration) i ≡ 1 → wellFormed s ≡ false
+unfolding wellFormed
+reserved-unformed s i e h = go (reservedZero (s .control .configuration)) refl
+  where
+    go : (b : Bool) → reservedZero (s .control .configuration) ≡ b → wellFormed s ≡ false
+    go true z = absurd (omega (arith, h, zero-each (s .control .configuration) z i e))
+    go false z = rw (z, and-false (zeroFrom (placesUsed (s .control .activity)) (s .buffer)), and-false (spareZero (s .unprotected)), and-false (activityFormed (geometry s) (s .control .activity)))
+
+-- so every step is refused 2 on it, and gives state and array back as they were, and the report is refused 2
+pub reserved-refused : (s : State) (xs : List ℕ) (x : Step) (i : ℕ) → length xs ≡ words (geometry s) → isReserved i ≡ true → bit (s .control .configuration) i ≡ 1
+    → (stepOf s xs x ≡ next s (Refused 2)) × (arrayOf s xs x ≡ xs) × (reportedOf s ≡ record { refusal = 2; count = 0; lowest = 0 })
+reserved-refused s xs x i n e h =
+    let f : wellFormed s ≡ false = reserved-unformed s i e h in
+    let k = refusal-changes-nothing s xs x 1 (refusal-2 s (length xs) x n f) in
+    (k .0, k .1, report-refused s f)
