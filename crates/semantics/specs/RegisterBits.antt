@@ -34,7 +34,7 @@ use Rattle.semantics.specs.Reading.{bitIf, signatureWord, shown, showsBy
 use Rattle.semantics.specs.Register.{isReserved, registerMask, withoutReserved, reservedZero}
 use Rattle.semantics.specs.StatusBits.{lines-bit}
 use Rattle.semantics.specs.WellFormed.{erasing}
-use Rattle.semantics.specs.Writing.{commandOf, accepts, setUp, pend, clearStatus, firstCycle, programRuns, eraseCycle, lockCommandOf, lockCycle, settle, loads, countRight, firstRight, laterRight, confirmRight, confirmCycle, wordsCycle, cycle}
+use Rattle.semantics.specs.Writing.{commandOf, accepts, setUp, clearStatus, firstCycle, programRuns, eraseCycle, lockCommandOf, lockCycle, settle, loads, countRight, firstRight, laterRight, confirmRight, confirmCycle, wordsCycle, cycle}
 use Rattle.semantics.specs.Engine.{and-true-l, and-true-r}
 
 -- ---- the mask
