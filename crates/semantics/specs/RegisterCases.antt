@@ -29,11 +29,11 @@ use Rattle.semantics.specs.RefusalCases.{underWay, bad, all}
 abbrev stores : ℕ → ℕ → List Exchange
 stores a w = cycles a 0x60 0x03 ++ write 0x0 0x90 ++ shows 0x5 w
 
--- a state but for its register
+-- a state with another register
 abbrev configured : State → ℕ → State
 configured s w = withControl s (setConfiguration (s .control) w)
 
--- power-up but for the register
+-- power-up with register w
 abbrev registered : ℕ → State
 registered w = configured (powerUp BenchBottom) w
 
@@ -116,10 +116,10 @@ registerCases =
     ∷ plays BenchBottom (bench 0xFFFF)
     (stores 0x1 0x1 ++ stores 0x2 0x2 ++ stores 0x4 0x4 ++ stores 0x8 0x8 ++ stores 0x10 0x0 ++ stores 0x8 0x8 ++ stores 0x20 0x0 ++ stores 0x40 0x40 ++ stores 0x80 0x80 ++ stores 0x100 0x100
     ++ stores 0x200 0x200 ++ stores 0x400 0x400 ++ stores 0x800 0x800 ++ stores 0x1000 0x1000 ++ stores 0x2000 0x2000 ++ stores 0x4000 0x0 ++ stores 0x8000 0x8000)
-    -- each bit alone at 0, where the reserved ones make no difference; codes that the sheet reserves in other bits are among these: latency 000, length 100
+    -- the reserved bits at 1 or 0 beside the others make no difference; other bits at 0, with latency 000 and length 100, which Table 11 does not name, are stored as written
     ∷ plays BenchTop (bench 0xFFFF)
     (stores 0xBFCF 0xBFCF ++ stores 0xFFEF 0xBFCF ++ stores 0xFFDF 0xBFCF ++ stores 0xFFFE 0xBFCE ++ stores 0xFF7F 0xBF4F ++ stores 0xC7FF 0x87CF ++ stores 0xFFFC 0xBFCC ++ stores 0x7FFF 0x3FCF ++ stores 0x0 0x0)
-    -- of the address and not of the location, which is 0041h in both: modulo 65,536, whatever is above
+    -- of the address and not of the location, which for 8041h is 0041h: modulo 65,536, whatever is above
     ∷ plays BenchBottom (bench 0xFFFF) (stores 0x8041 0x8041 ++ stores 0xC071 0x8041 ++ stores 0xFF4071 0x0041 ++ stores 0x10000 0x0 ++ stores 0xFFFFFF 0xBFCF)
     -- of the second cycle's address and not the first's
     ∷ plays BenchBottom (bench 0xFFFF) (write 0xFFFF 0x60 ++ write 0x3 0x03 ++ write 0x0 0x90 ++ shows 0x5 0x0003)
@@ -131,7 +131,7 @@ registerCases =
     ++ shows 0x5 0x1204 ++ supply false ++ shows 0x5 0x1204)
     -- reset gives the default, whatever was stored
     ∷ plays BenchTop (bench 0xFFFF) (stores 0x0 0x0 ++ reset ++ write 0x0 0x90 ++ shows 0x5 0xBFCF)
-    -- the default is that of a state as it is made, too: signature of the top part
+    -- the default at power-up of the top part, in its bank 0
     ∷ plays BenchTop (bench 0xFFFF) (write 0x3FFF 0x90 ++ shows 0x3C05 0xBFCF)
     -- 03h sets no flag, whatever is stored: reserved bits one by one, reserved codes, supply on, a block that is unprotected; and leaves each flag that is set
     ∷ plays BenchBottom (bench 0xFFFF)
