@@ -1,6 +1,6 @@
 -- Laws of the digits of one word, of `count` and of `least`: what the laws of the words stand on. Nothing here speaks of blocks.
 -- Assumes nothing.
-use Prim.Native.Nat.{ℕ, zero, suc, _+_, _-_, _*_, _/_, _%_, _^_, _<_, _≤_, max}
+use Prim.Native.Nat.{ℕ, zero, suc, _+_, _-_, _*_, _/_, _%_, _^_, _<_, _≤_, min, max}
 use mathlib.Core.Bool.{Bool, true, false, cond}
 use mathlib.Core.Logic.{_⊎_, inl, inr, _≢_}
 use mathlib.Core.Path.{_≡_, refl, sym, ap, ap₂, _∙_, subst, fun-ext}
@@ -9,7 +9,7 @@ use native.Mathlib.Numerals.{add-one, one-add}
 use native.Mathlib.Decide.{ℕ-discrete}
 use native.Mathlib.Omega.{arith}
 use lib.Arith.{lt-one}
-use lib.Bits.{bitOr, bitXor, differ, or-step, or-shr, or-lt, xor-step, xor-shr, xor-lt}
+use lib.Bits.{bitAnd, bitOr, bitXor, differ, and-step, and-shr, or-step, or-shr, or-lt, xor-step, xor-shr, xor-lt}
 use lib.Count.{ones, ones-step, trailingZeros, under}
 use lib.Dec.{eqb, eqb·suc-zero, lit<}
 use lib.Pow.{pow-pos, pow-lt, shr-shr, shr-lt, shl-exact, field, mod-mod-pow}
@@ -66,6 +66,11 @@ differ-lt zero y h k = k
 differ-lt (suc zero) zero h k = h
 differ-lt (suc zero) (suc y) h k = omega arith
 differ-lt (suc (suc x)) y h k = omega arith
+
+-- the digits of an `and`
+pub bit-and : (a b i : ℕ) → bit (bitAnd a b) i ≡ min (bit a i) (bit b i)
+unfolding bit
+bit-and a b i = rw (and-shr a b i) (ap (λ (x : ℕ). x % 2) (and-step (a / 2 ^ i) (b / 2 ^ i)) ∙ omega (arith, bit-lt a i, bit-lt b i))
 
 -- the digits of an `or`
 bit-or : (a b i : ℕ) → bit (bitOr a b) i ≡ max (bit a i) (bit b i)

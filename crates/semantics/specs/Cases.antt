@@ -30,12 +30,13 @@ pub data Exchange : Type 0 where
   _⟶_ : Step → Answer → Exchange
 
 -- an address of a part, by its number, lies in a block and a bank; or: from power-up, on an array, each step answers so; or: from a state, which need not be one
--- that steps lead to; or: after such steps from power-up, so many blocks are reported unprotected, and this as the lowest; or: the report on a state is refused
+-- that steps lead to; or: after such steps from power-up, so many blocks are reported unprotected, and this as the lowest; or: the report on a state says so, or is refused
 pub data Case : Type 0 where
   lies : ℕ → ℕ → ℕ → ℕ → Case
   plays : Part → List ℕ → List Exchange → Case
   starts : State → List ℕ → List Exchange → Case
   reports : Part → List ℕ → List Exchange → ℕ → ℕ → Case
+  counted : State → ℕ → ℕ → Case
   unreported : State → ℕ → Case
 
 -- answers apart by their kind and number
@@ -58,6 +59,7 @@ holds (lies p a b k) = eqb (lookupOf p a .refusal) 0 && (eqb (lookupOf p a .bloc
 holds (plays p xs l) = playsOut (fresh p xs) l (λ s. true)
 holds (starts s xs l) = playsOut (record { state = s; array = xs }) l (λ s. true)
 holds (reports p xs l n b) = playsOut (fresh p xs) l (reported 0 n b)
+holds (counted s n b) = reported 0 n b s
 holds (unreported s r) = reported r 0 0 s
 
 abbrev pub every : List Case → Bool

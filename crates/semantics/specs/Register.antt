@@ -7,11 +7,11 @@ use lib.Bits.{bitAnd}
 use lib.Dec.{eqb}
 use Rattle.protection.specs.Words.{bit}
 
--- CRi is reserved: "bits 14, 5 and 4". Table 11's other bits, and the codes that it reserves in them, are stored as written
+-- bit i is reserved: "bits 14, 5 and 4" (CR14, CR5 and CR4 of Table 11). All others are stored as written, and so are codes of them that Table 11 reserves or does not name
 unfoldable pub isReserved : ℕ → Bool
 isReserved i = eqb i 14 || (eqb i 5 || eqb i 4)
 
--- the sixteen bits but for these
+-- a 1 for each of the sixteen bits that is not reserved
 abbrev pub registerMask : ℕ
 registerMask = 0xBFCF
 

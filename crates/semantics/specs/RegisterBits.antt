@@ -1,22 +1,22 @@
--- The configuration register bit by bit: what the mask leaves of a word, over the bit index; that a word has its reserved bits 0 exactly where the mask leaves it; where the register is
--- read; and what a cycle makes of it.
+-- The configuration register bit by bit: what the mask leaves of a word, over the bit index; that a word has its reserved bits 0 exactly where the mask leaves it as it is; where the
+-- register is read; and what a cycle makes of it.
 -- Assumes nothing.
-use Prim.Native.Nat.{ℕ, _<_, _≤_, _+_, _-_, _%_, _/_, _^_, min}
+use Prim.Native.Nat.{ℕ, _<_, _≤_, _+_, _-_, _%_, min}
 use mathlib.Core.Bool.{Bool, true, false, not, cond, _&&_, _||_}
 use mathlib.Core.List.{List}
 use mathlib.Core.Logic.{_⊎_, inl, inr}
 use mathlib.Core.Path.{_≡_, refl, sym, ap, _∙_}
 use native.Mathlib.Nat.{pow-le-pow-right}
 use native.Mathlib.Omega.{arith}
-use lib.Bits.{bitAnd, and-shr, and-step, and-lt}
+use lib.Bits.{and-lt}
 use lib.Dec.{eqb, ltb, lit<}
 use borrow.Author.Tests.{lt-ltb, le-ltb, eq-eqb, eqb-true}
 use Rattle.geometry.specs.declared.Part.{Part}
 use Rattle.geometry.specs.declared.Geometry.{Geometry}
-use Rattle.geometry.specs.Blocks.{location, bankOf, bankOffset}
+use Rattle.geometry.specs.Blocks.{location, bankOffset}
 use Rattle.geometry.specs.Laws.{order}
 use Rattle.protection.specs.Words.{bit}
-use Rattle.protection.specs.Digits.{bit-lt, bit-low, bit-none, digits-same}
+use Rattle.protection.specs.Digits.{bit-lt, bit-low, bit-none, bit-and, digits-same}
 use Rattle.semantics.specs.declared.Command.{Command}
 use Rattle.semantics.specs.declared.Command.the-variants as command
 use Rattle.semantics.specs.declared.LockCommand.{LockCommand}
@@ -32,27 +32,22 @@ use Rattle.semantics.specs.declared.View.{View}
 use Rattle.semantics.specs.State.{geometry, modeOf, runs, powerUp}
 use Rattle.semantics.specs.Reading.{bitIf, signatureWord, shown, showsBy, readIn, readWord}
 use Rattle.semantics.specs.Register.{isReserved, registerMask, withoutReserved, reservedZero}
-use Rattle.semantics.specs.StatusBits.{lines-bit}
+use Rattle.semantics.specs.StatusBits.{lines-bit, bankAt}
 use Rattle.semantics.specs.WellFormed.{erasing}
 use Rattle.semantics.specs.Writing.{commandOf, accepts, setUp, clearStatus, firstCycle, programRuns, eraseCycle, lockCommandOf, lockCycle, settle, loads, countRight, firstRight, laterRight, confirmRight, confirmCycle, wordsCycle, cycle}
 use Rattle.semantics.specs.Engine.{and-true-l, and-true-r}
 
 -- ---- the mask
 
--- a digit of two words anded
-and-digit : (w d i : ℕ) → bit (bitAnd w d) i ≡ min (bit w i) (bit d i)
-unfolding bit
-and-digit w d i = rw (and-shr w d i) (ap (λ (x : ℕ). x % 2) (and-step (w / 2 ^ i) (d / 2 ^ i)) ∙ omega (arith, bit-lt w i, bit-lt d i))
-
--- the mask's own bits: it is the sum of the weights of those below 16 that are not reserved, which the checker adds up
+-- the mask's own bits: it is the sum of the weights of the bits below 16 that are not reserved, which the checker adds up
 pub mask-bit : (i : ℕ) → bit registerMask i ≡ bitIf (ltb i 16 && not (isReserved i)) 1
 unfolding isReserved
 mask-bit i = lines-bit (λ k. not (isReserved k)) 16 i
 
 -- each reserved bit of the result is 0, each other bit is the word's
-pub each-bit : (w i : ℕ) → w < 65536 → bit (withoutReserved w) i ≡ cond (isReserved i) 0 (bit w i)
+pub masked-bit : (w i : ℕ) → w < 65536 → bit (withoutReserved w) i ≡ cond (isReserved i) 0 (bit w i)
 unfolding withoutReserved
-each-bit w i h = and-digit w registerMask i ∙ ap (min (bit w i)) (mask-bit i) ∙ go (isReserved i) (order i 16)
+masked-bit w i h = bit-and w registerMask i ∙ ap (min (bit w i)) (mask-bit i) ∙ go (isReserved i) (order i 16)
   where
     go : (b : Bool) → (i < 16) ⊎ (16 ≤ i) → min (bit w i) (bitIf (ltb i 16 && not b) 1) ≡ cond b 0 (bit w i)
     go true (inl l) = rw (lt-ltb i 16 l) (omega (arith, bit-lt w i))
@@ -62,7 +57,7 @@ each-bit w i h = and-digit w registerMask i ∙ ap (min (bit w i)) (mask-bit i) 
 
 -- so what 03h stores of an address: bit i below 16 is the address's, or 0 where it is reserved
 pub stored-bit : (a i : ℕ) → i < 16 → bit (withoutReserved (a % 65536)) i ≡ cond (isReserved i) 0 (bit a i)
-stored-bit a i h = each-bit (a % 65536) i (omega arith) ∙ ap (λ (x : ℕ). cond (isReserved i) 0 x) (bit-low a 16 i h)
+stored-bit a i h = masked-bit (a % 65536) i (omega arith) ∙ ap (λ (x : ℕ). cond (isReserved i) 0 x) (bit-low a 16 i h)
 
 -- ---- words whose reserved bits are 0
 
@@ -85,7 +80,7 @@ zero-each w z i e = go (eqb i 14) (eqb i 5) refl refl e
 -- the mask makes such a word of any
 pub masked-zero : (w : ℕ) → w < 65536 → reservedZero (withoutReserved w) ≡ true
 unfolding reservedZero isReserved
-masked-zero w h = rw (each-bit w 14 h, each-bit w 5 h, each-bit w 4 h)
+masked-zero w h = rw (masked-bit w 14 h, masked-bit w 5 h, masked-bit w 4 h)
 
 -- and leaves such a word: by this a program tests it
 pub masked-same : (w : ℕ) → w < 65536 → eqb (withoutReserved w) w ≡ reservedZero w
@@ -93,7 +88,7 @@ unfolding withoutReserved
 masked-same w h = go (reservedZero w) refl
   where
     same : reservedZero w ≡ true → (i : ℕ) → bit (withoutReserved w) i ≡ bit w i
-    same z i = each-bit w i h ∙ at (isReserved i) refl
+    same z i = masked-bit w i h ∙ at (isReserved i) refl
       where
         at : (b : Bool) → isReserved i ≡ b → cond b 0 (bit w i) ≡ bit w i
         at true e = sym (zero-each w z i e)
@@ -120,7 +115,7 @@ default-ones p = refl
 
 -- a read at the address shows it: its bank is in signature mode, and the address is at the bank's offset 5
 pub record ShowsRegister (s : State) (a : ℕ) : Type 0 where
-  pub mode : modeOf s (bankOf (geometry s) (location (geometry s) a)) ≡ Signature
+  pub mode : modeOf s (bankAt s a) ≡ Signature
   pub offset : bankOffset (geometry s) (location (geometry s) a) ≡ 5
 
 pub register-shown : (s : State) (xs : List ℕ) (a : ℕ) → ShowsRegister s a → readWord s xs a ≡ s .control .configuration
@@ -154,6 +149,10 @@ has-cond : (r : ℕ) (b : Bool) (x y : View) → Has r x → Has r y → Has r (
 has-cond r true x y p q = p
 has-cond r false x y p q = q
 
+loads-has : (v : View) (right : Bool) (c : Setup) → Has (v .control .configuration) (loads right v c)
+unfolding loads settle
+loads-has v right c = has-cond _ right _ _ refl refl
+
 module _ (v : View) (p : Place) where
   first-has : (c : Command) → Has (v .control .configuration) (firstCycle v p c)
   unfolding firstCycle setUp clearStatus
@@ -179,10 +178,6 @@ module _ (v : View) (p : Place) where
   unfolding eraseCycle settle
   erase-has c = has-cond _ (not (eqb c 0xD0)) _ _ refl (has-cond _ (not (v .control .supply)) _ _ refl (has-cond _ (not (v .unprotected)) _ _ refl refl))
 
-  loads-has : (right : Bool) (c : Setup) → Has (v .control .configuration) (loads right v c)
-  unfolding loads settle
-  loads-has right c = has-cond _ right _ _ refl refl
-
   lock-has : (c : LockCommand) → Has (cond (isConfigure c) (withoutReserved (p .address % 65536)) (v .control .configuration)) (lockCycle (settle v) p c)
   unfolding lockCycle settle
   lock-has lock.Protect = refl
@@ -197,10 +192,10 @@ cycle-register g v setup.Nothing p w = first-has v p (commandOf (w % 256))
 cycle-register g v setup.Program p w = program-has v p (running.Program (p .location) w)
 cycle-register g v setup.Erase p w = erase-has v p (w % 256)
 cycle-register g v setup.Lock p w = lock-has v p (lockCommandOf (w % 256))
-cycle-register g v (setup.BufferCount b) p w = loads-has v p (countRight b p w) (setup.BufferFirst b (w + 1))
-cycle-register g v (setup.BufferFirst b n) p w = loads-has v p (firstRight g b n p) (setup.BufferWords (p .location) n (n - 1))
+cycle-register g v (setup.BufferCount b) p w = loads-has v (countRight b p w) (setup.BufferFirst b (w + 1))
+cycle-register g v (setup.BufferFirst b n) p w = loads-has v (firstRight g b n p) (setup.BufferWords (p .location) n (n - 1))
 cycle-register g v (setup.BufferWords l n due) p w =
-    has-cond _ (eqb due 0) _ _ (has-cond _ (confirmRight g l p w) _ _ (program-has v p (running.Buffer l n 0)) refl) (loads-has v p (laterRight l n p) (setup.BufferWords l n (due - 1)))
+    has-cond _ (eqb due 0) _ _ (has-cond _ (confirmRight g l p w) _ _ (program-has v p (running.Buffer l n 0)) refl) (loads-has v (laterRight l n p) (setup.BufferWords l n (due - 1)))
 
 -- so the reserved bits stay 0
 pub cycle-zero : (g : Geometry) (v : View) (c : Setup) (p : Place) (w : ℕ) → reservedZero (v .control .configuration) ≡ true → reservedZero (cycle g v c p w .control .configuration) ≡ true

@@ -22,7 +22,7 @@ use Rattle.semantics.specs.declared.SuspendedErase.the-variants as suspe
 use Rattle.semantics.specs.State.{powerUp, withControl, withProtection, withBuffer, withFlags, withSupply, setConfiguration, flagsOf}
 use Rattle.semantics.specs.Writing.{written}
 use Rattle.semantics.specs.Steps.{stepOf}
-use Rattle.semantics.specs.Cases.{_⟶_, Exchange, Case, plays, starts, reports, unreported, write, cycles, shows, works, supply, reset, unprotect, protect, program, erase, prepared, bench}
+use Rattle.semantics.specs.Cases.{_⟶_, Exchange, Case, plays, starts, reports, counted, unreported, write, cycles, shows, works, supply, reset, unprotect, protect, program, erase, prepared, bench}
 use Rattle.semantics.specs.RefusalCases.{underWay, bad, all}
 
 -- 60h and 03h at an address, after which the register shows w, in bank 0
@@ -71,7 +71,7 @@ onBench s = record { part = BenchBottom; banks = s .banks; unprotected = s .unpr
 abbrev configures : Part → ℕ → State
 configures p a = written (written (powerUp p) a 0x60) a 0x03
 
--- the state that a reset gives back on an array of 3 words, refused 1, and on one of the bench parts
+-- the state that a refused reset gives back: on an array of 3 words, refused 1; on one of the bench parts'
 abbrev back1 : State → State
 back1 s = stepOf s (replicate 3 0) Reset .state
 
@@ -116,7 +116,7 @@ registerCases =
     ∷ plays BenchBottom (bench 0xFFFF)
     (stores 0x1 0x1 ++ stores 0x2 0x2 ++ stores 0x4 0x4 ++ stores 0x8 0x8 ++ stores 0x10 0x0 ++ stores 0x8 0x8 ++ stores 0x20 0x0 ++ stores 0x40 0x40 ++ stores 0x80 0x80 ++ stores 0x100 0x100
     ++ stores 0x200 0x200 ++ stores 0x400 0x400 ++ stores 0x800 0x800 ++ stores 0x1000 0x1000 ++ stores 0x2000 0x2000 ++ stores 0x4000 0x0 ++ stores 0x8000 0x8000)
-    -- the reserved bits at 1 or 0 beside the others make no difference; other bits at 0, with latency 000 and length 100, which Table 11 does not name, are stored as written
+    -- the reserved bits at 1 or 0 beside the others make no difference; other bits at 0 are stored as written, latency 000 too, which Table 11 reserves, and length 100, which it does not name
     ∷ plays BenchTop (bench 0xFFFF)
     (stores 0xBFCF 0xBFCF ++ stores 0xFFEF 0xBFCF ++ stores 0xFFDF 0xBFCF ++ stores 0xFFFE 0xBFCE ++ stores 0xFF7F 0xBF4F ++ stores 0xC7FF 0x87CF ++ stores 0xFFFC 0xBFCC ++ stores 0x7FFF 0x3FCF ++ stores 0x0 0x0)
     -- of the address and not of the location, which for 8041h is 0041h: modulo 65,536, whatever is above
@@ -131,14 +131,12 @@ registerCases =
     ++ shows 0x5 0x1204 ++ supply false ++ shows 0x5 0x1204)
     -- reset gives the default, whatever was stored
     ∷ plays BenchTop (bench 0xFFFF) (stores 0x0 0x0 ++ reset ++ write 0x0 0x90 ++ shows 0x5 0xBFCF)
-    -- the default at power-up of the top part, in its bank 0
-    ∷ plays BenchTop (bench 0xFFFF) (write 0x3FFF 0x90 ++ shows 0x3C05 0xBFCF)
-    -- 03h sets no flag, whatever is stored: reserved bits one by one, reserved codes, supply on, a block that is unprotected; and leaves each flag that is set
+    -- 03h sets no flag, whatever is stored: reserved bits one by one, other codes, supply on, a block that is unprotected; and leaves each flag that is set
     ∷ plays BenchBottom (bench 0xFFFF)
     (cycles 0x10 0x60 0x03 ++ cycles 0x20 0x60 0x03 ++ cycles 0x4000 0x60 0x03 ++ cycles 0x4 0x60 0x03 ++ cycles 0x5 0x60 0x03 ++ cycles 0x6 0x60 0x03 ++ cycles 0x7 0x60 0x03 ++ cycles 0x803 0x60 0x03
     ++ cycles 0x10000 0x60 0x03 ++ cycles 0xFFFFFF 0x60 0x03 ++ shows 0x0 0x80 ++ prepared 0x40 ++ cycles 0xC070 0x60 0x03 ++ shows 0x0 0x80)
     ∷ plays BenchBottom (bench 0xFFFF) (allFlags ++ cycles 0x4030 0x60 0x03 ++ shows 0x0 0xBA)
-    -- codes that Table 11 does not name are stored as written: length 000, 101 and 110, latency 001; and so is the combination that it does not support
+    -- so are length 000, 101 and 110, latency 001, and the combination that Table 11 does not support
     ∷ plays BenchBottom (bench 0xFFFF) (stores 0xBFC8 0xBFC8 ++ stores 0xBFCD 0xBFCD ++ stores 0xBFCE 0xBFCE ++ stores 0x8FCF 0x8FCF ++ stores 0x97CF 0x97CF)
     -- it leaves protection: of block 5, which is protected, and of block 4, which is not
     ∷ reports BenchBottom (bench 0xFFFF) (unprotect 0x40 ++ stores 0x8080 0x8080 ++ stores 0x8040 0x8040) 1 4
@@ -169,7 +167,7 @@ registerCases =
     ∷ bad (configured (underWay BenchBottom setup.Lock running.Idle suspended-program.Nothing (suspended-erase.Erase 4 0)) 0x4000)
     -- with two of them set
     ∷ bad (registered 0x4020) ∷ bad (registered 0x4010) ∷ bad (registered 0x0030)
-    -- whatever else there is: each set-up, what runs, what is suspended
+    -- each set-up, what runs, what is suspended
     ∷ bad (pends setup.Program 0x4000) ∷ bad (pends setup.Erase 0x4000) ∷ bad (pends setup.Lock 0x4000) ∷ bad (pends (setup.BufferCount 4) 0x4000) ∷ bad (pends (setup.BufferFirst 4 1) 0x4000)
     ∷ bad (pends (setup.BufferWords 0x40 1 0) 0x4000) ∷ bad (withBuffer (pends (setup.BufferWords 0x40 1 0) 0x4000) (0x1234 ∷ replicate 31 0)) ∷ bad (working (running.Erase 4 0) 0x4000) ∷ bad (working (running.Buffer 0x40 1 0) 0x4000)
     ∷ bad (waits (suspended-program.Program 0x40 0x1234) 0x4000) ∷ bad (waits (suspended-program.Buffer 0x40 1 0) 0x4000) ∷ bad (eraseWaits 0x4000)
@@ -178,12 +176,12 @@ registerCases =
     ∷ bad (withFlags (registered 0x4000) (flagsOf false false true false)) ∷ bad (withFlags (registered 0x4000) (flagsOf false false false true))
     ∷ bad (withProtection (registered 0x4000) (0x11 ∷ replicate 4 0)) ∷ bad (inMode Status) ∷ bad (inMode Signature) ∷ bad (inMode Query)
     ∷ unreported (configured (powerUp FullBottom) 0x4000) 2 ∷ unreported (configured (powerUp FullTop) 0x4000) 2
-    -- a refused state comes back as it was: refused 1, still refused 2, or still with its register; refused 2, with the register that it had, which shows once its bit 14 is taken off
+    -- a state that is refused comes back as it was: refused 1, it is refused 2 still, or has its register still; refused 2, it has the register that it had, which shows where its bit 14 is taken off
     ∷ unreported (back1 (registered 0x4000)) 2 ∷ starts (back1 (registered 0x8041)) (bench 0) (has 0x8041)
     ∷ starts (registered (back (registered 0xC041) .control .configuration - 0x4000)) (bench 0) (has 0x8041)
     -- with any of the others it is
     ∷ allowed 0x0 ∷ allowed 0x1 ∷ allowed 0x2 ∷ allowed 0x4 ∷ allowed 0x8 ∷ allowed 0x40 ∷ allowed 0x80 ∷ allowed 0x100 ∷ allowed 0x200 ∷ allowed 0x400 ∷ allowed 0x800 ∷ allowed 0x1000
-    ∷ allowed 0x2000 ∷ allowed 0x8000 ∷ allowed 0xBFCF
+    ∷ allowed 0x2000 ∷ allowed 0x8000 ∷ allowed 0xBFCF ∷ counted (configured (powerUp FullBottom) 0x8041) 0 259 ∷ counted (configured (powerUp FullTop) 0x8041) 0 259
     ∷ starts (configured (underWay BenchBottom setup.Nothing (running.Program 0x40 0x1234) suspended-program.Nothing suspended-erase.Nothing) 0x8041) (bench 0xFFFF) (works 1 1 ++ write 0x0 0x90 ++ shows 0x5 0x8041)
     ∷ starts (eraseWaits 0x8041) (bench 0) (has 0x8041) ∷ starts (waits (suspended-program.Program 0x40 0x1234) 0x8041) (bench 0) (has 0x8041) ∷ starts (withSupply (registered 0x8041) true) (bench 0) (has 0x8041)
     ∷ []

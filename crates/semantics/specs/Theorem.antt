@@ -129,11 +129,11 @@ demand-3 p l xs h L k = agree-words p xs (afterAll (fresh p xs) l) (recordedAll 
 pub reached-formed : (p : Part) (l : List Step) (xs : List ℕ) → length xs ≡ words (geometryOf p) → wellFormed (afterAll (fresh p xs) l .state) ≡ true
 reached-formed p l xs h = agree-formed p xs (afterAll (fresh p xs) l) (recordedAll (geometryOf p) beginning l) (reached p l xs h)
 
+pub reached-length : (p : Part) (l : List Step) (xs : List ℕ) → length xs ≡ words (geometryOf p) → length (afterAll (fresh p xs) l .array) ≡ words (geometryOf p)
+reached-length p l xs h = reached p l xs h .size
+
 -- "Reserved bits read 0": after any list of steps, where a read shows the configuration register, each reserved bit of the word is 0
 pub reserved-read-0 : (p : Part) (l : List Step) (xs : List ℕ) → length xs ≡ words (geometryOf p) → (a : ℕ) → ShowsRegister (afterAll (fresh p xs) l .state) a
     → (i : ℕ) → isReserved i ≡ true → bit (readWord (afterAll (fresh p xs) l .state) (afterAll (fresh p xs) l .array) a) i ≡ 0
 reserved-read-0 p l xs h a r i e = let m : Machine = afterAll (fresh p xs) l in
     ap (λ (w : ℕ). bit w i) (register-shown (m .state) (m .array) a r) ∙ zero-each _ (reached p l xs h .reserved) i e
-
-pub reached-length : (p : Part) (l : List Step) (xs : List ℕ) → length xs ≡ words (geometryOf p) → length (afterAll (fresh p xs) l .array) ≡ words (geometryOf p)
-reached-length p l xs h = reached p l xs h .size

@@ -1,5 +1,5 @@
--- When a state is well formed (document 01: well made): one test for each part of document 01's sentence, in its order, and what document 02, item 1, says
--- of a load and of a buffer program; no other.
+-- When a state is well formed (document 01: well made): one test for each part of document 01's sentence, in its order, and what document 02 says:
+-- item 1 of a load and of a buffer program, item 4 of the configuration register; no other.
 -- Assumes nothing.
 use Prim.Native.Nat.{ℕ, zero, suc, _+_}
 use mathlib.Core.Bool.{Bool, true, false, not, _&&_, _||_}

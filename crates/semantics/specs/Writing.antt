@@ -1,4 +1,4 @@
--- The write step: document 01, "Write, address, data.", and document 02, item 1, with section 4.9 of the data sheet, for the load of a buffer program. A cycle is said
+-- The write step: document 01, "Write, address, data.", and document 02, item 1, with section 4.9 of the data sheet, for the load of a buffer program, and item 4, for what 03h stores. A cycle is said
 -- over what it sees at the place of its address; what it does not see stays. What a load's cycle makes of the buffer is said after that.
 -- Assumes nothing.
 use Prim.Native.Nat.{ℕ, _+_, _-_, _%_}
