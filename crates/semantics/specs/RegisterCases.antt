@@ -25,9 +25,13 @@ use Rattle.semantics.specs.Steps.{stepOf}
 use Rattle.semantics.specs.Cases.{_⟶_, Exchange, Case, plays, starts, reports, counted, unreported, write, cycles, shows, works, supply, reset, unprotect, protect, program, erase, prepared, bench}
 use Rattle.semantics.specs.RefusalCases.{underWay, bad, all}
 
--- 60h and 03h at an address, after which the register shows w, in bank 0
+-- the register shows w, in bank 0
+abbrev has : ℕ → List Exchange
+has w = write 0x0 0x90 ++ shows 0x5 w
+
+-- 60h and 03h at an address, after which it does
 abbrev stores : ℕ → ℕ → List Exchange
-stores a w = cycles a 0x60 0x03 ++ write 0x0 0x90 ++ shows 0x5 w
+stores a w = cycles a 0x60 0x03 ++ has w
 
 -- a state with another register
 abbrev configured : State → ℕ → State
@@ -39,7 +43,7 @@ registered w = configured (powerUp BenchBottom) w
 
 -- a register that is well formed: it shows as it is
 abbrev allowed : ℕ → Case
-allowed w = starts (registered w) (bench 0) (write 0x0 0x90 ++ shows 0x5 w)
+allowed w = starts (registered w) (bench 0) (has w)
 
 -- one that is not: every step is refused 2, and on an array of another length 1, and the report is refused 2
 abbrev refused : ℕ → List Case
@@ -93,10 +97,6 @@ erasePaused = prepared 0x40 ++ erase 0x40 ++ write 0x40 0xB0
 abbrev programPaused : List Exchange
 programPaused = prepared 0x40 ++ program 0x40 0x1234 ++ write 0x40 0xB0
 
--- the register shows w, in bank 0
-abbrev has : ℕ → List Exchange
-has w = write 0x0 0x90 ++ shows 0x5 w
-
 -- 1204h is stored; such steps leave it; a reset after them gives the default
 abbrev leaves : List Exchange → Case
 leaves l = plays BenchBottom (bench 0xFFFF) (stores 0x1234 0x1204 ++ l ++ has 0x1204)
@@ -107,11 +107,10 @@ resets l = plays BenchBottom (bench 0xFFFF) (stores 0x1234 0x1204 ++ l ++ reset 
 abbrev pub registerCases : List Case
 registerCases =
     -- the default, and FFFFh stored as it; its cycles mark bank 15, 00FFFFh being location 3FFFh
-    plays BenchBottom (bench 0xFFFF) (write 0x0 0x90 ++ shows 0x5 0xBFCF ++ cycles 0xFFFF 0x60 0x03 ++ shows 0x5 0xBFCF ++ shows 0x3C00 0x80)
+    plays BenchBottom (bench 0xFFFF) (has 0xBFCF ++ cycles 0xFFFF 0x60 0x03 ++ shows 0x5 0xBFCF ++ shows 0x3C00 0x80)
     -- 5432h stored as 1402h, and 4030h, whose cycles mark bank 0, as 0000h; then reset
     ∷ plays BenchBottom (bench 0xFFFF)
-    (write 0x0 0x90 ++ cycles 0x5432 0x60 0x03 ++ shows 0x5 0x1402 ++ write 0x4030 0x60 ++ shows 0x5 0x80 ++ write 0x4030 0x03 ++ write 0x0 0x90 ++ shows 0x5 0x0 ++ reset ++ write 0x0 0x90
-    ++ shows 0x5 0xBFCF)
+    (write 0x0 0x90 ++ cycles 0x5432 0x60 0x03 ++ shows 0x5 0x1402 ++ write 0x4030 0x60 ++ shows 0x5 0x80 ++ write 0x4030 0x03 ++ has 0x0 ++ reset ++ has 0xBFCF)
     -- each bit alone: 14, 5 and 4 are stored as 0, the others as written
     ∷ plays BenchBottom (bench 0xFFFF)
     (stores 0x1 0x1 ++ stores 0x2 0x2 ++ stores 0x4 0x4 ++ stores 0x8 0x8 ++ stores 0x10 0x0 ++ stores 0x8 0x8 ++ stores 0x20 0x0 ++ stores 0x40 0x40 ++ stores 0x80 0x80 ++ stores 0x100 0x100
@@ -122,7 +121,7 @@ registerCases =
     -- of the address and not of the location, which for 8041h is 0041h: modulo 65,536, whatever is above
     ∷ plays BenchBottom (bench 0xFFFF) (stores 0x8041 0x8041 ++ stores 0xC071 0x8041 ++ stores 0xFF4071 0x0041 ++ stores 0x10000 0x0 ++ stores 0xFFFFFF 0xBFCF)
     -- of the second cycle's address and not the first's
-    ∷ plays BenchBottom (bench 0xFFFF) (write 0xFFFF 0x60 ++ write 0x3 0x03 ++ write 0x0 0x90 ++ shows 0x5 0x0003)
+    ∷ plays BenchBottom (bench 0xFFFF) (write 0xFFFF 0x60 ++ write 0x3 0x03 ++ has 0x0003)
     -- no flag is set by the reserved bits, and none cleared: after an erase refused for supply A8h stays; supply is not looked at
     ∷ plays BenchBottom (bench 0xFFFF) (cycles 0x4030 0x60 0x03 ++ shows 0x0 0x80 ++ erase 0x40 ++ shows 0x40 0xA8 ++ cycles 0x4030 0x60 0x03 ++ shows 0x0 0xA8)
     -- supply, work, other commands, refused steps and a wrong lock code leave the register
@@ -130,7 +129,7 @@ registerCases =
     (stores 0x1234 0x1204 ++ supply true ++ works 5 0 ++ prepared 0x40 ++ erase 0x40 ++ works 3 3 ++ write 0x40 0xB0 ++ cycles 0x40 0x60 0x04 ++ (Write 0x1000003 0x03 ⟶ Refused 3) ∷ (Work 65536 ⟶ Refused 4) ∷ write 0x40 0x90
     ++ shows 0x5 0x1204 ++ supply false ++ shows 0x5 0x1204)
     -- reset gives the default, whatever was stored
-    ∷ plays BenchTop (bench 0xFFFF) (stores 0x0 0x0 ++ reset ++ write 0x0 0x90 ++ shows 0x5 0xBFCF)
+    ∷ plays BenchTop (bench 0xFFFF) (stores 0x0 0x0 ++ reset ++ has 0xBFCF)
     -- 03h sets no flag, whatever is stored: reserved bits one by one, other codes, supply on, a block that is unprotected; and leaves each flag that is set
     ∷ plays BenchBottom (bench 0xFFFF)
     (cycles 0x10 0x60 0x03 ++ cycles 0x20 0x60 0x03 ++ cycles 0x4000 0x60 0x03 ++ cycles 0x4 0x60 0x03 ++ cycles 0x5 0x60 0x03 ++ cycles 0x6 0x60 0x03 ++ cycles 0x7 0x60 0x03 ++ cycles 0x803 0x60 0x03
@@ -163,8 +162,8 @@ registerCases =
     -- a state with a reserved bit set is not well formed, whatever the other bits are, and whatever is under way
     ∷ refused 0x4000 ++ refused 0x0020 ++ refused 0x0010 ++ refused 0xFFFF
     ++ bad (registered 0x4030) ∷ bad (registered 0xFFCF) ∷ bad (registered 0xBFEF) ∷ bad (registered 0xBFDF) ∷ bad (configured (powerUp BenchTop) 0x4000)
-    ∷ bad (configured (underWay BenchBottom setup.Nothing (running.Program 0x40 0x1234) suspended-program.Nothing suspended-erase.Nothing) 0x0010)
-    ∷ bad (configured (underWay BenchBottom setup.Lock running.Idle suspended-program.Nothing (suspended-erase.Erase 4 0)) 0x4000)
+    ∷ bad (working (running.Program 0x40 0x1234) 0x0010)
+    ∷ bad (busy setup.Lock running.Idle suspended-program.Nothing (suspended-erase.Erase 4 0) 0x4000)
     -- with two of them set
     ∷ bad (registered 0x4020) ∷ bad (registered 0x4010) ∷ bad (registered 0x0030)
     -- each set-up, what runs, what is suspended
@@ -182,6 +181,6 @@ registerCases =
     -- with any of the others it is
     ∷ allowed 0x0 ∷ allowed 0x1 ∷ allowed 0x2 ∷ allowed 0x4 ∷ allowed 0x8 ∷ allowed 0x40 ∷ allowed 0x80 ∷ allowed 0x100 ∷ allowed 0x200 ∷ allowed 0x400 ∷ allowed 0x800 ∷ allowed 0x1000
     ∷ allowed 0x2000 ∷ allowed 0x8000 ∷ allowed 0xBFCF ∷ counted (configured (powerUp FullBottom) 0x8041) 0 259 ∷ counted (configured (powerUp FullTop) 0x8041) 0 259
-    ∷ starts (configured (underWay BenchBottom setup.Nothing (running.Program 0x40 0x1234) suspended-program.Nothing suspended-erase.Nothing) 0x8041) (bench 0xFFFF) (works 1 1 ++ write 0x0 0x90 ++ shows 0x5 0x8041)
+    ∷ starts (working (running.Program 0x40 0x1234) 0x8041) (bench 0xFFFF) (works 1 1 ++ has 0x8041)
     ∷ starts (eraseWaits 0x8041) (bench 0) (has 0x8041) ∷ starts (waits (suspended-program.Program 0x40 0x1234) 0x8041) (bench 0) (has 0x8041) ∷ starts (withSupply (registered 0x8041) true) (bench 0) (has 0x8041)
     ∷ []
