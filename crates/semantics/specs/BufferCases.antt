@@ -174,10 +174,10 @@ bufferCases =
     -- at D0h supply and protection come before the suspended erase
     ∷ from 0xFFFF (prepared 0x40 ++ erase 0x40 ++ write 0x40 0xB0 ++ supply false ++ loadOne 0x40 0x1234 ++ shows 0x40 0xD8)
     ∷ from 0xFFFF (prepared 0x40 ++ erase 0x40 ++ write 0x40 0xB0 ++ protect 0x40 ++ loadOne 0x40 0x1234 ++ shows 0x40 0xD2)
-    -- work, supply steps and refused steps leave the words of a load, and of a buffer program, running or suspended
+    -- work, supply steps and refused steps leave the words of a load, and of a suspended buffer program
     ∷ from 0xFFFF
-    (prepared 0x40 ++ begun 0x40 1 ++ write 0x40 1 ++ works 5 0 ++ (Write 0x1000000 0x1234 ⟶ Refused 3) ∷ supply false ++ supply true ++ write 0x41 2 ++ write 0x40 0xD0 ++ supply false ++ works 1 1
-    ++ write 0x40 0xB0 ++ works 5 0 ++ supply true ++ write 0x40 0xD0 ++ works 5 1 ++ write 0x40 0xFF ++ shows 0x40 1 ++ shows 0x41 2)
+    (prepared 0x40 ++ begun 0x40 1 ++ write 0x40 1 ++ works 5 0 ++ (Write 0x1000000 0x1234 ⟶ Refused 3) ∷ supply false ++ supply true ++ write 0x41 2 ++ write 0x40 0xD0 ++ supply true ++ works 1 1
+    ++ write 0x40 0xB0 ++ works 5 0 ++ supply false ++ supply true ++ write 0x40 0xD0 ++ works 5 1 ++ write 0x40 0xFF ++ shows 0x40 1 ++ shows 0x41 2)
     -- a wrong cycle's flags come beside those that were
     ∷ from 0xFFFF (supply true ++ program 0x40 0x1234 ++ begun 0x40 0x20 ++ shows 0x40 0xB2)
     ∷ from 0xFFFF (supply true ++ program 0x40 0x1234 ++ begun 0x40 0 ++ write 0x40 0 ++ write 0x40 0 ++ shows 0x40 0xB2)

@@ -20,8 +20,8 @@ use Rattle.semantics.specs.Numbers.{within, within-true}
 use Rattle.semantics.specs.Layout.{inside, only, fits}
 use Rattle.semantics.specs.Entries as entries
 use Rattle.semantics.specs.Entries.{Entry, entry, Live, live, resting, anyRuns, anySuspended, anyLive, None}
-use Rattle.semantics.specs.Recorder.{Operation, program, erase, buffer, Setup, no-setup, program-setup, erase-setup, lock-setup, count-setup, first-setup, words-setup, Event, nothing, supplied, was-reset, units, suspend, resume-program, resume-erase, setup-is, unprotected-is, accept}
-use Rattle.semantics.specs.Recorder.{Conditions, conditions-after, rule, base, len, put, kinds, isProgram, isErase, isEraseOf, isAny, blockIn, Recorder, beginning, event, journal-after, first-cycle, goes-on, count-cycle, first-word-cycle, later-word-cycle, confirm-cycle, cycle, acceptable}
+use Rattle.semantics.specs.Recorder.{Operation, program, erase, buffer, Setup, no-setup, program-setup, erase-setup, lock-setup, count-setup, first-setup, words-setup, Event, nothing, supplied, was-reset, units, suspend, resume-program, resume-erase, end-program, end-erase, setup-is, unprotected-is, accept}
+use Rattle.semantics.specs.Recorder.{Conditions, conditions-after, rule, base, len, put, kinds, isProgram, isErase, isEraseOf, isAny, isNone, blockIn, Recorder, beginning, event, journal-after, first-cycle, goes-on, count-cycle, first-word-cycle, later-word-cycle, confirm-cycle, cycle, acceptable}
 use Rattle.semantics.specs.Recorder.{Command, commandOf, suspend-command, resume-command, program-command, lock-command, erase-command, buffer-command, other-command}
 
 pub or-false-l : (a b : Bool) → (a || b) ≡ false → a ≡ false
@@ -79,12 +79,15 @@ module _ (g : Geometry) where
 
   abbrev pub engine-after : Event → Engine → Engine
   engine-after nothing e = e
-  engine-after (supplied b) e = e
+  engine-after (supplied true) e = e
+  engine-after (supplied false) e = engine false (resting (busy e) (stack e))
   engine-after was-reset e = engine false []
   engine-after (units n) e = engine-worked n e
   engine-after suspend e = engine false (stack e)
   engine-after resume-program e = engine (some? (stack e)) (stack e)
   engine-after resume-erase e = engine (some? (stack e)) (stack e)
+  engine-after end-program e = engine false (resting true (stack e))
+  engine-after end-erase e = engine false (resting true (stack e))
   engine-after (setup-is s) e = e
   engine-after (unprotected-is b o) e = e
   engine-after (accept k) e = engine true (live k 0 ∷ stack e)
@@ -102,6 +105,8 @@ module _ (g : Geometry) where
   words-after suspend e m = m
   words-after resume-program e m = m
   words-after resume-erase e m = m
+  words-after end-program e m = m
+  words-after end-erase e m = m
   words-after (setup-is s) e m = m
   words-after (unprotected-is b o) e m = m
   words-after (accept k) e m = m
@@ -139,6 +144,8 @@ module _ (g : Geometry) where
     ok-suspend : s ≡ no-setup → Ok s r h suspend
     ok-resume-program : s ≡ no-setup → r ≡ false → h isProgram ≡ true → Ok s r h resume-program
     ok-resume-erase : s ≡ no-setup → r ≡ false → h isProgram ≡ false → h isErase ≡ true → Ok s r h resume-erase
+    ok-end-program : s ≡ no-setup → r ≡ false → h isProgram ≡ true → Ok s r h end-program
+    ok-end-erase : s ≡ no-setup → r ≡ false → h isProgram ≡ false → h isErase ≡ true → Ok s r h end-erase
     ok-setup : (t : Setup) → Ready t r h → Ok s r h (setup-is t)
     ok-unprotected : (b : ℕ) (o : Bool) → Ok s r h (unprotected-is b o)
     ok-program : (k : Operation) → Lies k → isErase k ≡ false → 0 < len g k → ((L : ℕ) → InK k L → blockOf g L ≡ blockIn g k)
@@ -164,8 +171,8 @@ module _ (g : Geometry) where
     first-ok : (d : Conditions) → s ≡ no-setup → (b : ℕ) → b < blocks g → (c : Command) → Ok s r h (first-cycle g d r h b c)
     first-ok d z b q suspend-command = either r (λ e. ok-suspend z) (λ e. ok-nothing)
     first-ok d z b q resume-command =
-        either r (λ e. ok-nothing) (λ er. either (h isProgram) (λ ep. ok-resume-program z er ep)
-        (λ ep. either (h isErase) (λ ee. ok-resume-erase z er ep ee) (λ e. ok-nothing)))
+        either r (λ e. ok-nothing) (λ er. either (h isProgram) (λ ep. either (d .supply) (λ e. ok-resume-program z er ep) (λ e. ok-end-program z er ep))
+        (λ ep. either (h isErase) (λ ee. either (d .supply) (λ e. ok-resume-erase z er ep ee) (λ e. ok-end-erase z er ep ee)) (λ e. ok-nothing)))
     first-ok d z b q program-command = idle-prog program-setup (λ x. x)
     first-ok d z b q lock-command = idle-prog lock-setup (λ x. x)
     first-ok d z b q erase-command =
@@ -295,6 +302,22 @@ module _ (g : Geometry) where
   match-suspend (engine false s) j m = rw (entries.idle-paused (kinds g) m) m
   match-suspend (engine true s) j m = entries.match-paused (kinds g) m
 
+  order-resting : (r : Bool) (s : List (Live Operation)) → Order s → Order (resting r s)
+  order-resting false s o = o
+  order-resting true [] o = tt
+  order-resting true (live k u ∷ s) o = order-tail k u s o
+
+  -- no operation is of no kind
+  none-live : (s : List (Live Operation)) → None isNone s
+  none-live [] = tt
+  none-live (live k u ∷ s) = (refl, none-live s)
+
+  -- supply off ends what runs
+  match-unsupplied : (e : Engine) (j : List (Entry Operation)) → Matches (busy e) (stack e) j → Matches false (resting (busy e) (stack e)) (journal-after g (supplied false) j)
+  match-unsupplied (engine false s) j m = rw (entries.idle-broken (kinds g) true isNone (none-live s) m) m
+  match-unsupplied (engine true []) j m = absurd (entries.match-some (kinds g) m)
+  match-unsupplied (engine true (live k u ∷ s)) j m = entries.match-broken (kinds g) true isNone refl (none-live s) m
+
   match-resume-program : (e : Engine) (j : List (Entry Operation)) → busy e ≡ false → held? e isProgram ≡ true → Fit e j
       → Matches (some? (stack e)) (stack e) (journal-after g resume-program j)
   match-resume-program (engine true s) j x y f = absurd (true≢false x)
@@ -304,16 +327,34 @@ module _ (g : Geometry) where
       entries.match-resumed (kinds g) isProgram (rw (f .1 .0)) (rw (f .1 .1), tt) (f .0)
   match-resume-program (engine false (live k u ∷ (live i v ∷ (l ∷ s)))) j x y f = absurd (f .1)
 
+  -- where two are under way, one is a program
+  no-two : (k : Operation) (u : ℕ) (i : Operation) (v : ℕ) (s : List (Live Operation)) → Order (live k u ∷ (live i v ∷ s)) → anyLive isProgram (live k u ∷ (live i v ∷ s)) ≡ false → ⊥
+  no-two k u i v [] o n = true≢false (sym (ap not (o .0)) ∙ or-false-l (isProgram k) _ n)
+  no-two k u i v (x ∷ s) o n = o
+
   match-resume-erase : (e : Engine) (j : List (Entry Operation)) → busy e ≡ false → held? e isProgram ≡ false → held? e isErase ≡ true → Fit e j
       → Matches (some? (stack e)) (stack e) (journal-after g resume-erase j)
   match-resume-erase (engine true s) j x y z f = absurd (true≢false x)
   match-resume-erase (engine false []) j x y z f = absurd (false≢true z)
   match-resume-erase (engine false (live k u ∷ [])) j x y z f = entries.match-resumed (kinds g) isErase (or-lone _ z) tt (f .0)
   match-resume-erase (engine false (live k u ∷ (live i v ∷ s))) j x y z f = absurd (no-two k u i v s (f .1) y)
-    where
-      no-two : (k : Operation) (u : ℕ) (i : Operation) (v : ℕ) (s : List (Live Operation)) → Order (live k u ∷ (live i v ∷ s)) → anyLive isProgram (live k u ∷ (live i v ∷ s)) ≡ false → ⊥
-      no-two k u i v [] o n = true≢false (sym (ap not (o .0)) ∙ or-false-l (isProgram k) _ n)
-      no-two k u i v (x ∷ s) o n = o
+
+  -- D0h without supply ends what it would have resumed
+  match-end-program : (e : Engine) (j : List (Entry Operation)) → busy e ≡ false → held? e isProgram ≡ true → Fit e j
+      → Matches false (resting true (stack e)) (journal-after g end-program j)
+  match-end-program (engine true s) j x y f = absurd (true≢false x)
+  match-end-program (engine false []) j x y f = absurd (false≢true y)
+  match-end-program (engine false (live k u ∷ [])) j x y f = entries.match-broken (kinds g) false isProgram (or-lone _ y) tt (f .0)
+  match-end-program (engine false (live k u ∷ (live i v ∷ []))) j x y f =
+      entries.match-broken (kinds g) false isProgram (rw (f .1 .0)) (rw (f .1 .1), tt) (f .0)
+  match-end-program (engine false (live k u ∷ (live i v ∷ (l ∷ s)))) j x y f = absurd (f .1)
+
+  match-end-erase : (e : Engine) (j : List (Entry Operation)) → busy e ≡ false → held? e isProgram ≡ false → held? e isErase ≡ true → Fit e j
+      → Matches false (resting true (stack e)) (journal-after g end-erase j)
+  match-end-erase (engine true s) j x y z f = absurd (true≢false x)
+  match-end-erase (engine false []) j x y z f = absurd (false≢true z)
+  match-end-erase (engine false (live k u ∷ [])) j x y z f = entries.match-broken (kinds g) false isErase (or-lone _ z) tt (f .0)
+  match-end-erase (engine false (live k u ∷ (live i v ∷ s))) j x y z f = absurd (no-two k u i v s (f .1) y)
 
   -- an erase covers words of its block alone
   erase-in : (sound : Sound g) (k : Operation) → isErase k ≡ true → (L : ℕ) → InK k L → blockOf g L ≡ blockIn g k
@@ -357,6 +398,15 @@ module _ (g : Geometry) where
   ready-work n s (engine true []) y = y
   ready-work n s (engine true (live k u ∷ l)) y = ready-run s _ _ _ y
 
+  ready-unsupplied : (s : Setup) (e : Engine) → Ready s (busy e) (held? e) → Ready s false (held? (engine false (resting (busy e) (stack e))))
+  ready-unsupplied s (engine false l) y = y
+  ready-unsupplied s (engine true l) y = ready-run s _ _ _ y
+
+  inside-resting : (r : Bool) (s : List (Live Operation)) → Inside s → Inside (resting r s)
+  inside-resting false s x = x
+  inside-resting true [] x = x
+  inside-resting true (live k u ∷ s) x = x .1
+
   inside-work : (n : ℕ) (e : Engine) → Inside (stack e) → Inside (stack (engine-worked g n e))
   inside-work n (engine false s) x = x
   inside-work n (engine true []) x = x
@@ -395,17 +445,19 @@ module _ (g : Geometry) where
   lying-resumed p k u entries.finished j x = x
   lying-resumed p k u entries.broken-off j x = x
 
-  lying-abandoned : Keeps entries.abandoned
-  lying-abandoned k u entries.running j x = x
-  lying-abandoned k u entries.suspended j x = x
-  lying-abandoned k u entries.finished j x = x
-  lying-abandoned k u entries.broken-off j x = x
+  lying-broken : (b : Bool) (p : Operation → Bool) → Keeps (entries.brokenOff b p)
+  lying-broken b p k u entries.running j x = x
+  lying-broken b p k u entries.suspended j x = x
+  lying-broken b p k u entries.finished j x = x
+  lying-broken b p k u entries.broken-off j x = x
 
   pub sim-do : (sound : Sound g) (d : Conditions) (e : Engine) (j : List (Entry Operation)) (v : Event) → Ok (d .setup) (busy e) (held? e) v → Sim d e j
       → Sim (conditions-after v d) (engine-after g v e) (journal-after g v j)
   sim-do sound d e j v ok-nothing s = s
-  sim-do sound d e j v (ok-supplied b) s = record { match = s .match; order = s .order; inside = s .inside; lying = s .lying; ready = s .ready }
-  sim-do sound d e j v ok-was-reset s = record { match = entries.match-abandoned (kinds g) (s .match); order = tt; inside = tt; lying = lying-map entries.abandoned lying-abandoned j (s .lying); ready = tt }
+  sim-do sound d e j v (ok-supplied true) s = record { match = s .match; order = s .order; inside = s .inside; lying = s .lying; ready = s .ready }
+  sim-do sound d e j v (ok-supplied false) s =
+      record { match = match-unsupplied e j (s .match); order = order-resting (busy e) (stack e) (s .order); inside = inside-resting (busy e) (stack e) (s .inside); lying = lying-map (entries.brokenOff true isNone) (lying-broken true isNone) j (s .lying); ready = ready-unsupplied (d .setup) e (s .ready) }
+  sim-do sound d e j v ok-was-reset s = record { match = entries.match-all-broken (kinds g) (s .match); order = tt; inside = tt; lying = lying-map (entries.brokenOff true isAny) (lying-broken true isAny) j (s .lying); ready = tt }
   sim-do sound d e j v (ok-units n) s =
       let f = fit-work n e j (s .match, s .order) in
       record { match = f .0; order = f .1; inside = inside-work n e (s .inside); lying = lying-map (entries.worked (kinds g) n) (lying-worked n) j (s .lying); ready = ready-work n (d .setup) e (s .ready) }
@@ -414,6 +466,10 @@ module _ (g : Geometry) where
       record { match = match-resume-program e j x y (s .match, s .order); order = s .order; inside = s .inside; lying = lying-map (entries.resumed isProgram) (lying-resumed isProgram) j (s .lying); ready = ready-none _ _ _ z }
   sim-do sound d e j v (ok-resume-erase z x y w) s =
       record { match = match-resume-erase e j x y w (s .match, s .order); order = s .order; inside = s .inside; lying = lying-map (entries.resumed isErase) (lying-resumed isErase) j (s .lying); ready = ready-none _ _ _ z }
+  sim-do sound d e j v (ok-end-program z x y) s =
+      record { match = match-end-program e j x y (s .match, s .order); order = order-resting true (stack e) (s .order); inside = inside-resting true (stack e) (s .inside); lying = lying-map (entries.brokenOff false isProgram) (lying-broken false isProgram) j (s .lying); ready = ready-none _ _ _ z }
+  sim-do sound d e j v (ok-end-erase z x y w) s =
+      record { match = match-end-erase e j x y w (s .match, s .order); order = order-resting true (stack e) (s .order); inside = inside-resting true (stack e) (s .inside); lying = lying-map (entries.brokenOff false isErase) (lying-broken false isErase) j (s .lying); ready = ready-none _ _ _ z }
   sim-do sound d e j v (ok-setup t y) s = record { match = s .match; order = s .order; inside = s .inside; lying = s .lying; ready = y }
   sim-do sound d e j v (ok-unprotected b o) s = record { match = s .match; order = s .order; inside = s .inside; lying = s .lying; ready = tt }
   sim-do sound d e j v (ok-program k q a b c x y z) s =
@@ -441,12 +497,15 @@ module _ (g : Geometry) where
   pub words-after-ok : (v : Event) (d : Conditions) (e : Engine) (j : List (Entry Operation)) (m : ℕ → ℕ) (L w : ℕ) → Sim d e j → m L ≡ After j L w
       → words-after g v e m L ≡ After (journal-after g v j) L w
   words-after-ok nothing d e j m L w s h = h
-  words-after-ok (supplied b) d e j m L w s h = h
-  words-after-ok was-reset d e j m L w s h = still entries.abandoned (entries.abandoned-same (kinds g)) j (m L) L w h
+  words-after-ok (supplied true) d e j m L w s h = h
+  words-after-ok (supplied false) d e j m L w s h = still (entries.brokenOff true isNone) (entries.broken-same (kinds g) true isNone) j (m L) L w h
+  words-after-ok was-reset d e j m L w s h = still (entries.brokenOff true isAny) (entries.broken-same (kinds g) true isAny) j (m L) L w h
   words-after-ok (units n) d e j m L w s h = words-worked-ok n e j m L w (s .match) h
   words-after-ok suspend d e j m L w s h = still entries.paused (entries.paused-same (kinds g)) j (m L) L w h
   words-after-ok resume-program d e j m L w s h = still (entries.resumed isProgram) (entries.resumed-same (kinds g) isProgram) j (m L) L w h
   words-after-ok resume-erase d e j m L w s h = still (entries.resumed isErase) (entries.resumed-same (kinds g) isErase) j (m L) L w h
+  words-after-ok end-program d e j m L w s h = still (entries.brokenOff false isProgram) (entries.broken-same (kinds g) false isProgram) j (m L) L w h
+  words-after-ok end-erase d e j m L w s h = still (entries.brokenOff false isErase) (entries.broken-same (kinds g) false isErase) j (m L) L w h
   words-after-ok (setup-is t) d e j m L w s h = h
   words-after-ok (unprotected-is b o) d e j m L w s h = h
   words-after-ok (accept k) d e j m L w s h = h ∙ sym (entries.effect-zero (kinds g) k L (After j L w))

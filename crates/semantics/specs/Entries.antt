@@ -23,7 +23,7 @@ pub data Live (K : Type 0) : Type 0 where
   live : K → ℕ → Live K
 
 module _ {K : Type 0} where
-  -- what suspension, resumption of those that are p, and reset make of an entry
+  -- what suspension, and resumption of those that are p, make of an entry
   abbrev pub paused : Entry K → Entry K
   paused (entry k u running) = entry k u suspended
   paused (entry k u suspended) = entry k u suspended
@@ -36,11 +36,12 @@ module _ {K : Type 0} where
   resumed p (entry k u finished) = entry k u finished
   resumed p (entry k u broken-off) = entry k u broken-off
 
-  abbrev pub abandoned : Entry K → Entry K
-  abandoned (entry k u running) = entry k u broken-off
-  abandoned (entry k u suspended) = entry k u broken-off
-  abandoned (entry k u finished) = entry k u finished
-  abandoned (entry k u broken-off) = entry k u broken-off
+  -- what runs is broken off where r is true, and what is suspended where it is p
+  abbrev pub brokenOff : Bool → (K → Bool) → Entry K → Entry K
+  brokenOff r p (entry k u running) = entry k u (cond r broken-off running)
+  brokenOff r p (entry k u suspended) = entry k u (cond (p k) broken-off suspended)
+  brokenOff r p (entry k u finished) = entry k u finished
+  brokenOff r p (entry k u broken-off) = entry k u broken-off
 
   abbrev pub None : (K → Bool) → List (Live K) → Type 0
   None p [] = Unit {0}
@@ -198,12 +199,27 @@ module _ (κ : Kinds) where
   match-resumed p h n (lost k u e a m) = lost k u e a (match-resumed p h n m)
   match-resumed p h n (waits k u e a m) = rw (h, idle-resumed p n m) (runs k u e a m)
 
-  pub match-abandoned : {r : Bool} {s : List (Live K)} {j : List (Entry K)} → Match r s j → Match false [] (map abandoned j)
-  match-abandoned start = start
-  match-abandoned (done k u e a m) = done k u e tt (match-abandoned m)
-  match-abandoned (lost k u e a m) = lost k u e tt (match-abandoned m)
-  match-abandoned (runs k u e a m) = lost k u e tt (match-abandoned m)
-  match-abandoned (waits k u e a m) = lost k u e tt (match-abandoned m)
+  -- all that is under way is broken off
+  pub match-all-broken : {r : Bool} {s : List (Live K)} {j : List (Entry K)} → Match r s j → Match false [] (map (brokenOff true (λ k. true)) j)
+  match-all-broken start = start
+  match-all-broken (done k u e a m) = done k u e tt (match-all-broken m)
+  match-all-broken (lost k u e a m) = lost k u e tt (match-all-broken m)
+  match-all-broken (runs k u e a m) = lost k u e tt (match-all-broken m)
+  match-all-broken (waits k u e a m) = lost k u e tt (match-all-broken m)
+
+  pub idle-broken : (b : Bool) (p : K → Bool) {s : List (Live K)} {j : List (Entry K)} → None p s → Match false s j → map (brokenOff b p) j ≡ j
+  idle-broken b p h start = refl
+  idle-broken b p h (done k u e a m) = ap (λ (l : List (Entry K)). entry k u finished ∷ l) (idle-broken b p h m)
+  idle-broken b p h (lost k u e a m) = ap (λ (l : List (Entry K)). entry k u broken-off ∷ l) (idle-broken b p h m)
+  idle-broken b p h (waits k u e a m) = rw (h .0, idle-broken b p (h .1) m)
+
+  -- the newest is broken off, as it runs or as it is p, and the others stay
+  pub match-broken : (b : Bool) (p : K → Bool) {r : Bool} {k : K} {u : ℕ} {s : List (Live K)} {j : List (Entry K)} → cond r b (p k) ≡ true → None p s → Match r (live k u ∷ s) j
+      → Match false s (map (brokenOff b p) j)
+  match-broken b p h n (done k u e a m) = done k u e (a .1) (match-broken b p h n m)
+  match-broken b p h n (lost k u e a m) = lost k u e (a .1) (match-broken b p h n m)
+  match-broken b p h n (runs k u e a m) = rw (idle-broken b p n m, h) (lost k u e a m)
+  match-broken b p h n (waits k u e a m) = rw (idle-broken b p n m, h) (lost k u e a m)
 
   -- a change of status alone leaves the words
   pub after-map : (f : Entry K → Entry K) → ((e : Entry K) (L w : ℕ) → applied (f e) L w ≡ applied e L w)
@@ -223,11 +239,11 @@ module _ (κ : Kinds) where
   resumed-same p (entry k u finished) L w = refl
   resumed-same p (entry k u broken-off) L w = refl
 
-  pub abandoned-same : (e : Entry K) (L w : ℕ) → applied (abandoned e) L w ≡ applied e L w
-  abandoned-same (entry k u running) L w = refl
-  abandoned-same (entry k u suspended) L w = refl
-  abandoned-same (entry k u finished) L w = refl
-  abandoned-same (entry k u broken-off) L w = refl
+  pub broken-same : (b : Bool) (p : K → Bool) (e : Entry K) (L w : ℕ) → applied (brokenOff b p e) L w ≡ applied e L w
+  broken-same b p (entry k u running) L w = refl
+  broken-same b p (entry k u suspended) L w = refl
+  broken-same b p (entry k u finished) L w = refl
+  broken-same b p (entry k u broken-off) L w = refl
 
   -- units on words that an entry does not cover make the same before the entry as after it
   advanced-past : (k k′ : K) (u u′ n L w : ℕ) → u + n ≤ len k → u′ ≤ len k′ → (In k′ L → In k L → ⊥)

@@ -16,6 +16,7 @@ use Rattle.semantics.specs.declared.LockCommand.the-variants as lock
 use Rattle.semantics.specs.declared.Running.{Running}
 use Rattle.semantics.specs.declared.Running.the-variants as running
 use Rattle.semantics.specs.declared.Flags.{Flags}
+use Rattle.semantics.specs.declared.Control.{Control}
 use Rattle.semantics.specs.declared.State.{State}
 use Rattle.semantics.specs.declared.Step.{Step}
 use Rattle.semantics.specs.declared.Step.the-variants.{Read, Write, Work, Supply, Reset}
@@ -24,13 +25,15 @@ use Rattle.semantics.specs.declared.Answer.the-variants.{Word, Units, Do
 use Rattle.semantics.specs.declared.Mode.the-variants.{Status}
 use Rattle.semantics.specs.declared.Place.{Place}
 use Rattle.semantics.specs.declared.View.{View}
-use Rattle.semantics.specs.State.{geometry, runs, withFlags, withBuffer, withSetup, noFlags, joined}
+use Rattle.semantics.specs.State.{geometry, setFlags, setSupply, withControl, runs, withFlags, withBuffer, withSetup, noFlags, joined}
 use Rattle.semantics.specs.View as view
 use Rattle.semantics.specs.View.{placeOf, viewAt, withView, withActivity, withMode}
-use Rattle.semantics.specs.WellFormed.{pending, erasing, wellFormed}
-use Rattle.semantics.specs.Writing.{commandOf, accepts, setUp, clearStatus, firstCycle, pend, programRuns, eraseCycle, lockCommandOf, lockCycle, settle, loads, countRight, firstRight, laterRight, confirmRight, confirmCycle, wordsCycle, cycle, loadedAt, writtenAt, written}
-use Rattle.semantics.specs.Working.{workedOn, worked, workedArray}
-use Rattle.semantics.specs.Steps.{stateRefusal, refusalOf, next, accepted, acceptedArray, stepOf, arrayOf, numberOf}
+use Rattle.semantics.specs.Supply.{ended, endedUnsupplied, switched}
+use Rattle.semantics.specs.Supplied.{awake, of-resume, of-switched, switched-on, switched-off}
+use Rattle.semantics.specs.WellFormed.{pending, erasing, runsSupplied, wellFormed}
+use Rattle.semantics.specs.Writing.{commandOf, resume, accepts, setUp, clearStatus, firstCycle, pend, programRuns, eraseCycle, lockCommandOf, lockCycle, settle, loads, countRight, firstRight, laterRight, confirmRight, confirmCycle, wordsCycle, cycle, loadedAt, writtenAt, written}
+use Rattle.semantics.specs.Working.{bufferAfter, workedOn, worked, workedArray}
+use Rattle.semantics.specs.Steps.{stateRefusal, refusalOf, next, switchedTo, accepted, acceptedArray, stepOf, arrayOf, numberOf}
 use Rattle.semantics.specs.Refusals.{answer-number}
 
 -- each flag that is set in f is set in g
@@ -63,6 +66,14 @@ stay-setup : (v : View) (c : Setup) → Stay (v .control .flags) (setUp v c .con
 unfolding setUp
 stay-setup v c = stay-cond (v .control .flags) (accepts (v .control .activity) c) (withMode (withActivity v (withSetup (v .control .activity) c)) Status) v (stay-same _ _ refl) (stay-same _ _ refl)
 
+stay-resume : (c : Control) → Stay (c .flags) (resume c .flags)
+unfolding ended
+stay-resume c = of-resume (λ (x : Control). Stay (c .flags) (x .flags)) c (stay-same _ _ refl) (stay-same _ _ refl) (stay-joined _ _ _ refl)
+
+stay-switched : (c : Control) (on : Bool) → Stay (c .flags) (switched c on .flags)
+unfolding ended
+stay-switched c on = of-switched (λ (x : Control). Stay (c .flags) (x .flags)) c on (stay-same _ _ refl) (stay-joined _ _ _ refl)
+
 stay-first : (v : View) (p : Place) (c : Command) → (c ≡ command.ClearStatus → ⊥) → Stay (v .control .flags) (firstCycle v p c .control .flags)
 unfolding firstCycle
 stay-first v p command.ReadArray n = stay-same _ _ refl
@@ -70,7 +81,7 @@ stay-first v p command.ReadStatus n = stay-same _ _ refl
 stay-first v p command.ReadSignature n = stay-same _ _ refl
 stay-first v p command.ReadQuery n = stay-same _ _ refl
 stay-first v p command.Suspend n = stay-same _ _ refl
-stay-first v p command.Resume n = stay-same _ _ refl
+stay-first v p command.Resume n = stay-resume (v .control)
 stay-first v p command.ClearStatus n = absurd (n refl)
 stay-first v p command.SetUpProgram n = stay-setup v setup.Program
 stay-first v p command.SetUpErase n = stay-setup v setup.Erase
@@ -131,11 +142,11 @@ MayClear s (Supply on) = ⊥
 MayClear s Reset = Unit {0}
 
 stay-accepted : (s : State) (xs : List ℕ) (x : Step) → (MayClear s x → ⊥) → Stay (s .control .flags) (accepted s xs x .state .control .flags)
-unfolding accepted written writtenAt workedOn worked
+unfolding accepted switchedTo written writtenAt workedOn worked
 stay-accepted s xs (Read a) n = stay-same _ _ refl
 stay-accepted s xs (Write a w) n = stay-cycle (geometry s) (viewAt s (placeOf (geometry s) a)) (s .control .activity .setup) (placeOf (geometry s) a) w n
 stay-accepted s xs (Work k) n = stay-same _ _ refl
-stay-accepted s xs (Supply on) n = stay-same _ _ refl
+stay-accepted s xs (Supply on) n = stay-switched (s .control) on
 stay-accepted s xs Reset n = absurd (n tt)
 
 -- "Flags once set stay until 50h or reset"
@@ -164,6 +175,27 @@ alike-setup : (v : View) (f : Flags) (c : Setup) → unflaggedView (setUp (view.
 unfolding setUp
 alike-setup v f c = alike-cond (accepts (v .control .activity) c) _ _ _ _ refl refl
 
+-- a control but for its flags
+abbrev unflaggedControl : Control → Control
+unflaggedControl c = setFlags c noFlags
+
+alike-ended : (c : Control) (f : Flags) → unflaggedControl (ended (setFlags c f)) ≡ unflaggedControl (ended c)
+unfolding ended
+alike-ended c f = refl
+
+alike-resume : (c : Control) (f : Flags) → unflaggedControl (resume (setFlags c f)) ≡ unflaggedControl (resume c)
+unfolding resume endedUnsupplied
+alike-resume c f = go (runs (c .activity .running)) (c .supply)
+  where
+    go : (b t : Bool) → unflaggedControl (cond b (setFlags c f) (cond t (awake (setFlags c f)) (ended (awake (setFlags c f))))) ≡ unflaggedControl (cond b c (cond t (awake c) (ended (awake c))))
+    go true t = refl
+    go false true = refl
+    go false false = alike-ended (awake c) f
+
+alike-switched : (c : Control) (f : Flags) (on : Bool) → unflaggedControl (switched (setFlags c f) on) ≡ unflaggedControl (switched c on)
+alike-switched c f true = rw (switched-on c, switched-on (setFlags c f))
+alike-switched c f false = rw (switched-off c, switched-off (setFlags c f)) (alike-ended (setSupply c false) f)
+
 alike-first : (v : View) (f : Flags) (p : Place) (c : Command) → unflaggedView (firstCycle (view.withFlags v f) p c) ≡ unflaggedView (firstCycle v p c)
 unfolding firstCycle clearStatus
 alike-first v f p command.ReadArray = refl
@@ -171,7 +203,7 @@ alike-first v f p command.ReadStatus = refl
 alike-first v f p command.ReadSignature = refl
 alike-first v f p command.ReadQuery = refl
 alike-first v f p command.Suspend = refl
-alike-first v f p command.Resume = refl
+alike-first v f p command.Resume = ap (λ (c : Control). unflaggedView (view.withControl v c)) (alike-resume (v .control) f)
 alike-first v f p command.ClearStatus = alike-cond (runs (v .control .activity .running)) _ _ _ _ refl refl
 alike-first v f p command.SetUpProgram = alike-setup v f setup.Program
 alike-first v f p command.SetUpErase = alike-setup v f setup.Erase
@@ -212,12 +244,13 @@ alike-cycle g v f setup.Erase p w =
 alike-cycle g v f setup.Lock p w = alike-lock v f p (lockCommandOf (w % 256))
 
 alike-accepted : (s : State) (f : Flags) (xs : List ℕ) (x : Step) → unflagged (accepted (withFlags s f) xs x .state) ≡ unflagged (accepted s xs x .state)
-unfolding accepted written writtenAt workedOn worked
+unfolding accepted switchedTo written writtenAt workedOn worked
 alike-accepted s f xs (Read a) = refl
 alike-accepted s f xs (Write a w) = let p : Place = placeOf (geometry s) a in
-    ap (λ (v : View). withBuffer (withView s p v) (loadedAt s p w (v .control .activity .running))) (alike-cycle (geometry s) (viewAt s p) f (s .control .activity .setup) p w)
+    ap (λ (v : View). withBuffer (withView s p v) (loadedAt s p w (v .control .activity))) (alike-cycle (geometry s) (viewAt s p) f (s .control .activity .setup) p w)
 alike-accepted s f xs (Work n) = refl
-alike-accepted s f xs (Supply on) = refl
+alike-accepted s f xs (Supply on) = let r : Running = s .control .activity .running in
+    ap (λ (c : Control). withBuffer (withControl s c) (bufferAfter r (c .activity .running) (s .buffer))) (alike-switched (s .control) f on)
 alike-accepted s f xs Reset = refl
 
 alike-array : (s : State) (f : Flags) (xs : List ℕ) (x : Step) → acceptedArray (withFlags s f) xs x ≡ acceptedArray s xs x
@@ -229,7 +262,7 @@ alike-array s f xs (Supply on) = refl
 alike-array s f xs Reset = refl
 
 alike-refusal : (s : State) (f : Flags) (n : ℕ) (x : Step) → refusalOf (withFlags s f) n x ≡ refusalOf s n x
-unfolding refusalOf stateRefusal wellFormed
+unfolding refusalOf stateRefusal wellFormed runsSupplied
 alike-refusal s f n x = refl
 
 -- the units that an answer tells of

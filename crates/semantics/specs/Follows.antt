@@ -38,14 +38,16 @@ use Rattle.semantics.specs.declared.View.{View}
 use Rattle.semantics.specs.State as state
 use Rattle.semantics.specs.State.{activity, withBuffer, runs, programSuspended, eraseSuspended, emptyBuffer}
 use Rattle.semantics.specs.Buffer.{wordsIn, words-length, words-word, words-first, words-later}
-use Rattle.semantics.specs.View.{placeOf, viewAt, withView, withActivity}
+use Rattle.semantics.specs.View.{placeOf, viewAt, withView, withControl, withActivity}
+use Rattle.semantics.specs.Supply.{ended, endedUnsupplied}
+use Rattle.semantics.specs.Supplied.{isResume, only-resume, first-holds}
 use Rattle.semantics.specs.WellFormed.{erasing}
 use Rattle.semantics.specs.Writing as writing
-use Rattle.semantics.specs.Writing.{commandOf, suspended, resumedErase, resumed, resume, accepts, setUp, clearStatus, firstCycle, programRuns, programCycle, eraseCycle, lockCommandOf, lockCycle, settle, loads, countRight, firstRight, laterRight, confirmRight, confirmCycle, wordsCycle, keptIf, firstLoaded, wordsLoaded, loaded, cycleAt, loadedAt, writtenAt}
+use Rattle.semantics.specs.Writing.{commandOf, suspended, resumedErase, resumed, resume, accepts, setUp, clearStatus, firstCycle, programRuns, programCycle, eraseCycle, lockCommandOf, lockCycle, settle, loads, countRight, firstRight, laterRight, confirmRight, confirmCycle, wordsCycle, keptIf, firstLoaded, wordsLoaded, heldAfter, loaded, cycleAt, loadedAt, writtenAt}
 use Rattle.semantics.specs.Working.{unitsLeft, unitsDone, runningAfter, wordAfter, bufferAfter, worked}
 use Rattle.semantics.specs.Entries.{Live, live, anyLive}
 use Rattle.semantics.specs.Recorder as recorder
-use Rattle.semantics.specs.Recorder.{Operation, Event, nothing, supplied, was-reset, units, suspend, resume-program, resume-erase, setup-is, unprotected-is, accept, Conditions, conditions-after, rule, isProgram, isErase, isEraseOf, isAny, first-cycle, acceptable, count-cycle, first-word-cycle, later-word-cycle, confirm-cycle, cycle, base, len, put, kinds, no-setup, program-setup, erase-setup, lock-setup, count-setup, first-setup, words-setup}
+use Rattle.semantics.specs.Recorder.{Operation, Event, nothing, supplied, was-reset, units, suspend, resume-program, resume-erase, end-program, end-erase, setup-is, unprotected-is, accept, Conditions, conditions-after, rule, isProgram, isErase, isEraseOf, isAny, first-cycle, acceptable, count-cycle, first-word-cycle, later-word-cycle, confirm-cycle, cycle, base, len, put, kinds, no-setup, program-setup, erase-setup, lock-setup, count-setup, first-setup, words-setup}
 use Rattle.semantics.specs.Engine.{Engine, engine, busy, stack, held?, some?, engine-after, engine-worked, words-after, words-worked, Ready}
 
 -- ---- the device as the recorder would see it
@@ -187,6 +189,17 @@ module _ (g : Geometry) (bs : List ℕ) where
           ≡ cond (eqb m k) (engine false (addErase e)) (engine true (live (recorder.buffer l (wordsIn bs k)) m ∷ addErase e))
       go false x = rw (eq-eqb m k (omega (arith, ltb-false m k x)))
       go true x = let y = ltb-true m k x in rw (ne-eqb m k (λ z. omega arith))
+
+  -- the same where the supply goes off: what runs ends
+  pub under-way-off : (r : Running) (p : SuspendedProgram) (e : SuspendedErase) → Together r p e
+      → underWayOf (bufferAfter r running.Idle bs) running.Idle p e ≡ engine-after g (supplied false) (underWayOf bs r p e)
+  unfolding bufferAfter keptIf
+  under-way-off running.Idle p e m = refl
+  under-way-off (running.Program l w) p e m = refl
+  under-way-off (running.Erase b n) p e m = refl
+  under-way-off (running.Buffer l n d) program.Nothing e m = refl
+  under-way-off (running.Buffer l n d) (program.Program k v) e m = absurd m
+  under-way-off (running.Buffer l n d) (program.Buffer k v i) e m = absurd m
 
   one-word : (l n L : ℕ) → (eqb L l && ltb 0 (min n 1)) ≡ within (l + 0) (min n (1 - 0)) L
   one-word l n L = go (eqb L l) refl (ltb 0 (min n 1)) refl
@@ -336,17 +349,32 @@ module _ (g : Geometry) where
     follows-suspend x (running.Buffer l n d) (program.Program k v) e m = absurd m
     follows-suspend x (running.Buffer l n d) (program.Buffer k v i) e m = absurd m
 
-    follows-resume : (x : View) (r : Running) (q : SuspendedProgram) (e : SuspendedErase)
-        → FollowsAt (cond (runs r) nothing (cond (held? (underWayOf (s .buffer) r q e) isProgram) resume-program (cond (held? (underWayOf (s .buffer) r q e) isErase) resume-erase nothing)))
-        (at x setup.Nothing r q e) (withActivity x (resume (activity setup.Nothing r q e)))
-    unfolding resume
-    follows-resume x running.Idle (program.Program l w) e = (refl, refl, λ m. refl)
-    follows-resume x running.Idle program.Nothing erase.Nothing = (refl, refl, λ m. refl)
-    follows-resume x running.Idle program.Nothing (erase.Erase b n) = (refl, refl, λ m. refl)
-    follows-resume x (running.Program l w) q e = (refl, refl, λ m. refl)
-    follows-resume x (running.Erase b n) q e = (refl, refl, λ m. refl)
-    follows-resume x running.Idle (program.Buffer l n d) e = (refl, refl, λ m. refl)
-    follows-resume x (running.Buffer l n d) q e = (refl, refl, λ m. refl)
+    -- D0h, with the supply on and off. The words of a buffer program that it ends are no longer in the buffer
+    abbrev Resumes : View → Bool → Running → SuspendedProgram → SuspendedErase → Type 0
+    Resumes x t r q e =
+        FollowsTo
+        (cond (runs r) nothing (cond (held? (underWayOf (s .buffer) r q e) isProgram) (cond t resume-program end-program) (cond (held? (underWayOf (s .buffer) r q e) isErase) (cond t resume-erase end-erase) nothing)))
+        (at x setup.Nothing r q e) (withControl x (resume (at x setup.Nothing r q e .control))) (heldAfter q (resume (at x setup.Nothing r q e .control) .activity) (s .buffer))
+
+    follows-resume : (x : View) (t : Bool) → x .control .supply ≡ t → (r : Running) (q : SuspendedProgram) (e : SuspendedErase) → Together r q e → Resumes x t r q e
+    unfolding resume endedUnsupplied ended heldAfter keptIf
+    follows-resume x true h running.Idle (program.Program l w) e m = rw h (refl, refl, λ m. refl)
+    follows-resume x true h running.Idle (program.Buffer l n d) e m = rw h (refl, refl, λ m. refl)
+    follows-resume x true h running.Idle program.Nothing erase.Nothing m = rw h (refl, refl, λ m. refl)
+    follows-resume x true h running.Idle program.Nothing (erase.Erase b n) m = rw h (refl, refl, λ m. refl)
+    follows-resume x false h running.Idle (program.Program l w) e m = rw h (refl, refl, λ m. refl)
+    follows-resume x false h running.Idle (program.Buffer l n d) e m = rw h (refl, refl, λ m. refl)
+    follows-resume x false h running.Idle program.Nothing erase.Nothing m = rw h (refl, refl, λ m. refl)
+    follows-resume x false h running.Idle program.Nothing (erase.Erase b n) m = rw h (refl, refl, λ m. refl)
+    follows-resume x t h (running.Program l w) program.Nothing e m = (refl, refl, λ m. refl)
+    follows-resume x t h (running.Program l w) (program.Program k v) e m = absurd m
+    follows-resume x t h (running.Program l w) (program.Buffer k v d) e m = absurd m
+    follows-resume x t h (running.Erase b n) program.Nothing e m = (refl, refl, λ m. refl)
+    follows-resume x t h (running.Erase b n) (program.Program k v) e m = absurd m
+    follows-resume x t h (running.Erase b n) (program.Buffer k v d) e m = absurd m
+    follows-resume x t h (running.Buffer l n d) program.Nothing e m = (refl, refl, λ m. refl)
+    follows-resume x t h (running.Buffer l n d) (program.Program k v) e m = absurd m
+    follows-resume x t h (running.Buffer l n d) (program.Buffer k v i) e m = absurd m
 
     follows-clear : (x : View) (b : Bool) (y : View) → seen (s .buffer) y ≡ seen (s .buffer) x → underWayIn (s .buffer) (y .control .activity) ≡ underWayIn (s .buffer) (x .control .activity) → FollowsAt nothing x (cond b x y)
     follows-clear x true y h k = (refl, refl, λ m. refl)
@@ -367,27 +395,39 @@ module _ (g : Geometry) where
     not-or₃ false true c = refl
     not-or₃ false false c = refl
 
-    follows-first : (x : View) (d : Conditions) (r : Running) (q : SuspendedProgram) (e : SuspendedErase) → Together r q e → (c : Command)
+    -- every other first cycle leaves the buffer
+    follows-other : (x : View) (d : Conditions) (r : Running) (q : SuspendedProgram) (e : SuspendedErase) → Together r q e → (c : Command) → isResume c ≡ false
         → FollowsAt (first-cycle g d (runs r) (held? (underWayOf (s .buffer) r q e)) (p .block) (bears c)) (at x setup.Nothing r q e) (firstCycle (at x setup.Nothing r q e) p c)
     unfolding firstCycle clearStatus accepts
-    follows-first x d r q e m command.ReadArray = (refl, refl, λ m. refl)
-    follows-first x d r q e m command.ReadStatus = (refl, refl, λ m. refl)
-    follows-first x d r q e m command.ReadSignature = (refl, refl, λ m. refl)
-    follows-first x d r q e m command.ReadQuery = (refl, refl, λ m. refl)
-    follows-first x d r q e m command.Suspend = follows-suspend x r q e m
-    follows-first x d r q e m command.Resume = follows-resume x r q e
-    follows-first x d r q e m command.ClearStatus = follows-clear (at x setup.Nothing r q e) (runs r) _ refl refl
-    follows-first x d r q e m command.SetUpProgram =
+    follows-other x d r q e m command.ReadArray n = (refl, refl, λ m. refl)
+    follows-other x d r q e m command.ReadStatus n = (refl, refl, λ m. refl)
+    follows-other x d r q e m command.ReadSignature n = (refl, refl, λ m. refl)
+    follows-other x d r q e m command.ReadQuery n = (refl, refl, λ m. refl)
+    follows-other x d r q e m command.Suspend n = follows-suspend x r q e m
+    follows-other x d r q e m command.Resume n = absurd (true≢false n)
+    follows-other x d r q e m command.ClearStatus n = follows-clear (at x setup.Nothing r q e) (runs r) _ refl refl
+    follows-other x d r q e m command.SetUpProgram n =
         rw (under-way-program (s .buffer) r q e) (follows-setup (at x setup.Nothing r q e) setup.Program program-setup refl (runs r || programSuspended q) (not-or (runs r) (programSuspended q)))
-    follows-first x d r q e m command.SetUpLock =
+    follows-other x d r q e m command.SetUpLock n =
         rw (under-way-program (s .buffer) r q e) (follows-setup (at x setup.Nothing r q e) setup.Lock lock-setup refl (runs r || programSuspended q) (not-or (runs r) (programSuspended q)))
-    follows-first x d r q e m command.SetUpBuffer =
+    follows-other x d r q e m command.SetUpBuffer n =
         rw (under-way-program (s .buffer) r q e)
         (follows-setup (at x setup.Nothing r q e) (setup.BufferCount (p .block)) (count-setup (p .block)) refl (runs r || programSuspended q) (not-or (runs r) (programSuspended q)))
-    follows-first x d r q e m command.SetUpErase =
+    follows-other x d r q e m command.SetUpErase n =
         rw (under-way-any (s .buffer) r q e)
         (follows-setup (at x setup.Nothing r q e) setup.Erase erase-setup refl (runs r || (programSuspended q || eraseSuspended e)) (not-or₃ (runs r) (programSuspended q) (eraseSuspended e)))
-    follows-first x d r q e m command.Unknown = (refl, refl, λ m. refl)
+    follows-other x d r q e m command.Unknown n = (refl, refl, λ m. refl)
+
+    follows-first : (x : View) (d : Conditions) (r : Running) (q : SuspendedProgram) (e : SuspendedErase) → Together r q e → d .supply ≡ x .control .supply → (c : Command)
+        → FollowsTo (first-cycle g d (runs r) (held? (underWayOf (s .buffer) r q e)) (p .block) (bears c)) (at x setup.Nothing r q e) (firstCycle (at x setup.Nothing r q e) p c)
+        (heldAfter q (firstCycle (at x setup.Nothing r q e) p c .control .activity) (s .buffer))
+    unfolding firstCycle
+    follows-first x d r q e m z c = go (isResume c) refl
+      where
+        go : (b : Bool) → isResume c ≡ b → FollowsTo (first-cycle g d (runs r) (held? (underWayOf (s .buffer) r q e)) (p .block) (bears c)) (at x setup.Nothing r q e) (firstCycle (at x setup.Nothing r q e) p c)
+            (heldAfter q (firstCycle (at x setup.Nothing r q e) p c .control .activity) (s .buffer))
+        go true h = rw (only-resume c h, z) (follows-resume x (x .control .supply) refl r q e m)
+        go false h = rw (first-holds (at x setup.Nothing r q e) p c (s .buffer) (λ k. absurd (true≢false (sym k ∙ h)))) (follows-other x d r q e m c h)
 
     -- ---- second cycles
 
@@ -479,7 +519,7 @@ module _ (g : Geometry) where
         FollowsTo s (placeOf g a)
         (cycle g (conditions (state.withActivity s (activity c r q e))) (runs r) (held? (underWayOf (s .buffer) r q e)) (setupOf (s .buffer) c) (location g a) (w % 256) w)
         (seenAs c r q e) (writing.cycle g (seenAs c r q e) c (placeOf g a) w)
-        (loaded g c (placeOf g a) w (writing.cycle g (seenAs c r q e) c (placeOf g a) w .control .activity .running) (s .buffer))
+        (loaded g c q (placeOf g a) w (writing.cycle g (seenAs c r q e) c (placeOf g a) w .control .activity) (s .buffer))
 
     abbrev ReadyAt : Setup → Running → SuspendedProgram → SuspendedErase → Type 0
     ReadyAt c r q e = Ready g (setupOf (s .buffer) c) (runs r) (held? (underWayOf (s .buffer) r q e))
@@ -516,7 +556,7 @@ module _ (g : Geometry) where
     follows-cycle : (c : Setup) (r : Running) (q : SuspendedProgram) (e : SuspendedErase) → Together r q e → ReadyAt c r q e → length (s .buffer) ≡ 32 → Goes c r q e
     unfolding writing.cycle loaded countRight firstRight
     follows-cycle setup.Nothing r q e m y h =
-        rw (commands-agree (w % 256)) (follows-first s (placeOf g a) (viewAt s (placeOf g a)) (conditions (state.withActivity s (activity setup.Nothing r q e))) r q e m (commandOf (w % 256)))
+        rw (commands-agree (w % 256)) (follows-first s (placeOf g a) (viewAt s (placeOf g a)) (conditions (state.withActivity s (activity setup.Nothing r q e))) r q e m refl (commandOf (w % 256)))
     follows-cycle setup.Program running.Idle q e m y h =
         rw (under-way-erasing g (s .buffer) running.Idle q e (blockOf g (location g a)))
         (follows-program s (placeOf g a) (viewAt s (placeOf g a)) setup.Program q e w (s .control .supply) (isUnprotected (s .unprotected) (blockOf g (location g a))) (erasing e (blockOf g (location g a))) refl refl refl)
@@ -550,5 +590,5 @@ unfolding writtenAt
 follows-written s m y h i a w k =
     follows-put (state.geometry s) s (placeOf (state.geometry s) a) h k
     (cycle (state.geometry s) (conditions s) (runs (s .control .activity .running)) (held? (underWay s)) (setupOf (s .buffer) (s .control .activity .setup)) (location (state.geometry s) a) (w % 256) w)
-    (cycleAt s (placeOf (state.geometry s) a) w) (loadedAt s (placeOf (state.geometry s) a) w (cycleAt s (placeOf (state.geometry s) a) w .control .activity .running))
+    (cycleAt s (placeOf (state.geometry s) a) w) (loadedAt s (placeOf (state.geometry s) a) w (cycleAt s (placeOf (state.geometry s) a) w .control .activity))
     (follows-cycle (state.geometry s) s a w (s .control .activity .setup) (s .control .activity .running) (s .control .activity .program) (s .control .activity .erase) m y i)

@@ -23,7 +23,7 @@ use Rattle.semantics.specs.Reading.{readWord}
 use Rattle.semantics.specs.Writing.{writtenAt, written}
 use Rattle.semantics.specs.Working.{unitsDone, arrayAfter, bufferAfter, workedOn, worked, workedArray}
 use Rattle.semantics.specs.WellFormed.{wellFormed}
-use Rattle.semantics.specs.Steps.{stateRefusal, stepRefusal, firstRefusal, refusalOf, next, accepted, acceptedArray, stepOf, arrayOf}
+use Rattle.semantics.specs.Steps.{stateRefusal, stepRefusal, firstRefusal, refusalOf, next, switchedTo, accepted, acceptedArray, stepOf, arrayOf}
 use Rattle.semantics.specs.Invariant.{Kept, kept-step, length-kept, state-good}
 use Rattle.semantics.specs.Kept.{keeps}
 
@@ -97,7 +97,7 @@ module _ (c : ℕ) (s : State) (xs : List ℕ) (r : Held c s xs) (x : Step) (d e
   unfolding accepted acceptedArray workedOn worked workedArray
   does-work n o c h q i y j k l = done (Work n) h q (rw (j, y, k, i)) l
 
-  pub does-supply : (on : Bool) → e ≡ 0 → x ≡ Supply on → t ≡ withSupply s on → a ≡ Done → ys ≡ xs → Does s xs x t a ys
+  pub does-supply : (on : Bool) → e ≡ 0 → x ≡ Supply on → t ≡ switchedTo s on → a ≡ Done → ys ≡ xs → Does s xs x t a ys
   unfolding accepted acceptedArray
   does-supply on h q j k l = done (Supply on) h q (rw (j, k)) l
 

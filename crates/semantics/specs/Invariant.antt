@@ -22,6 +22,7 @@ use Rattle.semantics.specs.declared.Setup.{Setup}
 use Rattle.semantics.specs.declared.Setup.the-variants as setup
 use Rattle.semantics.specs.declared.Running.{Running}
 use Rattle.semantics.specs.declared.Running.the-variants as running
+use Rattle.semantics.specs.declared.Control.{Control}
 use Rattle.semantics.specs.declared.State.{State}
 use Rattle.semantics.specs.declared.Step.{Step}
 use Rattle.semantics.specs.declared.Step.the-variants.{Read, Write, Work, Supply, Reset}
@@ -30,24 +31,26 @@ use Rattle.semantics.specs.declared.Answer.the-variants.{Word, Units, Do
 use Rattle.semantics.specs.declared.Next.{Next}
 use Rattle.semantics.specs.declared.Place.{Place}
 use Rattle.semantics.specs.declared.View.{View}
-use Rattle.semantics.specs.State.{geometry, withSupply, withBuffer, powerUp, runs}
+use Rattle.semantics.specs.State.{geometry, setActivity, withRunning, withSupply, withBuffer, powerUp, runs}
+use Rattle.semantics.specs.Supply.{ended, endedUnsupplied, switched}
+use Rattle.semantics.specs.Supplied.{of-switched, switched-supplied, cycle-supplied, idle-supplied, on-supplied, unsupplied-idle}
 use Rattle.semantics.specs.View.{placeOf, viewAt, withView}
 use Rattle.semantics.specs.Register.{reservedZero}
 use Rattle.semantics.specs.RegisterBits.{default-zero, cycle-zero}
-use Rattle.semantics.specs.WellFormed.{wellFormed, activityFormed, placesUsed, zeroFrom}
+use Rattle.semantics.specs.WellFormed.{wellFormed, activityFormed, placesUsed, zeroFrom, runsSupplied}
 use Rattle.semantics.specs.Writing.{cycleAt, written, writtenAt}
 use Rattle.semantics.specs.Working.{unitsDone, runningAfter, bufferAfter, workedOn, worked, workedArray}
 use Rattle.semantics.specs.Arrays.{array-length, array-word}
-use Rattle.semantics.specs.Steps.{locationRefusal, addressRefusal, countRefusal, stepRefusal, stateRefusal, firstRefusal, refusalOf, next, accepted, acceptedArray, stepOf, arrayOf, Machine, after, afterAll, fresh}
+use Rattle.semantics.specs.Steps.{locationRefusal, addressRefusal, countRefusal, stepRefusal, stateRefusal, firstRefusal, refusalOf, next, switchedTo, accepted, acceptedArray, stepOf, arrayOf, Machine, after, afterAll, fresh}
 use Rattle.semantics.specs.Entries as entries
-use Rattle.semantics.specs.Entries.{Entry, entry, running, suspended, finished, broken-off, Live}
+use Rattle.semantics.specs.Entries.{Entry, entry}
 use Rattle.semantics.specs.Recorder as recorder
 use Rattle.semantics.specs.Recorder.{Operation, Event, nothing, supplied, was-reset, units, Conditions, conditions-after, Recorder, beginning, recorded, recordedAll, journalOf, event, journal-after, reading, applied, base, len, put, kinds}
 use Rattle.semantics.specs.Engine.{Engine, busy, stack, held?, engine-after, words-after, Ready, Ok, rule-ok, Sim, sim-do, words-after-ok, rules-agree, Matches, After}
-use Rattle.semantics.specs.Follows.{conditions, underWay, underWayOf, setupOf, eventOf, Together, Lacking, Follows, follows-written, under-way-worked, words-under-way}
+use Rattle.semantics.specs.Follows.{conditions, underWay, underWayOf, setupOf, eventOf, Together, Lacking, Follows, follows-written, under-way-worked, under-way-off, words-under-way}
 use Rattle.semantics.specs.Formed.{together, lacking, formed}
 use Rattle.semantics.specs.Buffer.{zero-empty}
-use Rattle.semantics.specs.Spare.{Spared, length-empty, length-loaded, length-after, spared-written, spared-worked}
+use Rattle.semantics.specs.Spare.{Spared, length-empty, length-loaded, length-after, buffer-on, spared-written, spared-worked, spared-ended}
 
 -- ---- refusals
 
@@ -192,24 +195,35 @@ module _ (s : State) (xs : List ℕ) (good : stateRefusal s (length xs) ≡ 0) (
         λ L k. array-word _ _ _ _ xs L k ∙ words-under-way (geometry s) (s .buffer) n (s .control .activity .running) (s .control .activity .program) (s .control .activity .erase) (wordsOf xs) L,
       )
 
+  follows-switched : (on : Bool) → Follows (geometry s) (supplied on) s (switchedTo s on)
+  unfolding switchedTo switched endedUnsupplied ended
+  follows-switched true = rw (buffer-on (s .control .activity .running) (s .buffer)) (refl, refl, λ m. refl)
+  follows-switched false = (
+    ap (λ (c : recorder.Setup). record { supply = false; unprotected = conditions s .unprotected; setup = c })
+        (setup-stays (geometry s) (s .control .activity .setup) (s .control .activity .running) running.Idle (s .buffer) (held? (underWay s)) (fit .ready)),
+    under-way-off (geometry s) (s .buffer) (s .control .activity .running) (s .control .activity .program) (s .control .activity .erase) (fit .alone),
+    λ m. refl,
+  )
+
   -- every step is the event that the recorder's rule makes of it
   pub steps : (x : Step) → Steps-of (eventOf (geometry s) s x) s xs x
   unfolding stepRefusal accepted acceptedArray powerUp
   steps (Read a) = steps-read a (laws.order a 16777216)
   steps (Write a w) = steps-write a w (laws.order a 16777216)
   steps (Work n) = steps-work n (laws.order 65535 n)
-  steps (Supply on) = quiet (supplied on) (Supply on) (withSupply s on) refl refl refl (refl, refl, λ m. refl)
+  steps (Supply on) = quiet (supplied on) (Supply on) (switchedTo s on) refl refl refl (follows-switched on)
   steps Reset = quiet was-reset Reset (withSupply (powerUp (s .part)) (s .control .supply)) refl refl refl (no-conditions-yet s, refl, λ m. refl)
 
   -- and leaves no word in a place of the buffer that is not in use
   spared-accepted : (x : Step) → Spared (s .control .activity) (s .buffer) → Spared (accepted s xs x .state .control .activity) (accepted s xs x .state .buffer)
-  unfolding accepted written workedOn worked powerUp
+  unfolding accepted switchedTo switched endedUnsupplied ended written workedOn worked powerUp
   spared-accepted (Read a) h = h
   spared-accepted (Write a w) h = spared-written s (fit .alone) (fit .ready) (placeOf (geometry s) a) w h
   spared-accepted (Work n) h =
       spared-worked (geometry s) (s .control .activity .setup) (s .control .activity .running) (s .control .activity .program) (s .control .activity .erase)
       (unitsDone (geometry s) (s .control .activity .running) n) (s .buffer) h
-  spared-accepted (Supply on) h = h
+  spared-accepted (Supply true) h = rw (buffer-on (s .control .activity .running) (s .buffer)) h
+  spared-accepted (Supply false) h = spared-ended (s .control .activity .setup) (s .control .activity .running) (s .control .activity .program) (s .control .activity .erase) (s .buffer) h
   spared-accepted Reset h = zero-empty _
 
   pub spared-step : (x : Step) → Spared (s .control .activity) (s .buffer) → Spared (stepOf s xs x .state .control .activity) (stepOf s xs x .state .buffer)
@@ -222,7 +236,8 @@ module _ (s : State) (xs : List ℕ) (good : stateRefusal s (length xs) ≡ 0) (
 
 -- ---- what no step changes
 
--- the part, the banks' number, the protection words' number, and their spare bits where these are zero, the buffer's length, and the register's reserved bits where these are zero
+-- the part, the banks' number, the protection words' number, and their spare bits where these are zero, the buffer's length, the register's reserved bits where these are zero,
+-- and that something runs only with supply on
 pub record Kept (s t : State) : Type 0 where
   pub part : t .part ≡ s .part
   pub sixteen : length (s .banks) ≡ 16 → length (t .banks) ≡ 16
@@ -230,30 +245,50 @@ pub record Kept (s t : State) : Type 0 where
   pub spare : spareZero (s .unprotected) ≡ true → spareZero (t .unprotected) ≡ true
   pub thirty-two : length (s .buffer) ≡ 32 → length (t .buffer) ≡ 32
   pub reserved : reservedZero (s .control .configuration) ≡ true → reservedZero (t .control .configuration) ≡ true
+  pub powered : runsSupplied (s .control) ≡ true → runsSupplied (t .control) ≡ true
 
-kept : (s t : State) → t .part ≡ s .part → t .banks ≡ s .banks → t .unprotected ≡ s .unprotected → t .control .configuration ≡ s .control .configuration → (length (s .buffer) ≡ 32 → length (t .buffer) ≡ 32) → Kept s t
-kept s t p b u r c = record { part = p; sixteen = λ h. ap length b ∙ h; five = ap length u; spare = λ h. ap spareZero u ∙ h; thirty-two = c; reserved = λ h. ap reservedZero r ∙ h }
+kept : (s t : State) → t .part ≡ s .part → t .banks ≡ s .banks → t .unprotected ≡ s .unprotected → t .control .configuration ≡ s .control .configuration → (length (s .buffer) ≡ 32 → length (t .buffer) ≡ 32) → (runsSupplied (s .control) ≡ true → runsSupplied (t .control) ≡ true) → Kept s t
+kept s t p b u r c o = record { part = p; sixteen = λ h. ap length b ∙ h; five = ap length u; spare = λ h. ap spareZero u ∙ h; thirty-two = c; reserved = λ h. ap reservedZero r ∙ h; powered = o }
 
-kept-view : (s : State) (p : Place) (v : View) (bs : List ℕ) → (length (s .buffer) ≡ 32 → length bs ≡ 32) → (reservedZero (s .control .configuration) ≡ true → reservedZero (v .control .configuration) ≡ true) → Kept s (withBuffer (withView s p v) bs)
-kept-view s p v bs c r = record {
+kept-view : (s : State) (p : Place) (v : View) (bs : List ℕ) → (length (s .buffer) ≡ 32 → length bs ≡ 32) → (reservedZero (s .control .configuration) ≡ true → reservedZero (v .control .configuration) ≡ true)
+    → (runsSupplied (s .control) ≡ true → runsSupplied (v .control) ≡ true) → Kept s (withBuffer (withView s p v) bs)
+kept-view s p v bs c r o = record {
   part = refl;
   sixteen = λ h. length-set (s .banks) (p .bank) (record { mode = v .mode }) ∙ h;
   five = protection.with-length (s .unprotected) (p .block) (v .unprotected);
   spare = protection.with-spare (s .unprotected) (p .block) (v .unprotected);
   thirty-two = c;
   reserved = r;
+  powered = o;
 }
 
+-- work leaves nothing running where nothing ran
+idle-after : (g : Geometry) (r : Running) (m : ℕ) → runs r ≡ false → runs (runningAfter g r m) ≡ false
+unfolding runningAfter
+idle-after g running.Idle m h = refl
+idle-after g (running.Program l w) m h = absurd (true≢false h)
+idle-after g (running.Erase b n) m h = absurd (true≢false h)
+idle-after g (running.Buffer l n d) m h = absurd (true≢false h)
+
+worked-supplied : (g : Geometry) (c : Control) (m : ℕ) → runsSupplied c ≡ true → runsSupplied (setActivity c (withRunning (c .activity) (runningAfter g (c .activity .running) m))) ≡ true
+worked-supplied g c m h = go (c .supply) refl
+  where
+    go : (t : Bool) → c .supply ≡ t → runsSupplied (setActivity c (withRunning (c .activity) (runningAfter g (c .activity .running) m))) ≡ true
+    go true e = on-supplied _ e
+    go false e = idle-supplied _ (idle-after g (c .activity .running) m (unsupplied-idle c h e))
+
 kept-accepted : (s : State) (xs : List ℕ) (x : Step) → length (s .unprotected) ≡ 5 → Kept s (accepted s xs x .state)
-unfolding accepted written writtenAt workedOn worked powerUp
-kept-accepted s xs (Read a) h = kept s s refl refl refl refl (λ z. z)
+unfolding accepted switchedTo ended written writtenAt workedOn worked powerUp
+kept-accepted s xs (Read a) h = kept s s refl refl refl refl (λ z. z) (λ z. z)
 kept-accepted s xs (Write a w) h =
     kept-view s (placeOf (geometry s) a) (cycleAt s (placeOf (geometry s) a) w) (writtenAt s (placeOf (geometry s) a) w .buffer)
-    (length-loaded (geometry s) (s .control .activity .setup) (placeOf (geometry s) a) w (cycleAt s (placeOf (geometry s) a) w .control .activity .running) (s .buffer))
+    (length-loaded (geometry s) (s .control .activity .setup) (s .control .activity .program) (placeOf (geometry s) a) w (cycleAt s (placeOf (geometry s) a) w .control .activity) (s .buffer))
     (cycle-zero (geometry s) (viewAt s (placeOf (geometry s) a)) (s .control .activity .setup) (placeOf (geometry s) a) w)
+    (cycle-supplied (geometry s) (viewAt s (placeOf (geometry s) a)) (s .control .activity .setup) (placeOf (geometry s) a) w)
 kept-accepted s xs (Work n) h = kept s (worked s n) refl refl refl refl (length-after (s .control .activity .running) (worked s n .control .activity .running) (s .buffer))
-kept-accepted s xs (Supply on) h = kept s (withSupply s on) refl refl refl refl (λ z. z)
-kept-accepted s xs Reset h = record { part = refl; sixteen = λ z. refl; five = protection.all-length ∙ sym h; spare = λ z. protection.all-spare; thirty-two = λ z. length-empty; reserved = λ z. default-zero (s .part) }
+    (worked-supplied (geometry s) (s .control) (unitsDone (geometry s) (s .control .activity .running) n))
+kept-accepted s xs (Supply on) h = kept s (switchedTo s on) refl refl refl (of-switched (λ (c : Control). c .configuration ≡ s .control .configuration) (s .control) on refl refl) (length-after (s .control .activity .running) (switchedTo s on .control .activity .running) (s .buffer)) (λ z. switched-supplied (s .control) on)
+kept-accepted s xs Reset h = record { part = refl; sixteen = λ z. refl; five = protection.all-length ∙ sym h; spare = λ z. protection.all-spare; thirty-two = λ z. length-empty; reserved = λ z. default-zero (s .part); powered = λ z. idle-supplied _ refl }
 
 pub kept-step : (s : State) (xs : List ℕ) (x : Step) → length (s .unprotected) ≡ 5 → Kept s (stepOf s xs x .state)
 unfolding stepOf
@@ -261,7 +296,7 @@ kept-step s xs x h = go (eqb (refusalOf s (length xs) x) 0)
   where
     go : (b : Bool) → Kept s ((cond b (accepted s xs x) (next s (Refused (refusalOf s (length xs) x)))) .state)
     go true = kept-accepted s xs x h
-    go false = kept s s refl refl refl refl (λ z. z)
+    go false = kept s s refl refl refl refl (λ z. z) (λ z. z)
 
 -- ---- the invariant: the device and the recorder agree, and the words are the journal's
 
@@ -273,6 +308,7 @@ pub record Agree (p : Part) (xs₀ : List ℕ) (m : Machine) (c : Recorder) : Ty
   pub thirty-two : length (m .state .buffer) ≡ 32
   pub spared : Spared (m .state .control .activity) (m .state .buffer)
   pub reserved : reservedZero (m .state .control .configuration) ≡ true
+  pub powered : runsSupplied (m .state .control) ≡ true
   pub same : conditions (m .state) ≡ c .conditions
   pub sim : Sim (geometryOf p) (conditions (m .state)) (underWay (m .state)) (c .journal)
   pub word : (L : ℕ) → L < words (geometryOf p) → wordsOf (m .array) L ≡ After (geometryOf p) (c .journal) L (wordsOf xs₀ L)
@@ -285,7 +321,7 @@ agree-formed p xs₀ m c a =
     let f : activityFormed (geometryOf p) (s .control .activity) ≡ true =
     formed (geometryOf p) (s .buffer) (laws.sound p) (conditions s) (s .control .activity .setup) (s .control .activity .running) (s .control .activity .program) (s .control .activity .erase) (c .journal) refl (a .sim)
     in
-    rw (a .part, f, a .spare, a .spared, a .reserved)
+    rw (a .part, f, a .spare, a .spared, a .reserved, a .powered)
 
 agree-good : (p : Part) (xs₀ : List ℕ) (m : Machine) (c : Recorder) → Agree p xs₀ m c → stateRefusal (m .state) (length (m .array)) ≡ 0
 agree-good p xs₀ m c a = state-good (m .state) (length (m .array)) (a .size ∙ ap (λ (q : Part). words (geometryOf q)) (sym (a .part))) (agree-formed p xs₀ m c a)
@@ -316,6 +352,7 @@ agree-step xs₀ m c x a =
       thirty-two = k .thirty-two (a .thirty-two);
       spared = spared-step s xs (agree-good (s .part) xs₀ m c a) i x (a .spared);
       reserved = k .reserved (a .reserved);
+      powered = k .powered (a .powered);
       same = f .0 ∙ ap (λ (d : Conditions). conditions-after v d) (a .same);
       sim = subst₂ (λ d e. Sim g d e (journal-after g v (c .journal))) (sym (f .0)) (sym (f .1)) (sim-do g (laws.sound (s .part)) (conditions s) (underWay s) (c .journal) v o (a .sim));
       word = λ L h. f .2 L (omega (arith, a .size)) ∙ words-after-ok g v (conditions s) (underWay s) (c .journal) (wordsOf xs) L (wordsOf xs₀ L) (a .sim) (a .word L h);
@@ -369,6 +406,7 @@ agree-fresh p xs h = record {
   thirty-two = length-empty;
   spared = zero-empty _;
   reserved = default-zero p;
+  powered = idle-supplied _ refl;
   same = ap (λ (u : ℕ → Bool). record { supply = false; unprotected = u; setup = recorder.no-setup }) (fun-ext (λ b. protection.all-none b));
   sim = record { match = entries.start; order = tt; inside = tt; lying = tt; ready = tt };
   word = λ L k. refl;

@@ -15,7 +15,7 @@ use Rattle.semantics.specs.declared.State.{State}
 use Rattle.semantics.specs.declared.Step.{Step}
 use Rattle.semantics.specs.State.{geometry}
 use Rattle.semantics.specs.Register.{reservedZero}
-use Rattle.semantics.specs.WellFormed.{wellFormed, activityFormed, placesUsed, zeroFrom}
+use Rattle.semantics.specs.WellFormed.{wellFormed, activityFormed, placesUsed, zeroFrom, runsSupplied}
 use Rattle.semantics.specs.Steps.{stateRefusal, firstRefusal, refusalOf, stepRefusal, next, stepOf, arrayOf}
 use Rattle.semantics.specs.Entries.{Entry}
 use Rattle.semantics.specs.Recorder.{Operation, Event, journal-after}
@@ -28,16 +28,22 @@ use Rattle.semantics.specs.Invariant.{Steps, Fit, Kept, steps, spared-st
 keeps-good : (s : State) (xs : List ℕ) (x : Step) → length (s .unprotected) ≡ 5 → length (s .buffer) ≡ 32 → length xs ≡ words (geometry s) → wellFormed s ≡ true → wellFormed (stepOf s xs x .state) ≡ true
 unfolding wellFormed
 keeps-good s xs x h b n w =
-    rw (q, z, k .spare (and-true-l (spareZero (s .unprotected)) _ rest), spared-step s xs (state-good s (length xs) n w) fit x (and-true-l used _ more), k .reserved (and-true-r used _ more))
+    rw (q, z, k .spare (and-true-l (spareZero (s .unprotected)) _ rest), spared-step s xs (state-good s (length xs) n w) fit x (and-true-l used _ more), k .reserved (and-true-l clear _ last), k .powered (and-true-r clear _ last))
   where
     used : Bool
     used = zeroFrom (placesUsed (s .control .activity)) (s .buffer)
 
-    rest : (spareZero (s .unprotected) && (used && reservedZero (s .control .configuration))) ≡ true
+    clear : Bool
+    clear = reservedZero (s .control .configuration)
+
+    rest : (spareZero (s .unprotected) && (used && (clear && runsSupplied (s .control)))) ≡ true
     rest = and-true-r (activityFormed (geometry s) (s .control .activity)) _ w
 
-    more : (used && reservedZero (s .control .configuration)) ≡ true
+    more : (used && (clear && runsSupplied (s .control))) ≡ true
     more = and-true-r (spareZero (s .unprotected)) _ rest
+
+    last : (clear && runsSupplied (s .control)) ≡ true
+    last = and-true-r used _ more
 
     j : List (Entry Operation)
     j = own (geometry s) (s .buffer) (s .control .activity .running) (s .control .activity .program) (s .control .activity .erase)

@@ -52,16 +52,13 @@ reset-changes-no-word s xs = same-array s xs Reset refl
 
 -- ---- work
 
--- "Supply is looked at only when an operation is accepted", and so is protection: whatever they are, work does the same and answers the same
-pub work-looks-at-neither : (s : State) (on : Bool) (ws : List ℕ) (n : ℕ) (xs : List ℕ)
-    → (workedArray (withSupply s on) n xs ≡ workedArray s n xs) × (accepted (withSupply s on) xs (Work n) ≡ next (withSupply (worked s n) on) (accepted s xs (Work n) .answer))
-    × (workedArray (withProtection s ws) n xs ≡ workedArray s n xs) × (accepted (withProtection s ws) xs (Work n) ≡ next (withProtection (worked s n) ws) (accepted s xs (Work n) .answer))
+-- protection is looked at only when an operation is accepted: whatever it is, work does the same and answers the same
+pub work-ignores-protection : (s : State) (ws : List ℕ) (n : ℕ) (xs : List ℕ)
+    → (workedArray (withProtection s ws) n xs ≡ workedArray s n xs) × (accepted (withProtection s ws) xs (Work n) ≡ next (withProtection (worked s n) ws) (accepted s xs (Work n) .answer))
 unfolding workedArray workedOn worked accepted
-work-looks-at-neither s on ws n xs = (refl, refl, refl, refl)
+work-ignores-protection s ws n xs = (refl, refl)
 
--- "Protecting a block whose erase is suspended does not stop that erase when resumed.": nor does supply off
-pub resume-looks-at-neither : (v : View) (p : Place) (on u : Bool)
-    → (firstCycle (view.withSupply v on) p command.Resume ≡ view.withSupply (firstCycle v p command.Resume) on)
-    × (firstCycle (view.withProtection v u) p command.Resume ≡ view.withProtection (firstCycle v p command.Resume) u)
+-- "Protecting a block whose erase is suspended does not stop that erase when resumed."
+pub resume-ignores-protection : (v : View) (p : Place) (u : Bool) → firstCycle (view.withProtection v u) p command.Resume ≡ view.withProtection (firstCycle v p command.Resume) u
 unfolding firstCycle
-resume-looks-at-neither v p on u = (refl, refl)
+resume-ignores-protection v p u = refl

@@ -3,10 +3,12 @@ pub mod Tabulate
 pub mod State
 pub mod View
 pub mod Register
+pub mod Supply
 pub mod WellFormed
 pub mod Reading
 pub mod StatusBits
 pub mod Writing
+pub mod Supplied
 pub mod RegisterBits
 pub mod Working
 pub mod Arrays
@@ -19,10 +21,12 @@ pub mod RefusalCases
 pub mod BufferCases
 pub mod StatusCases
 pub mod RegisterCases
+pub mod SupplyCases
 pub mod FurtherCases
 pub mod Encoding
 pub mod Entries
 pub mod Recorder
+pub mod JournalCases
 pub mod Demand
 pub mod Layout
 pub mod Engine

@@ -32,11 +32,7 @@ operationCases =
     ++ write 0x3F80 0xD0 ++ works 65535 54 ++ shows 0x3FBF 0xFFFF ++ shows 0x3FC0 0x0000)
     ∷ plays BenchTop (bench 0x0000) (prepared 0x3FFF ++ erase 0x3FFF ++ works 65535 16 ++ write 0x3FFF 0xFF ++ shows 0x3FEF 0x0000 ++ shows 0x3FF0 0xFFFF ++ shows 0x3FFF 0xFFFF)
     ∷ plays BenchTop (bench 0xFFFF) (prepared 0x3F81 ++ program 0x3F81 0x1234 ++ works 1 1 ++ write 0x3F80 0xFF ++ shows 0x3F81 0x1234 ++ shows 0x7E 0xFFFF)
-    -- supply is looked at only when an operation is accepted: one that runs or is suspended goes on without it
-    ∷ plays BenchBottom (bench 0xFFFF) (prepared 0x40 ++ program 0x40 0x1234 ++ supply false ++ works 1 1 ++ shows 0x40 0x80 ++ write 0x40 0xFF ++ shows 0x40 0x1234)
-    ∷ plays BenchBottom (bench 0x0000)
-    (prepared 0x40 ++ erase 0x40 ++ write 0x40 0xB0 ++ supply false ++ shows 0x40 0xC0 ++ write 0x40 0xD0 ++ works 65535 64 ++ shows 0x40 0x80 ++ write 0x40 0xFF ++ shows 0x7F 0xFFFF)
-    -- and so is protection: a block that is protected during its suspended erase is still erased, and its neighbour is not. B0h and D0h leave the mode, which is array
+    -- protection is looked at only when an operation is accepted: a block that is protected during its suspended erase is still erased, and its neighbour is not. B0h and D0h leave the mode, which is array
     ∷ plays BenchBottom (bench 0x0000)
     (prepared 0x40 ++ erase 0x40 ++ works 10 10 ++ write 0x40 0xFF ++ write 0x40 0xB0 ++ shows 0x4A 0x0000 ++ protect 0x40 ++ write 0x40 0xFF ++ write 0x40 0xD0 ++ works 65535 54
     ++ shows 0x7F 0xFFFF ++ shows 0x80 0x0000)

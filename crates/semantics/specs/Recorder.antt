@@ -1,5 +1,6 @@
--- The recorder (document 01: clerk) and the journal that it draws up: document 01, "The journal", and document 02, item 1, for a buffer program, and nothing else. It is
--- told the part and, of each step, which of the five it is and its numbers. No device, array or answer enters: the device's definitions are not used here.
+-- The recorder (document 01: clerk) and the journal that it draws up: document 01, "The journal", and document 02, item 1, for a buffer program, and item 5, for the
+-- supply, and nothing else. It is told the part and, of each step, which of the five it is and its numbers. No device, array or answer enters: the device's definitions are not
+-- used here.
 -- Of `base`, `len` and `put` the recorder uses `len` alone, for the units that an entry lacks; `base` and `put` serve the proof. What an entry makes of a word is
 -- said by `reading`.
 -- Assumes nothing.
@@ -14,7 +15,7 @@ use Rattle.geometry.specs.Blocks.{location, blockOf, startOf, sizeOf}
 use Rattle.semantics.specs.Numbers.{within}
 use Rattle.semantics.specs.declared.Step.{Step}
 use Rattle.semantics.specs.declared.Step.the-variants.{Read, Write, Work, Supply, Reset}
-use Rattle.semantics.specs.Entries.{Entry, entry, running, suspended, finished, broken-off, Kinds, worked, paused, resumed, abandoned, anyRuns, anySuspended}
+use Rattle.semantics.specs.Entries.{Entry, entry, running, suspended, finished, broken-off, Kinds, worked, paused, resumed, brokenOff, anyRuns, anySuspended}
 
 -- ---- the journal, and what it makes of a word
 
@@ -96,14 +97,14 @@ abbrev pub beginning : Recorder
 beginning = record { conditions = no-conditions; journal = [] }
 
 -- what a step comes to for the recorder. `setup-is s`: the pending set-up is s from here on. `unprotected-is b v`: block b is unprotected (v true) or protected
--- (v false) from here on, and the set-up ends. `accept k`: an entry of k is added, and the set-up ends
+-- (v false) from here on, and the set-up ends. `accept k`: an entry of k is added, and the set-up ends. `end-program`, `end-erase`: the suspended one is broken off
 pub data Event : Type 0 where
   nothing : Event
   supplied : Bool → Event
   was-reset : Event
   units : ℕ → Event
   suspend : Event
-  resume-program resume-erase : Event
+  resume-program resume-erase end-program end-erase : Event
   setup-is : Setup → Event
   unprotected-is : ℕ → Bool → Event
   accept : Operation → Event
@@ -118,6 +119,9 @@ isProgram k = not (isErase k)
 
 abbrev pub isAny : Operation → Bool
 isAny k = true
+
+abbrev pub isNone : Operation → Bool
+isNone k = false
 
 -- the commands of a write with no set-up that bear on the journal
 pub data Command : Type 0 where
@@ -149,10 +153,14 @@ module _ (g : Geometry) where
     acceptable b = d .supply && (d .unprotected b && not (held (isEraseOf b)))
 
     -- "Write, no set-up: B0h suspends what runs. If nothing runs, D0h sets the suspended program running, else the suspended erase; 10h and 40h
-    -- (program) and 60h (lock) become the set-up if no program is suspended, 20h (erase) if nothing is. Else nothing." "E8h is taken when 40h is": with its block b
+    -- (program) and 60h (lock) become the set-up if no program is suspended, 20h (erase) if nothing is. Else nothing." "E8h is taken when 40h is": with its block b. Document 02,
+    -- item 5, of what D0h would set running: "resumed without supply, they end .. Demand 3 counts such an entry as unfinished": it is broken off
     abbrev pub first-cycle : ℕ → Command → Event
     first-cycle b suspend-command = cond runs suspend nothing
-    first-cycle b resume-command = cond runs nothing (cond (held isProgram) resume-program (cond (held isErase) resume-erase nothing))
+    first-cycle b resume-command =
+        cond runs nothing
+        (cond (held isProgram) (cond (d .supply) resume-program end-program)
+        (cond (held isErase) (cond (d .supply) resume-erase end-erase) nothing))
     first-cycle b program-command = cond (runs || held isProgram) nothing (setup-is program-setup)
     first-cycle b lock-command = cond (runs || held isProgram) nothing (setup-is lock-setup)
     first-cycle b erase-command = cond (runs || held isAny) nothing (setup-is erase-setup)
@@ -205,21 +213,27 @@ conditions-after (units n) d = d
 conditions-after suspend d = d
 conditions-after resume-program d = d
 conditions-after resume-erase d = d
+conditions-after end-program d = d
+conditions-after end-erase d = d
 conditions-after (setup-is s) d = record { supply = d .supply; unprotected = d .unprotected; setup = s }
 conditions-after (unprotected-is b v) d = record { supply = d .supply; unprotected = λ c. cond (eqb c b) v (d .unprotected c); setup = no-setup }
 conditions-after (accept k) d = record { supply = d .supply; unprotected = d .unprotected; setup = no-setup }
 
 module _ (g : Geometry) where
   -- what an event makes of the journal. Reset: "what runs or is suspended is broken off". "Work n: the running entry, if any, gets the lesser of n
-  -- and the units it lacks of 1 (program) or of its block's words (erase). Lacking none, it is finished."
+  -- and the units it lacks of 1 (program) or of its block's words (erase). Lacking none, it is finished." Document 02, item 5: "When supply goes off, a running operation ends then
+  -- and there .. Suspended ones stay .. Demand 3 counts such an entry as unfinished"
   abbrev pub journal-after : Event → List (Entry Operation) → List (Entry Operation)
   journal-after nothing j = j
-  journal-after (supplied on) j = j
-  journal-after was-reset j = map abandoned j
+  journal-after (supplied true) j = j
+  journal-after (supplied false) j = map (brokenOff true isNone) j
+  journal-after was-reset j = map (brokenOff true isAny) j
   journal-after (units n) j = map (worked (kinds g) n) j
   journal-after suspend j = map paused j
   journal-after resume-program j = map (resumed isProgram) j
   journal-after resume-erase j = map (resumed isErase) j
+  journal-after end-program j = map (brokenOff false isProgram) j
+  journal-after end-erase j = map (brokenOff false isErase) j
   journal-after (setup-is s) j = j
   journal-after (unprotected-is b v) j = j
   journal-after (accept k) j = entry k 0 running ∷ j

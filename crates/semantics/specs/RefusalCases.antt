@@ -18,13 +18,13 @@ use Rattle.semantics.specs.declared.SuspendedProgram.{SuspendedProgram}
 use Rattle.semantics.specs.declared.SuspendedProgram.the-variants as suspended-program
 use Rattle.semantics.specs.declared.SuspendedErase.{SuspendedErase}
 use Rattle.semantics.specs.declared.SuspendedErase.the-variants as suspended-erase
-use Rattle.semantics.specs.State.{powerUp, activity, withActivity, withProtection}
+use Rattle.semantics.specs.State.{powerUp, activity, runs, withActivity, withProtection, withSupply}
 use Rattle.semantics.specs.Cases.{_⟶_, Exchange, Case, plays, starts, unreported, write, cycles, shows, works, unprotect, program, erase, prepared, bench}
 
--- ---- states that differ from power-up in what is under way, or in the last of the protection words
+-- ---- states that differ from power-up in what is under way, with supply on where something runs, or in the last of the protection words
 
 abbrev pub underWay : Part → Setup → Running → SuspendedProgram → SuspendedErase → State
-underWay p s r q e = withActivity (powerUp p) (activity s r q e)
+underWay p s r q e = withSupply (withActivity (powerUp p) (activity s r q e)) (runs r)
 
 abbrev pub lastWord : ℕ → State
 lastWord w = withProtection (powerUp BenchBottom) (replicate 4 0 ++ w ∷ [])
@@ -54,7 +54,7 @@ good s = starts s (bench 0) ((Supply true ⟶ Done) ∷ [])
 -- every step refused r, whatever its own numbers
 abbrev pub all : ℕ → List Exchange
 all r =
-    (Read 0 ⟶ Refused r) ∷ (Write 0 0xFF ⟶ Refused r) ∷ (Work 1 ⟶ Refused r) ∷ (Supply true ⟶ Refused r) ∷ (Reset ⟶ Refused r) ∷ (Read 0x1000000 ⟶ Refused r)
+    (Read 0 ⟶ Refused r) ∷ (Write 0 0xFF ⟶ Refused r) ∷ (Work 1 ⟶ Refused r) ∷ (Supply true ⟶ Refused r) ∷ (Supply false ⟶ Refused r) ∷ (Reset ⟶ Refused r) ∷ (Read 0x1000000 ⟶ Refused r)
     ∷ (Write 0x1000000 0xFF ⟶ Refused r) ∷ (Work 65536 ⟶ Refused r) ∷ []
 
 abbrev pub refusalCases : List Case

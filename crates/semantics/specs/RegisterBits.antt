@@ -17,6 +17,7 @@ use Rattle.geometry.specs.Blocks.{location, bankOffset}
 use Rattle.geometry.specs.Laws.{order}
 use Rattle.protection.specs.Words.{bit}
 use Rattle.protection.specs.Digits.{bit-lt, bit-low, bit-none, bit-and, digits-same}
+use Rattle.semantics.specs.declared.Control.{Control}
 use Rattle.semantics.specs.declared.Command.{Command}
 use Rattle.semantics.specs.declared.Command.the-variants as command
 use Rattle.semantics.specs.declared.LockCommand.{LockCommand}
@@ -34,6 +35,8 @@ use Rattle.semantics.specs.Reading.{bitIf, signatureWord, shown, showsBy
 use Rattle.semantics.specs.Register.{isReserved, registerMask, withoutReserved, reservedZero}
 use Rattle.semantics.specs.StatusBits.{lines-bit, bankAt}
 use Rattle.semantics.specs.WellFormed.{erasing}
+use Rattle.semantics.specs.Supply.{ended}
+use Rattle.semantics.specs.Supplied.{of-resume}
 use Rattle.semantics.specs.Writing.{commandOf, accepts, setUp, clearStatus, firstCycle, programRuns, eraseCycle, lockCommandOf, lockCycle, settle, loads, countRight, firstRight, laterRight, confirmRight, confirmCycle, wordsCycle, cycle}
 use Rattle.semantics.specs.Engine.{and-true-l, and-true-r}
 
@@ -155,13 +158,13 @@ loads-has v right c = has-cond _ right _ _ refl refl
 
 module _ (v : View) (p : Place) where
   first-has : (c : Command) → Has (v .control .configuration) (firstCycle v p c)
-  unfolding firstCycle setUp clearStatus
+  unfolding firstCycle setUp clearStatus ended
   first-has command.ReadArray = refl
   first-has command.ReadStatus = refl
   first-has command.ReadSignature = refl
   first-has command.ReadQuery = refl
   first-has command.Suspend = refl
-  first-has command.Resume = refl
+  first-has command.Resume = of-resume (λ (c : Control). c .configuration ≡ v .control .configuration) (v .control) refl refl refl
   first-has command.ClearStatus = has-cond _ (runs (v .control .activity .running)) _ _ refl refl
   first-has command.SetUpProgram = has-cond _ (accepts (v .control .activity) setup.Program) _ _ refl refl
   first-has command.SetUpErase = has-cond _ (accepts (v .control .activity) setup.Erase) _ _ refl refl

@@ -1,8 +1,8 @@
 -- "Spare storage, if any, is zero": no step leaves a word in a place of the buffer that is not in use.
 -- Assumes nothing.
-use mathlib.Core.Path.{_≡_, refl, ap, _∙_}
+use mathlib.Core.Path.{_≡_, refl, sym, ap, _∙_}
 use mathlib.Core.List.{List}
-use mathlib.Core.Bool.{Bool, true, false, cond, not, true≢false}
+use mathlib.Core.Bool.{Bool, true, false, cond, not, _||_, true≢false}
 use Prim.Native.Nat.{ℕ, _+_, _-_, _%_}
 use native.Mathlib.Omega.{arith}
 use lib.Dec.{ltb, eqb}
@@ -28,10 +28,12 @@ use Rattle.semantics.specs.declared.View.{View}
 use Rattle.semantics.specs.Numbers.{within-true}
 use Rattle.semantics.specs.Tabulate.{length-tabulate}
 use Rattle.semantics.specs.State as state
-use Rattle.semantics.specs.State.{activity, runs, emptyBuffer, noFlags}
-use Rattle.semantics.specs.View.{viewAt, withActivity, withFlags}
+use Rattle.semantics.specs.State.{activity, runs, programSuspended, emptyBuffer, noFlags}
+use Rattle.semantics.specs.View.{viewAt, withControl, withActivity, withFlags}
+use Rattle.semantics.specs.Supply.{ended, endedUnsupplied}
+use Rattle.semantics.specs.Supplied.{isResume, only-resume, first-holds}
 use Rattle.semantics.specs.WellFormed.{erasing, setupPlaces, runningPlaces, programPlaces, placesUsed, zeroFrom}
-use Rattle.semantics.specs.Writing.{commandOf, suspended, resume, pend, setUp, accepts, clearStatus, firstCycle, programRuns, programCycle, eraseCycle, lockCommandOf, lockCycle, settle, loads, countRight, firstRight, laterRight, confirmRight, confirmCycle, wordsCycle, cycle, keptIf, firstLoaded, wordsLoaded, loaded, writtenAt}
+use Rattle.semantics.specs.Writing.{commandOf, suspended, resume, pend, setUp, accepts, clearStatus, firstCycle, programRuns, programCycle, eraseCycle, lockCommandOf, lockCycle, settle, loads, countRight, firstRight, laterRight, confirmRight, confirmCycle, wordsCycle, cycle, keptIf, firstLoaded, wordsLoaded, heldAfter, loaded, writtenAt}
 use Rattle.semantics.specs.Working.{runningAfter, bufferAfter}
 use Rattle.semantics.specs.Recorder.{isProgram}
 use Rattle.semantics.specs.Engine.{held?, Ready}
@@ -53,22 +55,28 @@ unfolding keptIf
 length-kept-if true bs h = h
 length-kept-if false bs h = length-empty
 
-pub length-loaded : (g : Geometry) (c : Setup) (p : Place) (w : ℕ) (r : Running) (bs : List ℕ) → length bs ≡ 32 → length (loaded g c p w r bs) ≡ 32
+length-held : (q : SuspendedProgram) (a : Activity) (bs : List ℕ) → length bs ≡ 32 → length (heldAfter q a bs) ≡ 32
+unfolding heldAfter
+length-held program.Nothing a bs h = h
+length-held (program.Program l w) a bs h = h
+length-held (program.Buffer l n d) a bs h = length-kept-if (programSuspended (a .program) || runs (a .running)) bs h
+
+pub length-loaded : (g : Geometry) (c : Setup) (q : SuspendedProgram) (p : Place) (w : ℕ) (a : Activity) (bs : List ℕ) → length bs ≡ 32 → length (loaded g c q p w a bs) ≡ 32
 unfolding loaded wordsLoaded firstLoaded
-length-loaded g setup.Nothing p w r bs h = h
-length-loaded g setup.Program p w r bs h = h
-length-loaded g setup.Erase p w r bs h = h
-length-loaded g setup.Lock p w r bs h = h
-length-loaded g (setup.BufferCount b) p w r bs h = h
-length-loaded g (setup.BufferFirst b n) p w r bs h = go (firstRight g b n p)
+length-loaded g setup.Nothing q p w a bs h = length-held q a bs h
+length-loaded g setup.Program q p w a bs h = h
+length-loaded g setup.Erase q p w a bs h = h
+length-loaded g setup.Lock q p w a bs h = h
+length-loaded g (setup.BufferCount b) q p w a bs h = h
+length-loaded g (setup.BufferFirst b n) q p w a bs h = go (firstRight g b n p)
   where
     go : (o : Bool) → length (cond o (firstLoaded n w) bs) ≡ 32
     go true = length-tabulate 32 _
     go false = h
-length-loaded g (setup.BufferWords l n due) p w r bs h = go (eqb due 0)
+length-loaded g (setup.BufferWords l n due) q p w a bs h = go (eqb due 0)
   where
-    go : (o : Bool) → length (cond o (keptIf (runs r) bs) (keptIf (laterRight l n p) (set bs (p .location - l) w))) ≡ 32
-    go true = length-kept-if (runs r) bs h
+    go : (o : Bool) → length (cond o (keptIf (runs (a .running)) bs) (keptIf (laterRight l n p) (set bs (p .location - l) w))) ≡ 32
+    go true = length-kept-if (runs (a .running)) bs h
     go false = length-kept-if (laterRight l n p) (set bs (p .location - l) w) (length-set bs (p .location - l) w ∙ h)
 
 pub length-after : (r t : Running) (bs : List ℕ) → length bs ≡ 32 → length (bufferAfter r t bs) ≡ 32
@@ -77,6 +85,14 @@ length-after running.Idle t bs h = h
 length-after (running.Program l w) t bs h = h
 length-after (running.Erase b n) t bs h = h
 length-after (running.Buffer l n d) t bs h = length-kept-if (runs t) bs h
+
+-- what runs on leaves the buffer
+pub buffer-on : (r : Running) (bs : List ℕ) → bufferAfter r r bs ≡ bs
+unfolding bufferAfter keptIf
+buffer-on running.Idle bs = refl
+buffer-on (running.Program l w) bs = refl
+buffer-on (running.Erase b n) bs = refl
+buffer-on (running.Buffer l n d) bs = refl
 
 -- ---- cycles that leave the buffer: they use as many places as were used
 
@@ -104,15 +120,27 @@ same-suspend x (running.Buffer l n d) program.Nothing e m = omega arith
 same-suspend x (running.Buffer l n d) (program.Program k v) e m = absurd m
 same-suspend x (running.Buffer l n d) (program.Buffer k v i) e m = absurd m
 
-same-resume : (x : View) (r : Running) (q : SuspendedProgram) (e : SuspendedErase) → Same (at x setup.Nothing r q e) (withActivity x (resume (activity setup.Nothing r q e)))
-unfolding resume placesUsed setupPlaces runningPlaces programPlaces
-same-resume x running.Idle (program.Program l w) e = refl
-same-resume x running.Idle (program.Buffer l n d) e = omega arith
-same-resume x running.Idle program.Nothing erase.Nothing = refl
-same-resume x running.Idle program.Nothing (erase.Erase b n) = refl
-same-resume x (running.Program l w) q e = refl
-same-resume x (running.Erase b n) q e = refl
-same-resume x (running.Buffer l n d) q e = refl
+-- D0h: where it ends a buffer program, no place is in use, and the buffer is empty
+spared-resume : (x : View) (bs : List ℕ) (t : Bool) → x .control .supply ≡ t → (r : Running) (q : SuspendedProgram) (e : SuspendedErase) → Together r q e → Spared (activity setup.Nothing r q e) bs
+    → Spared (resume (at x setup.Nothing r q e .control) .activity) (heldAfter q (resume (at x setup.Nothing r q e .control) .activity) bs)
+unfolding resume endedUnsupplied ended heldAfter keptIf placesUsed setupPlaces runningPlaces programPlaces
+spared-resume x bs true z running.Idle (program.Program l w) e m h = rw z h
+spared-resume x bs true z running.Idle (program.Buffer l n d) e m h = rw z (ap (λ (k : ℕ). zeroFrom k bs) (omega arith) ∙ h)
+spared-resume x bs true z running.Idle program.Nothing erase.Nothing m h = rw z h
+spared-resume x bs true z running.Idle program.Nothing (erase.Erase b n) m h = rw z h
+spared-resume x bs false z running.Idle (program.Program l w) e m h = rw z h
+spared-resume x bs false z running.Idle (program.Buffer l n d) e m h = rw z (zero-empty 0)
+spared-resume x bs false z running.Idle program.Nothing erase.Nothing m h = rw z h
+spared-resume x bs false z running.Idle program.Nothing (erase.Erase b n) m h = rw z h
+spared-resume x bs t z (running.Program l w) program.Nothing e m h = h
+spared-resume x bs t z (running.Program l w) (program.Program k v) e m h = absurd m
+spared-resume x bs t z (running.Program l w) (program.Buffer k v d) e m h = absurd m
+spared-resume x bs t z (running.Erase b n) program.Nothing e m h = h
+spared-resume x bs t z (running.Erase b n) (program.Program k v) e m h = absurd m
+spared-resume x bs t z (running.Erase b n) (program.Buffer k v d) e m h = absurd m
+spared-resume x bs t z (running.Buffer l n d) program.Nothing e m h = h
+spared-resume x bs t z (running.Buffer l n d) (program.Program k v) e m h = absurd m
+spared-resume x bs t z (running.Buffer l n d) (program.Buffer k v i) e m h = absurd m
 
 same-setup : (x : View) (r : Running) (q : SuspendedProgram) (e : SuspendedErase) (c : Setup) → setupPlaces c ≡ 0 → Same (at x setup.Nothing r q e) (setUp (at x setup.Nothing r q e) c)
 unfolding setUp placesUsed setupPlaces
@@ -120,21 +148,21 @@ same-setup x r q e c h =
     same-cond (accepts (activity setup.Nothing r q e) c) (at x setup.Nothing r q e) (pend (at x setup.Nothing r q e) c) (at x setup.Nothing r q e)
     (ap (λ (n : ℕ). n + (runningPlaces r + programPlaces q)) h) refl
 
-same-first : (x : View) (p : Place) (r : Running) (q : SuspendedProgram) (e : SuspendedErase) → Together r q e → (c : Command)
+same-first : (x : View) (p : Place) (r : Running) (q : SuspendedProgram) (e : SuspendedErase) → Together r q e → (c : Command) → isResume c ≡ false
     → Same (at x setup.Nothing r q e) (firstCycle (at x setup.Nothing r q e) p c)
 unfolding firstCycle clearStatus setupPlaces
-same-first x p r q e m command.ReadArray = refl
-same-first x p r q e m command.ReadStatus = refl
-same-first x p r q e m command.ReadSignature = refl
-same-first x p r q e m command.ReadQuery = refl
-same-first x p r q e m command.Suspend = same-suspend x r q e m
-same-first x p r q e m command.Resume = same-resume x r q e
-same-first x p r q e m command.ClearStatus = same-cond (runs r) (at x setup.Nothing r q e) (at x setup.Nothing r q e) (withFlags (at x setup.Nothing r q e) noFlags) refl refl
-same-first x p r q e m command.SetUpProgram = same-setup x r q e setup.Program refl
-same-first x p r q e m command.SetUpErase = same-setup x r q e setup.Erase refl
-same-first x p r q e m command.SetUpLock = same-setup x r q e setup.Lock refl
-same-first x p r q e m command.SetUpBuffer = same-setup x r q e (setup.BufferCount (p .block)) refl
-same-first x p r q e m command.Unknown = refl
+same-first x p r q e m command.ReadArray n = refl
+same-first x p r q e m command.ReadStatus n = refl
+same-first x p r q e m command.ReadSignature n = refl
+same-first x p r q e m command.ReadQuery n = refl
+same-first x p r q e m command.Suspend n = same-suspend x r q e m
+same-first x p r q e m command.Resume n = absurd (true≢false n)
+same-first x p r q e m command.ClearStatus n = same-cond (runs r) (at x setup.Nothing r q e) (at x setup.Nothing r q e) (withFlags (at x setup.Nothing r q e) noFlags) refl refl
+same-first x p r q e m command.SetUpProgram n = same-setup x r q e setup.Program refl
+same-first x p r q e m command.SetUpErase n = same-setup x r q e setup.Erase refl
+same-first x p r q e m command.SetUpLock n = same-setup x r q e setup.Lock refl
+same-first x p r q e m command.SetUpBuffer n = same-setup x r q e (setup.BufferCount (p .block)) refl
+same-first x p r q e m command.Unknown n = refl
 
 same-program : (x : View) (p : Place) (w : ℕ) (q : SuspendedProgram) (e : SuspendedErase) (t u z : Bool) → x .control .supply ≡ t → x .unprotected ≡ u → erasing e (p .block) ≡ z
     → Same (at x setup.Program running.Idle q e) (programRuns (settle (at x setup.Program running.Idle q e)) p (running.Program (p .location) w))
@@ -184,7 +212,7 @@ module _ (g : Geometry) (s : State) (p : Place) (w : ℕ) where
   seen c r q e = at (viewAt s p) c r q e
 
   abbrev After : Setup → Running → SuspendedProgram → SuspendedErase → Type 0
-  After c r q e = Spared (cycle g (seen c r q e) c p w .control .activity) (loaded g c p w (cycle g (seen c r q e) c p w .control .activity .running) (s .buffer))
+  After c r q e = Spared (cycle g (seen c r q e) c p w .control .activity) (loaded g c q p w (cycle g (seen c r q e) c p w .control .activity) (s .buffer))
 
   same-spared : (x y : View) → Same x y → Spared (x .control .activity) (s .buffer) → Spared (y .control .activity) (s .buffer)
   same-spared x y e h = ap (λ (n : ℕ). zeroFrom n (s .buffer)) e ∙ h
@@ -214,10 +242,21 @@ module _ (g : Geometry) (s : State) (p : Place) (w : ℕ) where
           spared-loads (viewAt s p) (setup.BufferWords l n due) e (setup.BufferWords l n (due - 1)) (λ o. keptIf o (set (s .buffer) (p .location - l) w)) (laterRight l n p)
           (λ z. zero-set n (p .location - l) w (s .buffer) (omega (arith, within-true l n (p .location) z)) h) (λ z. zero-empty 0)
 
+  spared-first : (r : Running) (q : SuspendedProgram) (e : SuspendedErase) → Together r q e → (c : Command) → Spared (activity setup.Nothing r q e) (s .buffer)
+      → Spared (firstCycle (seen setup.Nothing r q e) p c .control .activity) (heldAfter q (firstCycle (seen setup.Nothing r q e) p c .control .activity) (s .buffer))
+  unfolding firstCycle
+  spared-first r q e m c h = go (isResume c) refl
+    where
+      go : (b : Bool) → isResume c ≡ b → Spared (firstCycle (seen setup.Nothing r q e) p c .control .activity) (heldAfter q (firstCycle (seen setup.Nothing r q e) p c .control .activity) (s .buffer))
+      go true z = rw (only-resume c z) (spared-resume (viewAt s p) (s .buffer) (s .control .supply) refl r q e m h)
+      go false z =
+          rw (first-holds (seen setup.Nothing r q e) p c (s .buffer) (λ k. absurd (true≢false (sym k ∙ z))))
+          (same-spared (seen setup.Nothing r q e) (firstCycle (seen setup.Nothing r q e) p c) (same-first (viewAt s p) p r q e m c z) h)
+
   pub spared-cycle : (c : Setup) (r : Running) (q : SuspendedProgram) (e : SuspendedErase) → Together r q e → Ready g (setupOf (s .buffer) c) (runs r) (held? (underWayOf (s .buffer) r q e))
       → Spared (activity c r q e) (s .buffer) → After c r q e
   unfolding cycle loaded placesUsed setupPlaces runningPlaces programPlaces
-  spared-cycle setup.Nothing r q e m y h = same-spared (seen setup.Nothing r q e) (firstCycle (seen setup.Nothing r q e) p (commandOf (w % 256))) (same-first (viewAt s p) p r q e m (commandOf (w % 256))) h
+  spared-cycle setup.Nothing r q e m y h = spared-first r q e m (commandOf (w % 256)) h
   spared-cycle setup.Program running.Idle q e m y h = same-spared (seen setup.Program running.Idle q e) (programCycle (settle (seen setup.Program running.Idle q e)) p w)
       (same-program (viewAt s p) p w q e (s .control .supply) (viewAt s p .unprotected) (erasing e (p .block)) refl refl refl) h
   spared-cycle setup.Program (running.Program l v) q e m y h = absurd (true≢false (y .0))
@@ -267,3 +306,11 @@ spared-worked g c (running.Buffer l n d) p e m bs h = go (ltb (d + m) n)
     go : (t : Bool) → Spared (activity c (cond t (running.Buffer l n (d + m)) running.Idle) p e) (keptIf (runs (cond t (running.Buffer l n (d + m)) running.Idle)) bs)
     go true = h
     go false = zero-empty (setupPlaces c + (0 + programPlaces p))
+
+-- what runs ends
+pub spared-ended : (c : Setup) (r : Running) (p : SuspendedProgram) (e : SuspendedErase) (bs : List ℕ) → Spared (activity c r p e) bs → Spared (activity c running.Idle p e) (bufferAfter r running.Idle bs)
+unfolding bufferAfter keptIf placesUsed runningPlaces
+spared-ended c running.Idle p e bs h = h
+spared-ended c (running.Program l w) p e bs h = h
+spared-ended c (running.Erase b n) p e bs h = h
+spared-ended c (running.Buffer l n d) p e bs h = zero-empty (setupPlaces c + (0 + programPlaces p))

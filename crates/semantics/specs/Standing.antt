@@ -21,9 +21,9 @@ use Rattle.semantics.specs.Numbers.{within, within-true, within-out}
 use Rattle.semantics.specs.Layout.{only}
 use Rattle.semantics.specs.Steps.{afterAll, fresh}
 use Rattle.semantics.specs.Entries as entries
-use Rattle.semantics.specs.Entries.{Entry, entry, Phase, running, suspended, finished, broken-off, Live, worked, paused, resumed, abandoned, anyRuns, anySuspended}
-use Rattle.semantics.specs.Recorder.{Operation, program, erase, buffer, Setup, no-setup, program-setup, erase-setup, lock-setup, count-setup, first-setup, words-setup, Event, nothing, supplied, was-reset, units, suspend, resume-program, resume-erase, setup-is, unprotected-is, accept}
-use Rattle.semantics.specs.Recorder.{Conditions, conditions-after, rule, base, len, put, kinds, isProgram, isErase, isAny, blockIn, Recorder, beginning, recorded, recordedAll, journalOf, event, journal-after, first-cycle, confirm-cycle, cycle, acceptable}
+use Rattle.semantics.specs.Entries.{Entry, entry, Phase, running, suspended, finished, broken-off, Live, worked, paused, resumed, brokenOff, anyRuns, anySuspended}
+use Rattle.semantics.specs.Recorder.{Operation, program, erase, buffer, Setup, no-setup, program-setup, erase-setup, lock-setup, count-setup, first-setup, words-setup, Event, nothing, supplied, was-reset, units, suspend, resume-program, resume-erase, end-program, end-erase, setup-is, unprotected-is, accept}
+use Rattle.semantics.specs.Recorder.{Conditions, conditions-after, rule, base, len, put, kinds, isProgram, isErase, isAny, isNone, blockIn, Recorder, beginning, recorded, recordedAll, journalOf, event, journal-after, first-cycle, confirm-cycle, cycle, acceptable}
 use Rattle.semantics.specs.Recorder.{Command, commandOf, suspend-command, resume-command, program-command, lock-command, erase-command, buffer-command, other-command}
 use Rattle.semantics.specs.Demand.{NoSupply, SupplyOn, protectionCode, ProtectionCommand, AcceptingCycle, Covers, operation-of, Holds, Undisturbed, LastUnprotected, at-this, at-later, Stands, Demand3}
 use Rattle.semantics.specs.Engine.{and-true-l, and-true-r, Lies, InK, buffer-in, Lying, Matches, After}
@@ -51,6 +51,8 @@ module _ (g : Geometry) where
   Quiet suspend = Unit {0}
   Quiet resume-program = Unit {0}
   Quiet resume-erase = Unit {0}
+  Quiet end-program = Unit {0}
+  Quiet end-erase = Unit {0}
   Quiet (setup-is s) = Unit {0}
   Quiet (unprotected-is b o) = ⊥
   Quiet (accept k) = ⊥
@@ -70,7 +72,9 @@ module _ (g : Geometry) where
 
     why-first : (s : Step) (b : ℕ) (c : Command) → Why d s (first-cycle g d r h b c)
     why-first s b suspend-command = which r (λ e. quiet _ tt) (λ e. quiet _ tt)
-    why-first s b resume-command = which r (λ e. quiet _ tt) (λ e. which (h isProgram) (λ e. quiet _ tt) (λ e. which (h isErase) (λ e. quiet _ tt) (λ e. quiet _ tt)))
+    why-first s b resume-command =
+        which r (λ e. quiet _ tt) (λ e. which (h isProgram) (λ e. which (d .supply) (λ e. quiet _ tt) (λ e. quiet _ tt))
+        (λ e. which (h isErase) (λ e. which (d .supply) (λ e. quiet _ tt) (λ e. quiet _ tt)) (λ e. quiet _ tt)))
     why-first s b program-command = which (r || h isProgram) (λ e. quiet _ tt) (λ e. quiet _ tt)
     why-first s b lock-command = which (r || h isProgram) (λ e. quiet _ tt) (λ e. quiet _ tt)
     why-first s b erase-command = which (r || h isAny) (λ e. quiet _ tt) (λ e. quiet _ tt)
@@ -169,20 +173,23 @@ module _ (g : Geometry) where
   operation-resumed p (entry k u finished) = refl
   operation-resumed p (entry k u broken-off) = refl
 
-  operation-abandoned : (e : Entry Operation) → operation-of g (abandoned e) ≡ operation-of g e
-  operation-abandoned (entry k u running) = refl
-  operation-abandoned (entry k u suspended) = refl
-  operation-abandoned (entry k u finished) = refl
-  operation-abandoned (entry k u broken-off) = refl
+  operation-broken : (b : Bool) (p : Operation → Bool) (e : Entry Operation) → operation-of g (brokenOff b p e) ≡ operation-of g e
+  operation-broken b p (entry k u running) = refl
+  operation-broken b p (entry k u suspended) = refl
+  operation-broken b p (entry k u finished) = refl
+  operation-broken b p (entry k u broken-off) = refl
 
   holds-do : (k : Operation) (n : ℕ) (v : Event) (j : List (Entry Operation)) → Holds g k n (journal-after g v j) → Holds g k n j ⊎ ((v ≡ accept k) × (length j ≡ n))
   holds-do k n nothing j x = inl x
-  holds-do k n (supplied b) j x = inl x
-  holds-do k n was-reset j x = inl (holds-map k n abandoned operation-abandoned j x)
+  holds-do k n (supplied true) j x = inl x
+  holds-do k n (supplied false) j x = inl (holds-map k n (brokenOff true isNone) (operation-broken true isNone) j x)
+  holds-do k n was-reset j x = inl (holds-map k n (brokenOff true isAny) (operation-broken true isAny) j x)
   holds-do k n (units m) j x = inl (holds-map k n (worked (kinds g) m) (operation-worked m) j x)
   holds-do k n suspend j x = inl (holds-map k n paused operation-paused j x)
   holds-do k n resume-program j x = inl (holds-map k n (resumed isProgram) (operation-resumed isProgram) j x)
   holds-do k n resume-erase j x = inl (holds-map k n (resumed isErase) (operation-resumed isErase) j x)
+  holds-do k n end-program j x = inl (holds-map k n (brokenOff false isProgram) (operation-broken false isProgram) j x)
+  holds-do k n end-erase j x = inl (holds-map k n (brokenOff false isErase) (operation-broken false isErase) j x)
   holds-do k n (setup-is s) j x = inl x
   holds-do k n (unprotected-is b o) j x = inl x
   holds-do k n (accept i) j (inl x) = inr (ap accept (sym (x .0)), x .1)
@@ -235,6 +242,8 @@ module _ (g : Geometry) where
   protected-after suspend d b h n = h
   protected-after resume-program d b h n = h
   protected-after resume-erase d b h n = h
+  protected-after end-program d b h n = h
+  protected-after end-erase d b h n = h
   protected-after (setup-is s) d b h n = h
   protected-after (unprotected-is c o) d b h n = stays-protected d b c o h n (eqb b c) refl
   protected-after (accept k) d b h n = h
@@ -338,9 +347,11 @@ module _ (g : Geometry) where
   tag suspend = 4
   tag resume-program = 5
   tag resume-erase = 6
-  tag (setup-is s) = 7
-  tag (unprotected-is b o) = 8
-  tag (accept k) = 9
+  tag end-program = 7
+  tag end-erase = 8
+  tag (setup-is s) = 9
+  tag (unprotected-is b o) = 10
+  tag (accept k) = 11
 
   apart-tag : (v w : Event) → (tag v ≡ tag w → ⊥) → v ≡ w → ⊥
   apart-tag v w n e = n (ap tag e)
@@ -359,6 +370,8 @@ module _ (g : Geometry) where
       name-of suspend = b
       name-of resume-program = b
       name-of resume-erase = b
+      name-of end-program = b
+      name-of end-erase = b
       name-of (setup-is s) = b
       name-of (unprotected-is i q) = i
       name-of (accept k) = b
@@ -374,6 +387,8 @@ module _ (g : Geometry) where
   touch suspend d b h = inr (h, apart-tag _ _ (λ x. omega arith), λ o. apart-tag _ _ (λ x. omega arith))
   touch resume-program d b h = inr (h, apart-tag _ _ (λ x. omega arith), λ o. apart-tag _ _ (λ x. omega arith))
   touch resume-erase d b h = inr (h, apart-tag _ _ (λ x. omega arith), λ o. apart-tag _ _ (λ x. omega arith))
+  touch end-program d b h = inr (h, apart-tag _ _ (λ x. omega arith), λ o. apart-tag _ _ (λ x. omega arith))
+  touch end-erase d b h = inr (h, apart-tag _ _ (λ x. omega arith), λ o. apart-tag _ _ (λ x. omega arith))
   touch (setup-is s) d b h = inr (h, apart-tag _ _ (λ x. omega arith), λ o. apart-tag _ _ (λ x. omega arith))
   touch (unprotected-is c o) d b h = touch-protect b c o d (eqb b c) refl h
   touch (accept k) d b h = inr (h, apart-tag _ _ (λ x. omega arith), λ o. apart-tag _ _ (λ x. omega arith))
@@ -407,6 +422,8 @@ module _ (g : Geometry) where
   supply-kept d s v n (quiet suspend q) = refl
   supply-kept d s v n (quiet resume-program q) = refl
   supply-kept d s v n (quiet resume-erase q) = refl
+  supply-kept d s v n (quiet end-program q) = refl
+  supply-kept d s v n (quiet end-erase q) = refl
   supply-kept d s v n (quiet (setup-is p) q) = refl
   supply-kept d s v n (quiet (unprotected-is b o) q) = refl
   supply-kept d s v n (quiet (accept k) q) = refl
@@ -478,6 +495,8 @@ module _ (g : Geometry) where
   untouched suspend d b n m = refl
   untouched resume-program d b n m = refl
   untouched resume-erase d b n m = refl
+  untouched end-program d b n m = refl
+  untouched end-erase d b n m = refl
   untouched (setup-is s) d b n m = refl
   untouched (unprotected-is c o) d b n m = go (eqb b c) refl
     where

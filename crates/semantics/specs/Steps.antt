@@ -1,7 +1,7 @@
 -- The five steps whole, with their refusals, and a list of them played: document 01, "The five steps" and "Refusal card".
 -- Assumes nothing.
 use Prim.Native.Nat.{ℕ}
-use mathlib.Core.Bool.{cond}
+use mathlib.Core.Bool.{Bool, cond}
 use mathlib.Core.List.{List, [], _∷_}
 use lib.Dec.{eqb, ltb, leb}
 use lib.ListN.{length}
@@ -16,11 +16,12 @@ use Rattle.semantics.specs.declared.Answer.{Answer}
 use Rattle.semantics.specs.declared.Answer.the-variants.{Word, Units, Done, Refused}
 use Rattle.semantics.specs.declared.Next.{Next}
 use Rattle.semantics.specs.declared.Reported.{Reported}
-use Rattle.semantics.specs.State.{geometry, withSupply, powerUp}
+use Rattle.semantics.specs.State.{geometry, withControl, withBuffer, withSupply, powerUp}
+use Rattle.semantics.specs.Supply.{switched}
 use Rattle.semantics.specs.WellFormed.{wellFormed}
 use Rattle.semantics.specs.Reading.{readWord}
 use Rattle.semantics.specs.Writing.{written}
-use Rattle.semantics.specs.Working.{unitsDone, worked, workedArray}
+use Rattle.semantics.specs.Working.{unitsDone, bufferAfter, worked, workedArray}
 
 -- ---- refusals: 0 where there is none, else the lowest number of the card that applies
 
@@ -61,12 +62,17 @@ refusalOf s n x = firstRefusal (stateRefusal s n) (stepRefusal (geometry s) x)
 abbrev pub next : State → Answer → Next
 next s a = record { state = s; answer = a }
 
+-- the state after the supply is switched: what runs ends where it goes off, and the buffer is empty where a buffer program ends
+unfoldable pub switchedTo : State → Bool → State
+switchedTo s on =
+    withBuffer (withControl s (switched (s .control) on)) (bufferAfter (s .control .activity .running) (switched (s .control) on .activity .running) (s .buffer))
+
 -- the state after, and the answer of, a step that is accepted, that is, not refused. "Reset gives the power-up state but keeps the supply"
 unfoldable pub accepted : State → List ℕ → Step → Next
 accepted s xs (Read address) = next s (Word (readWord s xs address))
 accepted s xs (Write address w) = next (written s address w) Done
 accepted s xs (Work n) = next (worked s n) (Units (unitsDone (geometry s) (s .control .activity .running) n))
-accepted s xs (Supply on) = next (withSupply s on) Done
+accepted s xs (Supply on) = next (switchedTo s on) Done
 accepted s xs Reset = next (withSupply (powerUp (s .part)) (s .control .supply)) Done
 
 -- the array after a step that is not refused: only work touches it

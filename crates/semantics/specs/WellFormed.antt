@@ -1,5 +1,5 @@
 -- When a state is well formed (document 01: well made): one test for each part of document 01's sentence, in its order, and what document 02 says:
--- item 1 of a load and of a buffer program, item 4 of the configuration register; no other.
+-- item 1 of a load and of a buffer program, item 4 of the configuration register, item 5 of the supply; no other.
 -- Assumes nothing.
 use Prim.Native.Nat.{ℕ, zero, suc, _+_}
 use mathlib.Core.Bool.{Bool, true, false, not, _&&_, _||_}
@@ -17,6 +17,7 @@ use Rattle.semantics.specs.declared.SuspendedProgram.the-variants as pro
 use Rattle.semantics.specs.declared.SuspendedErase.{SuspendedErase}
 use Rattle.semantics.specs.declared.SuspendedErase.the-variants as erase
 use Rattle.semantics.specs.declared.Activity.{Activity}
+use Rattle.semantics.specs.declared.Control.{Control}
 use Rattle.semantics.specs.declared.State.{State}
 use Rattle.semantics.specs.State.{geometry, runs, programSuspended, eraseSuspended}
 use Rattle.semantics.specs.Register.{reservedZero}
@@ -163,9 +164,14 @@ zeroFrom n [] = true
 zeroFrom zero (x ∷ l) = eqb x 0 && zeroFrom zero l
 zeroFrom (suc n) (x ∷ l) = zeroFrom n l
 
+-- document 02, item 5: "In a well made state something runs only with supply on". What is suspended or pending does not look at it
+unfoldable pub runsSupplied : Control → Bool
+runsSupplied c = implies (runs (c .activity .running)) (c .supply)
+
 -- and "spare storage, if any, is zero": the protection words have more bits than there are blocks, and the buffer more places than are in use. Document 02, item 4, of the reserved bits of the
 -- configuration register: "a well made state has them 0"
 unfoldable pub wellFormed : State → Bool
 wellFormed s =
     activityFormed (geometry s) (s .control .activity)
-    && (spareZero (s .unprotected) && (zeroFrom (placesUsed (s .control .activity)) (s .buffer) && reservedZero (s .control .configuration)))
+    && (spareZero (s .unprotected)
+    && (zeroFrom (placesUsed (s .control .activity)) (s .buffer) && (reservedZero (s .control .configuration) && runsSupplied (s .control))))

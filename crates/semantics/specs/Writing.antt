@@ -1,8 +1,8 @@
--- The write step: document 01, "Write, address, data.", and document 02, item 1, with section 4.9 of the data sheet, for the load of a buffer program, and item 4, for what 03h stores. A cycle is said
--- over what it sees at the place of its address; what it does not see stays. What a load's cycle makes of the buffer is said after that.
+-- The write step: document 01, "Write, address, data.", and document 02, item 1, with section 4.9 of the data sheet, for the load of a buffer program, item 4, for what 03h stores, and item 5, for D0h
+-- without supply. A cycle is said over what it sees at the place of its address; what it does not see stays. What a cycle makes of the buffer is said after that.
 -- Assumes nothing.
 use Prim.Native.Nat.{ℕ, _+_, _-_, _%_}
-use mathlib.Core.Bool.{Bool, true, false, not, cond, _&&_}
+use mathlib.Core.Bool.{Bool, true, false, not, cond, _&&_, _||_}
 use mathlib.Core.List.{List}
 use lib.Dec.{ltb, leb, eqb}
 use lib.ListN.{set}
@@ -18,6 +18,7 @@ use Rattle.semantics.specs.declared.SuspendedProgram.the-variants as pro
 use Rattle.semantics.specs.declared.SuspendedErase.{SuspendedErase}
 use Rattle.semantics.specs.declared.SuspendedErase.the-variants as erase
 use Rattle.semantics.specs.declared.Activity.{Activity}
+use Rattle.semantics.specs.declared.Control.{Control}
 use Rattle.semantics.specs.declared.Command.{Command}
 use Rattle.semantics.specs.declared.Command.the-variants as command
 use Rattle.semantics.specs.declared.LockCommand.{LockCommand}
@@ -25,9 +26,10 @@ use Rattle.semantics.specs.declared.LockCommand.the-variants as lock
 use Rattle.semantics.specs.declared.State.{State}
 use Rattle.semantics.specs.declared.Place.{Place}
 use Rattle.semantics.specs.declared.View.{View}
-use Rattle.semantics.specs.State.{geometry, activity, withSetup, withRunning, withBuffer, runs, programSuspended, eraseSuspended, emptyBuffer, flagsOf, noFlags}
+use Rattle.semantics.specs.State.{geometry, activity, setActivity, withSetup, withRunning, withBuffer, runs, programSuspended, eraseSuspended, emptyBuffer, flagsOf, noFlags}
 use Rattle.semantics.specs.Register.{withoutReserved}
-use Rattle.semantics.specs.View.{placeOf, viewAt, withView, withActivity, withFlags, withConfiguration, withMode, withProtection, raise}
+use Rattle.semantics.specs.Supply.{endedUnsupplied}
+use Rattle.semantics.specs.View.{placeOf, viewAt, withView, withControl, withActivity, withFlags, withConfiguration, withMode, withProtection, raise}
 use Rattle.semantics.specs.Numbers.{within}
 use Rattle.semantics.specs.Tabulate.{tabulate}
 use Rattle.semantics.specs.WellFormed.{erasing, staysIn}
@@ -57,7 +59,7 @@ suspended a (running.Program l w) = activity (a .setup) running.Idle (program.Pr
 suspended a (running.Erase b n) = activity (a .setup) running.Idle (a .program) (erase.Erase b n)
 suspended a (running.Buffer l n d) = activity (a .setup) running.Idle (program.Buffer l n d) (a .erase)
 
--- "D0h, nothing running: resume the suspended program, else the suspended erase."
+-- "resume the suspended program, else the suspended erase"
 abbrev pub resumedErase : Activity → SuspendedErase → Activity
 resumedErase a erase.Nothing = a
 resumedErase a (erase.Erase b n) = activity (a .setup) (running.Erase b n) (a .program) erase.Nothing
@@ -67,8 +69,9 @@ resumed a program.Nothing = resumedErase a (a .erase)
 resumed a (program.Program l w) = activity (a .setup) (running.Program l w) program.Nothing (a .erase)
 resumed a (program.Buffer l n d) = activity (a .setup) (running.Buffer l n d) program.Nothing (a .erase)
 
-unfoldable pub resume : Activity → Activity
-resume a = cond (runs (a .running)) a (resumed a (a .program))
+-- "D0h, nothing running: resume ..". Document 02, item 5: "resumed without supply, they end with the same flags and no unit": the one that it would have resumed, and that alone
+unfoldable pub resume : Control → Control
+resume c = cond (runs (c .activity .running)) c (endedUnsupplied (setActivity c (resumed (c .activity) (c .activity .program))))
 
 -- "nothing running, no program suspended"
 abbrev pub programFree : Activity → Bool
@@ -105,7 +108,7 @@ firstCycle v p command.ReadStatus = withMode v Status
 firstCycle v p command.ReadSignature = withMode v Signature
 firstCycle v p command.ReadQuery = withMode v Query
 firstCycle v p command.Suspend = withActivity v (suspended (v .control .activity) (v .control .activity .running))
-firstCycle v p command.Resume = withActivity v (resume (v .control .activity))
+firstCycle v p command.Resume = withControl v (resume (v .control))
 firstCycle v p command.ClearStatus = clearStatus v
 firstCycle v p command.SetUpProgram = setUp v setup.Program
 firstCycle v p command.SetUpErase = setUp v setup.Erase
@@ -213,15 +216,21 @@ firstLoaded n w = tabulate 32 (λ i. cond (eqb i 0) w (cond (ltb i n) 0xFFFF 0))
 unfoldable pub wordsLoaded : ℕ → ℕ → ℕ → Place → ℕ → Running → List ℕ → List ℕ
 wordsLoaded l n due p w r bs = cond (eqb due 0) (keptIf (runs r) bs) (keptIf (laterRight l n p) (set bs (p .location - l) w))
 
--- what a cycle of a word w makes of the buffer, by the set-up that was pending: a load's data cycles put it in
-unfoldable pub loaded : Geometry → Setup → Place → ℕ → Running → List ℕ → List ℕ
-loaded g setup.Nothing p w r bs = bs
-loaded g setup.Program p w r bs = bs
-loaded g setup.Erase p w r bs = bs
-loaded g setup.Lock p w r bs = bs
-loaded g (setup.BufferCount b) p w r bs = bs
-loaded g (setup.BufferFirst b n) p w r bs = cond (firstRight g b n p) (firstLoaded n w) bs
-loaded g (setup.BufferWords l n due) p w r bs = wordsLoaded l n due p w r bs
+-- the words of a buffer program that was suspended are in use after a first cycle, with a under way then, where it is still suspended or runs: D0h without supply ends it
+unfoldable pub heldAfter : SuspendedProgram → Activity → List ℕ → List ℕ
+heldAfter program.Nothing a bs = bs
+heldAfter (program.Program l w) a bs = bs
+heldAfter (program.Buffer l n d) a bs = keptIf (programSuspended (a .program) || runs (a .running)) bs
+
+-- what a cycle of a word w makes of the buffer, by the set-up that was pending and the program q that was suspended, with a under way after it: a load's data cycles put the word in
+unfoldable pub loaded : Geometry → Setup → SuspendedProgram → Place → ℕ → Activity → List ℕ → List ℕ
+loaded g setup.Nothing q p w a bs = heldAfter q a bs
+loaded g setup.Program q p w a bs = bs
+loaded g setup.Erase q p w a bs = bs
+loaded g setup.Lock q p w a bs = bs
+loaded g (setup.BufferCount b) q p w a bs = bs
+loaded g (setup.BufferFirst b n) q p w a bs = cond (firstRight g b n p) (firstLoaded n w) bs
+loaded g (setup.BufferWords l n due) q p w a bs = wordsLoaded l n due p w (a .running) bs
 
 -- ---- the state
 
@@ -229,13 +238,13 @@ loaded g (setup.BufferWords l n due) p w r bs = wordsLoaded l n due p w r bs
 abbrev pub cycleAt : State → Place → ℕ → View
 cycleAt s p w = cycle (geometry s) (viewAt s p) (s .control .activity .setup) p w
 
--- the buffer after it, where r runs after it
-abbrev pub loadedAt : State → Place → ℕ → Running → List ℕ
-loadedAt s p w r = loaded (geometry s) (s .control .activity .setup) p w r (s .buffer)
+-- the buffer after it, with a under way after it
+abbrev pub loadedAt : State → Place → ℕ → Activity → List ℕ
+loadedAt s p w a = loaded (geometry s) (s .control .activity .setup) (s .control .activity .program) p w a (s .buffer)
 
 -- the state after a write of the word w at a place, and to an address
 unfoldable pub writtenAt : State → Place → ℕ → State
-writtenAt s p w = withBuffer (withView s p (cycleAt s p w)) (loadedAt s p w (cycleAt s p w .control .activity .running))
+writtenAt s p w = withBuffer (withView s p (cycleAt s p w)) (loadedAt s p w (cycleAt s p w .control .activity))
 
 unfoldable pub written : State → ℕ → ℕ → State
 written s address w = writtenAt s (placeOf (geometry s) address) w

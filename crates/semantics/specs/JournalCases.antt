@@ -1,0 +1,109 @@
+-- Journals that the recorder draws up from steps alone: document 01, "The journal", and document 02, item 5. The checker computes each from the recorder's rules, with no device in it.
+-- Assumes nothing.
+use Prim.Native.Nat.{ℕ}
+use mathlib.Core.Bool.{true, false}
+use mathlib.Core.List.{List, [], _∷_, _++_, map}
+use mathlib.Core.Path.{_≡_, refl}
+use Rattle.geometry.specs.declared.Part.the-variants.{BenchBottom}
+use Rattle.geometry.specs.Blocks.{geometryOf, mirror, blockFrom, blockOf, sizeOf, startFrom, startOf}
+use Rattle.semantics.specs.declared.Step.{Step}
+use Rattle.semantics.specs.declared.Step.the-variants.{Read, Write, Work, Supply, Reset}
+use Rattle.semantics.specs.Entries.{Entry, entry, running, suspended, finished, broken-off}
+use Rattle.semantics.specs.Recorder.{Operation, program, erase, buffer, journalOf}
+
+infix 20 _⟶_
+-- steps from power-up of the bench bottom part, and the journal of them, the latest entry first
+pub data Case : Type 0 where
+  _⟶_ : List Step → List (Entry Operation) → Case
+
+abbrev pub drawn : Case → List (Entry Operation)
+drawn (l ⟶ j) = journalOf (geometryOf BenchBottom) l
+
+abbrev pub expected : Case → List (Entry Operation)
+expected (l ⟶ j) = j
+
+-- ---- steps: supply on, and blocks 4 (40h to 7Fh) and 5 (80h to BFh) unprotected; an erase of block 4; a program, and a buffer program of two words, in block 5; what D0h, B0h and supply off are
+
+abbrev cycles : ℕ → ℕ → ℕ → List Step
+cycles a c w = Write a c ∷ Write a w ∷ []
+
+abbrev ready : List Step
+ready = Supply true ∷ cycles 0x40 0x60 0xD0 ++ cycles 0x80 0x60 0xD0
+
+abbrev erases : List Step
+erases = cycles 0x40 0x20 0xD0
+
+abbrev programs : List Step
+programs = cycles 0x80 0x40 0x1234
+
+abbrev loads : List Step
+loads = cycles 0x80 0xE8 1 ++ Write 0x80 0xAAAA ∷ Write 0x81 0xBBBB ∷ []
+
+abbrev two : List Step
+two = loads ++ Write 0x80 0xD0 ∷ []
+
+abbrev words : List ℕ
+words = 0xAAAA ∷ 0xBBBB ∷ []
+
+abbrev pause : List Step
+pause = Write 0x0 0xB0 ∷ []
+
+abbrev resume : List Step
+resume = Write 0x0 0xD0 ∷ []
+
+abbrev on : List Step
+on = Supply true ∷ []
+
+abbrev off : List Step
+off = Supply false ∷ []
+
+abbrev work : ℕ → List Step
+work n = Work n ∷ []
+
+abbrev pub journals : List Case
+journals =
+    -- "the running entry .. gets the lesser of n and the units it lacks"; "Lacking none, it is finished"
+    (ready ++ erases ++ work 10 ⟶ entry (erase 4) 10 running ∷ [])
+    ∷ (ready ++ erases ++ work 10 ++ work 65535 ⟶ entry (erase 4) 64 finished ∷ [])
+    ∷ (ready ++ programs ++ work 5 ++ two ++ work 5 ⟶ entry (buffer 0x80 words) 2 finished ∷ entry (program 0x80 0x1234) 1 finished ∷ [])
+    -- "When supply goes off, a running operation ends then and there .. Demand 3 counts such an entry as unfinished": for good, and the units that it had stay
+    ∷ (ready ++ erases ++ work 10 ++ off ⟶ entry (erase 4) 10 broken-off ∷ [])
+    ∷ (ready ++ erases ++ work 10 ++ off ++ on ++ resume ++ work 65535 ⟶ entry (erase 4) 10 broken-off ∷ [])
+    ∷ (ready ++ programs ++ off ++ on ++ resume ++ work 5 ⟶ entry (program 0x80 0x1234) 0 broken-off ∷ [])
+    ∷ (ready ++ two ++ work 1 ++ off ++ on ++ resume ++ work 5 ⟶ entry (buffer 0x80 words) 1 broken-off ∷ [])
+    -- a new one is a new entry
+    ∷ (ready ++ programs ++ off ++ on ++ programs ++ work 1 ⟶ entry (program 0x80 0x1234) 1 finished ∷ entry (program 0x80 0x1234) 0 broken-off ∷ [])
+    -- a finished one stays finished; supply off a second time, and supply on, break off nothing
+    ∷ (ready ++ programs ++ work 1 ++ off ++ off ⟶ entry (program 0x80 0x1234) 1 finished ∷ [])
+    ∷ (ready ++ erases ++ work 10 ++ on ⟶ entry (erase 4) 10 running ∷ [])
+    ∷ (ready ++ erases ++ work 10 ++ pause ++ on ⟶ entry (erase 4) 10 suspended ∷ [])
+    -- "Suspended ones stay", and go on where they are resumed with supply on
+    ∷ (ready ++ erases ++ work 10 ++ pause ++ off ⟶ entry (erase 4) 10 suspended ∷ [])
+    ∷ (ready ++ erases ++ work 10 ++ pause ++ off ++ on ++ resume ++ work 65535 ⟶ entry (erase 4) 64 finished ∷ [])
+    ∷ (ready ++ programs ++ pause ++ off ++ on ++ resume ⟶ entry (program 0x80 0x1234) 0 running ∷ [])
+    ∷ (ready ++ two ++ work 1 ++ pause ++ off ⟶ entry (buffer 0x80 words) 1 suspended ∷ [])
+    -- "resumed without supply, they end": each alone, and the program before the erase
+    ∷ (ready ++ erases ++ work 10 ++ pause ++ off ++ resume ⟶ entry (erase 4) 10 broken-off ∷ [])
+    ∷ (ready ++ programs ++ pause ++ off ++ resume ++ on ++ resume ++ work 5 ⟶ entry (program 0x80 0x1234) 0 broken-off ∷ [])
+    ∷ (ready ++ two ++ work 1 ++ pause ++ off ++ resume ++ on ++ resume ++ work 5 ⟶ entry (buffer 0x80 words) 1 broken-off ∷ [])
+    ∷ (ready ++ erases ++ work 10 ++ pause ++ programs ++ pause ++ off ++ resume ⟶ entry (program 0x80 0x1234) 0 broken-off ∷ entry (erase 4) 10 suspended ∷ [])
+    ∷ (ready ++ erases ++ work 10 ++ pause ++ programs ++ pause ++ off ++ resume ++ resume ⟶ entry (program 0x80 0x1234) 0 broken-off ∷ entry (erase 4) 10 broken-off ∷ [])
+    ∷ (ready ++ erases ++ work 10 ++ pause ++ two ++ pause ++ off ++ resume ++ on ++ resume ++ work 65535 ⟶ entry (buffer 0x80 words) 0 broken-off ∷ entry (erase 4) 64 finished ∷ [])
+    -- a program that runs beside a suspended erase is broken off alone
+    ∷ (ready ++ erases ++ work 10 ++ pause ++ programs ++ off ⟶ entry (program 0x80 0x1234) 0 broken-off ∷ entry (erase 4) 10 suspended ∷ [])
+    -- what D0h confirms or unprotects is no resume
+    ∷ (ready ++ erases ++ work 10 ++ pause ++ off ++ cycles 0xC0 0x60 0xD0 ⟶ entry (erase 4) 10 suspended ∷ [])
+    -- a set-up stays, and meets the supply at its second cycle, and so does a load
+    ∷ (ready ++ Write 0x80 0x40 ∷ off ++ Write 0x80 0x1234 ∷ [] ⟶ [])
+    ∷ (ready ++ Write 0x80 0x40 ∷ off ++ on ++ Write 0x80 0x1234 ∷ [] ⟶ entry (program 0x80 0x1234) 0 running ∷ [])
+    ∷ (ready ++ Write 0x40 0x20 ∷ off ++ on ++ Write 0x40 0xD0 ∷ [] ⟶ entry (erase 4) 0 running ∷ [])
+    ∷ (ready ++ loads ++ off ++ Write 0x80 0xD0 ∷ [] ⟶ [])
+    ∷ (ready ++ loads ++ off ++ on ++ Write 0x80 0xD0 ∷ [] ⟶ entry (buffer 0x80 words) 0 running ∷ [])
+    -- reset breaks off all that is under way, whatever the supply
+    ∷ (ready ++ erases ++ work 10 ++ pause ++ programs ++ Reset ∷ [] ⟶ entry (program 0x80 0x1234) 0 broken-off ∷ entry (erase 4) 10 broken-off ∷ [])
+    ∷ (ready ++ erases ++ work 10 ++ pause ++ off ++ Reset ∷ on ++ resume ⟶ entry (erase 4) 10 broken-off ∷ [])
+    ∷ []
+
+pub journals-hold : map drawn journals ≡ map expected journals
+unfolding mirror blockFrom blockOf sizeOf startFrom startOf
+journals-hold = refl
