@@ -1,126 +1,128 @@
--- "Left running, a program ends at 1 unit and an erase at the size of its block, counted over all work steps."
+-- "Left running, a program ends at 1 unit and an erase at the size of its block, counted over all work steps.", and document 02, item 5: "the progress sentence in 01 needs it on throughout", the
+-- supply. One operation is followed, through the stretches in which it is suspended too. A list may hold any step but two: a reset, and the supply going off.
 -- Assumes nothing.
-use mathlib.Core.Path.{_≡_, refl, sym, ap, _∙_, subst}
+use mathlib.Core.Path.{_≡_, refl, sym, ap, _∙_}
 use mathlib.Core.List.{List, [], _∷_}
-use mathlib.Core.Bool.{Bool, true, false, cond, not, true≢false}
+use mathlib.Core.Bool.{Bool, true, false, cond, not, _&&_, _||_, true≢false, false≢true}
 use mathlib.Core.Logic.{_⊎_, inl, inr}
 use Prim.Native.Nat.{ℕ, _+_, _-_, _≤_, _<_, _%_, min}
 use native.Mathlib.Omega.{arith}
 use lib.Dec.{ltb, leb, eqb}
 use lib.ListN.{length}
-use borrow.Author.Tests.{ltb-true, ltb-false, lt-ltb, le-ltb, le-leb, lt-leb, ne-eqb}
+use borrow.Author.Tests.{ltb-true, ltb-false, lt-ltb, le-ltb, le-leb, lt-leb, eqb-true, eqb-false}
 use Rattle.geometry.specs.declared.Part.{Part}
 use Rattle.geometry.specs.declared.Geometry.{Geometry}
-use Rattle.geometry.specs.Blocks.{geometryOf, words, blocks, sizeOf}
+use Rattle.geometry.specs.Blocks.{geometryOf, words, location, blockOf, startOf, sizeOf}
 use Rattle.geometry.specs.Laws as laws
-use Rattle.semantics.specs.declared.Setup.{Setup}
-use Rattle.semantics.specs.declared.Setup.the-variants as setup
 use Rattle.semantics.specs.declared.Running.{Running}
 use Rattle.semantics.specs.declared.Running.the-variants as running
+use Rattle.semantics.specs.declared.SuspendedProgram.{SuspendedProgram}
+use Rattle.semantics.specs.declared.SuspendedProgram.the-variants as program
+use Rattle.semantics.specs.declared.SuspendedErase.{SuspendedErase}
+use Rattle.semantics.specs.declared.SuspendedErase.the-variants as erase
 use Rattle.semantics.specs.declared.Activity.{Activity}
-use Rattle.semantics.specs.declared.Command.{Command}
-use Rattle.semantics.specs.declared.Command.the-variants as command
 use Rattle.semantics.specs.declared.State.{State}
 use Rattle.semantics.specs.declared.Step.{Step}
 use Rattle.semantics.specs.declared.Step.the-variants.{Read, Write, Work, Supply, Reset}
 use Rattle.semantics.specs.declared.Answer.the-variants.{Refused}
-use Rattle.semantics.specs.declared.Place.{Place}
-use Rattle.semantics.specs.declared.View.{View}
-use Rattle.semantics.specs.State.{geometry, runs}
-use Rattle.semantics.specs.View.{placeOf, viewAt}
-use Rattle.semantics.specs.WellFormed.{pending, runningAlone, programAlone, eraseAlone, eraseFits, wordsFit, bufferFits, setupFits, runningFits, allFit, activityFormed, wellFormed}
-use Rattle.semantics.specs.Writing.{commandOf, resume, accepts, setUp, clearStatus, firstCycle, cycle, writtenAt, written}
-use Rattle.semantics.specs.Working.{unitsLeft, unitsDone, runningAfter, workedOn, worked}
-use Rattle.semantics.specs.Steps.{stepRefusal, stateRefusal, refusalOf, next, accepted, stepOf, Machine, after, afterAll, fresh}
-use Rattle.semantics.specs.Engine.{and-true-l, and-true-r, not-true}
-use Rattle.semantics.specs.Invariant.{kept-step, state-good, step-done, count-good, count-bad, step-refused, length-kept}
+use Rattle.semantics.specs.declared.Next.{Next}
+use Rattle.semantics.specs.Numbers.{within}
+use Rattle.semantics.specs.State.{geometry, activity, programSuspended, eraseSuspended}
+use Rattle.semantics.specs.Buffer.{words-length}
+use Rattle.semantics.specs.WellFormed.{activityFormed, wellFormed}
+use Rattle.semantics.specs.Working.{unitsLeft, unitsDone, workedOn, worked}
+use Rattle.semantics.specs.Steps.{stepRefusal, stateRefusal, refusalOf, next, accepted, stepOf, arrayOf, Machine, after, afterAll, fresh}
+use Rattle.semantics.specs.Entries as entries
+use Rattle.semantics.specs.Entries.{Entry, Live, live, anyLive}
+use Rattle.semantics.specs.Recorder as recorder
+use Rattle.semantics.specs.Recorder.{Operation, Setup, Event, nothing, supplied, was-reset, units, suspend, resume-program, resume-erase, end-program, end-erase, setup-is, unprotected-is, accept}
+use Rattle.semantics.specs.Recorder.{Conditions, conditions-after, rule, len, kinds, isProgram, isErase, isAny, first-cycle, goes-on, confirm-cycle, cycle, acceptable, Command, commandOf, suspend-command, resume-command, program-command, lock-command, erase-command, buffer-command, other-command, no-setup, program-setup, erase-setup, lock-setup, count-setup, first-setup, words-setup}
+use Rattle.semantics.specs.Engine.{Engine, engine, busy, stack, held?, engine-after, engine-worked, Order, Sim, Ok, ok-nothing, ok-supplied, ok-was-reset, ok-units, ok-suspend, ok-resume-program, ok-resume-erase, ok-end-program, ok-end-erase, ok-setup, ok-unprotected, ok-program, ok-erase, rule-ok, and-true-l, or-false-l, or-false-r}
+use Rattle.semantics.specs.Follows.{conditions, addErase, addProgram, addRunning, underWay, underWayOf, underWayIn, eventOf, Together}
+use Rattle.semantics.specs.Formed.{own, formed-own, together}
+use Rattle.semantics.specs.Supplied.{of-cond}
+use Rattle.semantics.specs.Invariant.{Steps, Fit, kept-step, agree-fit, steps, state-good, step-done, count-good, count-bad, step-refused, length-kept}
 use Rattle.semantics.specs.Theorem.{reached, reached-formed}
 use Rattle.semantics.specs.Kept.{keeps}
-use Rattle.semantics.specs.Leaves.{read-changes-nothing}
 use Rattle.semantics.specs.Flags.{toldBy}
 
--- an erase or a buffer program that runs has a word left
-abbrev Whole : Geometry → Running → Type 0
-Whole g running.Idle = Unit {0}
-Whole g (running.Program l w) = Unit {0}
-Whole g (running.Erase b n) = n < sizeOf g b
-Whole g (running.Buffer l n d) = d < n
+-- ---- the operation that is followed
+
+-- at most one program, of a word or of a buffer, and at most one erase is under way at a time: one of the two is followed
+pub data Followed : Type 0 where
+  the-program the-erase : Followed
+
+-- it runs
+abbrev pub runsNow : Followed → Running → Bool
+runsNow k running.Idle = false
+runsNow the-program (running.Program l w) = true
+runsNow the-erase (running.Program l w) = false
+runsNow the-program (running.Erase b n) = false
+runsNow the-erase (running.Erase b n) = true
+runsNow the-program (running.Buffer l n d) = true
+runsNow the-erase (running.Buffer l n d) = false
+
+-- it runs or is suspended
+abbrev pub lives : Followed → Running → SuspendedProgram → SuspendedErase → Bool
+lives the-program r p e = runsNow the-program r || programSuspended p
+lives the-erase r p e = runsNow the-erase r || eraseSuspended e
 
 module _ (g : Geometry) where
-  -- n units leave n fewer to do, and an operation with none left has ended
-  left-after : (r : Running) (n : ℕ) → Whole g r → unitsLeft g (runningAfter g r (unitsDone g r n)) ≡ unitsLeft g r - n
-  unfolding unitsLeft runningAfter unitsDone
-  left-after running.Idle n h = omega arith
-  left-after (running.Program l w) n h = go (ltb (min n 1) 1) refl
-    where
-      go : (b : Bool) → ltb (min n 1) 1 ≡ b → unitsLeft g (cond b (running.Program l w) running.Idle) ≡ 1 - n
-      go true e = omega (arith, ltb-true (min n 1) 1 e)
-      go false e = omega (arith, ltb-false (min n 1) 1 e)
-  left-after (running.Erase b k) n h = go (ltb (k + min n (sizeOf g b - k)) (sizeOf g b)) refl
-    where
-      m : ℕ
-      m = k + min n (sizeOf g b - k)
+  -- the units that it lacks: of a suspended program, of a suspended erase, and of whichever runs
+  abbrev pub programLeft : SuspendedProgram → ℕ
+  programLeft program.Nothing = 0
+  programLeft (program.Program l w) = 1
+  programLeft (program.Buffer l n d) = n - d
 
-      go : (t : Bool) → ltb m (sizeOf g b) ≡ t → unitsLeft g (cond t (running.Erase b m) running.Idle) ≡ sizeOf g b - k - n
-      go true e = omega (arith, ltb-true m (sizeOf g b) e)
-      go false e = omega (arith, ltb-false m (sizeOf g b) e)
-  left-after (running.Buffer l c k) n h = go (ltb (k + min n (c - k)) c) refl
-    where
-      m : ℕ
-      m = k + min n (c - k)
+  abbrev pub eraseLeft : SuspendedErase → ℕ
+  eraseLeft erase.Nothing = 0
+  eraseLeft (erase.Erase b n) = sizeOf g b - n
 
-      go : (t : Bool) → ltb m c ≡ t → unitsLeft g (cond t (running.Buffer l c m) running.Idle) ≡ c - k - n
-      go true e = omega (arith, ltb-true m c e)
-      go false e = omega (arith, ltb-false m c e)
+  abbrev pub suspendedLeft : Followed → SuspendedProgram → SuspendedErase → ℕ
+  suspendedLeft the-program p e = programLeft p
+  suspendedLeft the-erase p e = eraseLeft e
 
-  -- something runs exactly where units are left
-  runs-left : (r : Running) → Whole g r → runs r ≡ ltb 0 (unitsLeft g r)
-  unfolding unitsLeft
-  runs-left running.Idle h = refl
-  runs-left (running.Program l w) h = refl
-  runs-left (running.Erase b k) h = sym (lt-ltb 0 (sizeOf g b - k) (omega arith))
-  runs-left (running.Buffer l n k) h = sym (lt-ltb 0 (n - k) (omega arith))
+  abbrev pub leftOf : Followed → Running → SuspendedProgram → SuspendedErase → ℕ
+  leftOf k r p e = cond (runsNow k r) (unitsLeft g r) (suspendedLeft k p e)
 
-  idle-units : (r : Running) → Whole g r → runningAfter g r (unitsDone g r 0) ≡ r
-  unfolding runningAfter unitsDone unitsLeft
-  idle-units running.Idle h = refl
-  idle-units (running.Program l w) h = refl
-  idle-units (running.Erase b k) h =
-      let z : k + min 0 (sizeOf g b - k) ≡ k = omega arith in
-      rw (z, lt-ltb k (sizeOf g b) h)
-  idle-units (running.Buffer l n k) h =
-      let z : k + min 0 (n - k) ≡ k = omega arith in
-      rw (z, lt-ltb k n h)
+-- the same of a device's state
+abbrev pub livesIn : Followed → State → Bool
+livesIn k s = lives k (s .control .activity .running) (s .control .activity .program) (s .control .activity .erase)
 
--- the steps that leave what runs running: work, reads and supply; and, while something runs, every write but B0h
-abbrev pub Leaves : State → Step → Type 0
-Leaves s (Read a) = Unit {0}
-Leaves s (Write a w) = (runs (s .control .activity .running) ≡ true) × (w % 256 ≡ 0xB0 → ⊥)
-Leaves s (Work n) = Unit {0}
-Leaves s (Supply on) = Unit {0}
-Leaves s Reset = ⊥
+abbrev pub leftIn : Followed → State → ℕ
+leftIn k s = leftOf (geometry s) k (s .control .activity .running) (s .control .activity .program) (s .control .activity .erase)
 
--- each step of a list is such a step of the state that it finds
-abbrev pub LeavesAll : Machine → List Step → Type 0
-LeavesAll m [] = Unit {0}
-LeavesAll m (x ∷ l) = Leaves (m .state) x × LeavesAll (after m x) l
+-- the units that a step offers it: those of a work step that is not refused, while it runs
+abbrev pub offered : Followed → State → Step → ℕ
+offered k s (Read a) = 0
+offered k s (Write a w) = 0
+offered k s (Work n) = cond (runsNow k (s .control .activity .running)) (cond (leb n 65535) n 0) 0
+offered k s (Supply on) = 0
+offered k s Reset = 0
 
--- the units that a step offers: a refused count offers none
-abbrev pub offered : Step → ℕ
-offered (Read a) = 0
-offered (Write a w) = 0
-offered (Work n) = cond (leb n 65535) n 0
-offered (Supply on) = 0
-offered Reset = 0
+-- the units that a step's answer tells of, while it runs
+abbrev pub told : Followed → Machine → Step → ℕ
+told k m x = cond (runsNow k (m .state .control .activity .running)) (toldBy (stepOf (m .state) (m .array) x .answer)) 0
 
-abbrev pub offeredAll : List Step → ℕ
-offeredAll [] = 0
-offeredAll (x ∷ l) = offered x + offeredAll l
+-- both over a list, until it ends; and whether it lives on through the list
+abbrev pub offeredAll : Followed → Machine → List Step → ℕ
+offeredAll k m [] = 0
+offeredAll k m (x ∷ l) = offered k (m .state) x + cond (livesIn k (after m x .state)) (offeredAll k (after m x) l) 0
 
--- the units that the answers tell of
-abbrev pub toldAll : Machine → List Step → ℕ
-toldAll m [] = 0
-toldAll m (x ∷ l) = toldBy (stepOf (m .state) (m .array) x .answer) + toldAll (after m x) l
+abbrev pub toldAll : Followed → Machine → List Step → ℕ
+toldAll k m [] = 0
+toldAll k m (x ∷ l) = told k m x + cond (livesIn k (after m x .state)) (toldAll k (after m x) l) 0
+
+abbrev pub livesAll : Followed → Machine → List Step → Bool
+livesAll k m [] = true
+livesAll k m (x ∷ l) = livesIn k (after m x .state) && livesAll k (after m x) l
+
+-- no step resets, and none switches the supply off: every other step a list may hold, refused ones too
+abbrev pub Lasting : List Step → Type 0
+Lasting [] = Unit {0}
+Lasting (x ∷ l) = (x ≡ Reset → ⊥) × (x ≡ Supply false → ⊥) × Lasting l
+
+-- ---- states with nothing wrong
 
 -- a device's state, on an array, with nothing wrong
 pub record Good (m : Machine) : Type 0 where
@@ -146,164 +148,318 @@ good-after m x o =
       formed = keeps (m .state) (m .array) x (o .five) (o .thirty-two) (o .formed);
     }
 
--- what is well formed, by the two parts that are used here
-formed-alone : (s : State) → wellFormed s ≡ true → runningAlone (s .control .activity) ≡ true
-unfolding wellFormed activityFormed
-formed-alone s f = and-true-l (runningAlone (s .control .activity)) _ (and-true-l (activityFormed (geometry s) (s .control .activity)) _ f)
+-- ---- what an event makes of the operation, on the stack of those that are under way
 
-formed-fits : (s : State) → wellFormed s ≡ true → runningFits (geometry s) (s .control .activity .running) ≡ true
-unfolding wellFormed activityFormed allFit
-formed-fits s f =
-    and-true-l (runningFits (geometry s) (s .control .activity .running)) _
-    (and-true-r (setupFits (geometry s) (s .control .activity .setup)) _ (and-true-l (allFit (geometry s) (s .control .activity)) _
-    (and-true-r (eraseAlone (s .control .activity)) _ (and-true-r (programAlone (s .control .activity)) _ (and-true-r (runningAlone (s .control .activity)) _ (and-true-l (activityFormed (geometry s) (s .control .activity)) _ f))))))
+abbrev isOf : Followed → Operation → Bool
+isOf the-program o = isProgram o
+isOf the-erase o = isErase o
 
-fits-whole : (g : Geometry) (r : Running) → runningFits g r ≡ true → Whole g r
-unfolding runningFits eraseFits bufferFits
-fits-whole g running.Idle h = tt
-fits-whole g (running.Buffer l n d) h = ltb-true d n (and-true-r (wordsFit g l n) _ h)
-fits-whole g (running.Program l w) h = tt
-fits-whole g (running.Erase b n) h = ltb-true n (sizeOf g b) (and-true-r (ltb b (blocks g)) _ h)
+-- events of steps that are no work, no reset and no loss of supply
+abbrev Mild : Event → Type 0
+Mild nothing = Unit {0}
+Mild (supplied true) = Unit {0}
+Mild (supplied false) = ⊥
+Mild was-reset = ⊥
+Mild (units n) = ⊥
+Mild suspend = Unit {0}
+Mild resume-program = Unit {0}
+Mild resume-erase = Unit {0}
+Mild end-program = ⊥
+Mild end-erase = ⊥
+Mild (setup-is s) = Unit {0}
+Mild (unprotected-is b o) = Unit {0}
+Mild (accept o) = Unit {0}
 
-good-whole : (m : Machine) → Good m → Whole (geometry (m .state)) (m .state .control .activity .running)
-good-whole m o = fits-whole (geometry (m .state)) (m .state .control .activity .running) (formed-fits (m .state) (o .formed))
+mild-supply : (v : Event) (d : Conditions) → Mild v → d .supply ≡ true → conditions-after v d .supply ≡ true
+mild-supply nothing d m h = h
+mild-supply (supplied true) d m h = refl
+mild-supply (supplied false) d m h = absurd m
+mild-supply was-reset d m h = absurd m
+mild-supply (units n) d m h = absurd m
+mild-supply suspend d m h = h
+mild-supply resume-program d m h = h
+mild-supply resume-erase d m h = h
+mild-supply end-program d m h = absurd m
+mild-supply end-erase d m h = absurd m
+mild-supply (setup-is s) d m h = h
+mild-supply (unprotected-is b o) d m h = h
+mild-supply (accept o) d m h = h
 
--- while something runs no set-up is pending
-no-setup : (a : Activity) → runningAlone a ≡ true → runs (a .running) ≡ true → a .setup ≡ setup.Nothing
-unfolding runningAlone
-no-setup a h r = none (a .setup) (not-true _ (and-true-l (not (pending (a .setup))) _ (rw r at h)))
-  where
-    none : (c : Setup) → pending c ≡ false → c ≡ setup.Nothing
-    none setup.Nothing e = refl
-    none setup.Program e = absurd (true≢false e)
-    none setup.Erase e = absurd (true≢false e)
-    none setup.Lock e = absurd (true≢false e)
-    none (setup.BufferCount b) e = absurd (true≢false e)
-    none (setup.BufferFirst b n) e = absurd (true≢false e)
-    none (setup.BufferWords l n due) e = absurd (true≢false e)
+module _ (g : Geometry) (d : Conditions) (r : Bool) (h : (Operation → Bool) → Bool) (on : d .supply ≡ true) where
+  mild-first : (b : ℕ) (c : Command) → Mild (first-cycle g d r h b c)
+  mild-first b suspend-command = of-cond Mild r _ _ tt tt
+  mild-first b resume-command = rw on (of-cond Mild r _ _ tt (of-cond Mild (h isProgram) _ _ tt (of-cond Mild (h isErase) _ _ tt tt)))
+  mild-first b program-command = of-cond Mild (r || h isProgram) _ _ tt tt
+  mild-first b lock-command = of-cond Mild (r || h isProgram) _ _ tt tt
+  mild-first b erase-command = of-cond Mild (r || h isAny) _ _ tt tt
+  mild-first b buffer-command = of-cond Mild (r || h isProgram) _ _ tt tt
+  mild-first b other-command = tt
 
--- ---- a write while something runs
+  mild-cycle : (p : Setup) (l c w : ℕ) → Mild (cycle g d r h p l c w)
+  mild-cycle no-setup l c w = mild-first (blockOf g l) (commandOf c)
+  mild-cycle lock-setup l c w = of-cond Mild (eqb c 0xD0) _ _ tt (of-cond Mild (eqb c 0x01) _ _ tt tt)
+  mild-cycle program-setup l c w = of-cond Mild (acceptable g d r h (blockOf g l)) _ _ tt tt
+  mild-cycle erase-setup l c w = of-cond Mild (eqb c 0xD0 && acceptable g d r h (blockOf g l)) _ _ tt tt
+  mild-cycle (count-setup b) l c w = of-cond Mild (eqb (blockOf g l) b && leb w 31) _ _ tt tt
+  mild-cycle (first-setup b n) l c w = of-cond Mild (eqb (blockOf g l) b && leb (l + n) (startOf g b + sizeOf g b)) _ _ tt tt
+  mild-cycle (words-setup t ws due) l c w =
+      of-cond Mild (eqb due 0) _ _ (of-cond Mild ((eqb c 0xD0 && eqb (blockOf g l) (blockOf g t)) && acceptable g d r h (blockOf g l)) _ _ tt tt) (of-cond Mild (within t (length ws) l) _ _ tt tt)
 
-abbrev isSuspend : Command → Bool
-isSuspend command.ReadArray = false
-isSuspend command.ReadStatus = false
-isSuspend command.ReadSignature = false
-isSuspend command.ReadQuery = false
-isSuspend command.Suspend = true
-isSuspend command.Resume = false
-isSuspend command.ClearStatus = false
-isSuspend command.SetUpProgram = false
-isSuspend command.SetUpErase = false
-isSuspend command.SetUpLock = false
-isSuspend command.SetUpBuffer = false
-isSuspend command.Unknown = false
+module _ (g : Geometry) where
+  -- the units that it lacks
+  abbrev lacks : Followed → List (Live Operation) → ℕ
+  lacks k [] = 0
+  lacks k (live o u ∷ s) = cond (isOf k o) (len g o - u + lacks k s) (lacks k s)
 
-either-not : (b : Bool) (x y : Command) → isSuspend x ≡ false → isSuspend y ≡ false → isSuspend (cond b x y) ≡ false
-either-not true x y p q = p
-either-not false x y p q = q
+  -- it runs
+  abbrev top : Followed → Engine → Bool
+  top k (engine false s) = false
+  top k (engine true []) = false
+  top k (engine true (live o u ∷ s)) = isOf k o
 
-only-B0 : (c : ℕ) → (c ≡ 0xB0 → ⊥) → isSuspend (commandOf c) ≡ false
-unfolding commandOf
-only-B0 c n =
-    rw (ne-eqb c 0xB0 n)
-    (either-not (eqb c 0xFF) _ _ refl (either-not (eqb c 0x70) _ _ refl (either-not (eqb c 0x90) _ _ refl (either-not (eqb c 0x98) _ _ refl
-    (either-not (eqb c 0xD0) _ _ refl (either-not (eqb c 0x50) _ _ refl (either-not (eqb c 0x10) _ _ refl (either-not (eqb c 0x40) _ _ refl
-    (either-not (eqb c 0x60) _ _ refl (either-not (eqb c 0x20) _ _ refl (either-not (eqb c 0xE8) _ _ refl refl)))))))))))
+  none-lacks : (k : Followed) (s : List (Live Operation)) → anyLive (isOf k) s ≡ false → lacks k s ≡ 0
+  none-lacks k [] h = refl
+  none-lacks k (live o u ∷ s) h = rw (or-false-l (isOf k o) _ h) (none-lacks k s (or-false-r (isOf k o) _ h))
 
-running-cond : (b : Bool) (r : Running) (x y : View) → x .control .activity .running ≡ r → y .control .activity .running ≡ r → (cond b x y) .control .activity .running ≡ r
-running-cond true r x y p q = p
-running-cond false r x y p q = q
-
-running-setup : (v : View) (c : Setup) → setUp v c .control .activity .running ≡ v .control .activity .running
-unfolding setUp
-running-setup v c = running-cond (accepts (v .control .activity) c) _ _ _ refl refl
-
--- while something runs, every command but B0h leaves it running
-running-first : (v : View) (p : Place) (c : Command) → isSuspend c ≡ false → runs (v .control .activity .running) ≡ true → firstCycle v p c .control .activity .running ≡ v .control .activity .running
-unfolding firstCycle clearStatus resume
-running-first v p command.ReadArray n r = refl
-running-first v p command.ReadStatus n r = refl
-running-first v p command.ReadSignature n r = refl
-running-first v p command.ReadQuery n r = refl
-running-first v p command.Suspend n r = absurd (true≢false n)
-running-first v p command.Resume n r = rw r
-running-first v p command.ClearStatus n r = running-cond (runs (v .control .activity .running)) _ _ _ refl refl
-running-first v p command.SetUpProgram n r = running-setup v setup.Program
-running-first v p command.SetUpErase n r = running-setup v setup.Erase
-running-first v p command.SetUpLock n r = running-setup v setup.Lock
-running-first v p command.SetUpBuffer n r = running-setup v (setup.BufferCount (p .block))
-running-first v p command.Unknown n r = refl
-
-running-written : (s : State) (a w : ℕ) → wellFormed s ≡ true → runs (s .control .activity .running) ≡ true → (w % 256 ≡ 0xB0 → ⊥) → written s a w .control .activity .running ≡ s .control .activity .running
-unfolding written writtenAt cycle
-running-written s a w f r n =
-    let p : Place = placeOf (geometry s) a in
-    ap (λ (c : Setup). cycle (geometry s) (viewAt s p) c p w .control .activity .running) (no-setup (s .control .activity) (formed-alone s f) r)
-    ∙ running-first (viewAt s p) p (commandOf (w % 256)) (only-B0 (w % 256) n) r
-
--- ---- one step, and a list of them
-
--- one such step
-record Moves (s : State) (xs : List ℕ) (x : Step) (n : ℕ) : Type 0 where
-  runs-on : stepOf s xs x .state .control .activity .running ≡ runningAfter (geometry s) (s .control .activity .running) (unitsDone (geometry s) (s .control .activity .running) n)
-  tells : toldBy (stepOf s xs x .answer) ≡ unitsDone (geometry s) (s .control .activity .running) n
-
-module _ (s : State) (xs : List ℕ) (formed : wellFormed s ≡ true) (good : stateRefusal s (length xs) ≡ 0) (whole : Whole (geometry s) (s .control .activity .running)) where
-  none-told : (n : ℕ) → n ≡ 0 → 0 ≡ unitsDone (geometry s) (s .control .activity .running) n
-  unfolding unitsDone
-  none-told n h = omega arith
-
-  moves-work : (n : ℕ) → (65535 < n) ⊎ (n ≤ 65535) → Moves s xs (Work n) (offered (Work n))
-  unfolding stepRefusal accepted workedOn worked
-  moves-work n (inl h) =
-      let e = step-refused s xs good (Work n) 3 (count-bad n h) in
-      subst (λ (k : ℕ). Moves s xs (Work n) k) (sym (ap (λ (b : Bool). cond b n 0) (lt-leb n 65535 h)))
-      (record { runs-on = rw e (sym (idle-units (geometry s) (s .control .activity .running) whole)); tells = rw e (none-told 0 refl) })
-  moves-work n (inr h) =
-      let e = step-done s xs good (Work n) (count-good n h) in
-      subst (λ (k : ℕ). Moves s xs (Work n) k) (sym (ap (λ (b : Bool). cond b n 0) (le-leb n 65535 h))) (record { runs-on = rw e; tells = rw e })
-
-  moves-supply : (on : Bool) → Moves s xs (Supply on) 0
-  unfolding stepRefusal accepted
-  moves-supply on =
-      let e = step-done s xs good (Supply on) refl in
-      record { runs-on = rw e (sym (idle-units (geometry s) (s .control .activity .running) whole)); tells = rw e (none-told 0 refl) }
-
-  moves-read : (a : ℕ) → Moves s xs (Read a) 0
-  unfolding stepOf accepted
-  moves-read a = record {
-    runs-on = ap (λ (t : State). t .control .activity .running) (read-changes-nothing s xs a .0) ∙ sym (idle-units (geometry s) (s .control .activity .running) whole);
-    tells = go (eqb (refusalOf s (length xs) (Read a)) 0) ∙ none-told 0 refl;
-  }
+  -- each of those under way lacks a unit, so that it is under way exactly where it lacks one
+  any-lacks : (k : Followed) (s : List (Live Operation)) → entries.Short (kinds g) s → anyLive (isOf k) s ≡ ltb 0 (lacks k s)
+  any-lacks k [] h = refl
+  any-lacks k (live o u ∷ s) h = go (isOf k o) (any-lacks k s (h .1))
     where
-      go : (b : Bool) → toldBy ((cond b (accepted s xs (Read a)) (next s (Refused (refusalOf s (length xs) (Read a))))) .answer) ≡ 0
-      go true = refl
-      go false = refl
+      go : (b : Bool) → anyLive (isOf k) s ≡ ltb 0 (lacks k s) → (b || anyLive (isOf k) s) ≡ ltb 0 (cond b (len g o - u + lacks k s) (lacks k s))
+      go true e = sym (lt-ltb 0 (len g o - u + lacks k s) (omega (arith, h .0)))
+      go false e = e
 
-  moves-write : (a w : ℕ) → runs (s .control .activity .running) ≡ true → (w % 256 ≡ 0xB0 → ⊥) → Moves s xs (Write a w) 0
-  unfolding stepOf accepted
-  moves-write a w r n = record {
-    runs-on = go (eqb (refusalOf s (length xs) (Write a w)) 0) ∙ sym (idle-units (geometry s) (s .control .activity .running) whole);
-    tells = go₂ (eqb (refusalOf s (length xs) (Write a w)) 0) ∙ none-told 0 refl;
-  }
+  -- an operation that is accepted is not the one that is followed
+  program-lacks : (k : Followed) (e : Engine) (o : Operation) → isErase o ≡ false → busy e ≡ false → held? e isProgram ≡ false → 0 < lacks k (stack e) → lacks k (live o 0 ∷ stack e) ≡ lacks k (stack e)
+  program-lacks k (engine true s) o a x y h = absurd (true≢false x)
+  program-lacks the-program (engine false s) o a x y h = absurd (omega (arith, none-lacks the-program s y))
+  program-lacks the-erase (engine false s) o a x y h = rw a
+
+  nothing-lacks : (k : Followed) (e : Engine) → busy e ≡ false → held? e isAny ≡ false → 0 < lacks k (stack e) → ⊥
+  nothing-lacks k (engine true s) x y h = true≢false x
+  nothing-lacks k (engine false []) x y h = omega arith
+  nothing-lacks k (engine false (live o u ∷ s)) x y h = true≢false y
+
+  -- none but work changes what it lacks
+  mild-lacks : (k : Followed) (c : Setup) (e : Engine) (v : Event) → Mild v → Ok g c (busy e) (held? e) v → 0 < lacks k (stack e) → lacks k (stack (engine-after g v e)) ≡ lacks k (stack e)
+  mild-lacks k c e v m ok-nothing h = refl
+  mild-lacks k c e v m (ok-supplied true) h = refl
+  mild-lacks k c e v m (ok-supplied false) h = absurd m
+  mild-lacks k c e v m ok-was-reset h = absurd m
+  mild-lacks k c e v m (ok-units n) h = absurd m
+  mild-lacks k c e v m (ok-suspend z) h = refl
+  mild-lacks k c e v m (ok-resume-program z x y) h = refl
+  mild-lacks k c e v m (ok-resume-erase z x y w) h = refl
+  mild-lacks k c e v m (ok-end-program z x y) h = absurd m
+  mild-lacks k c e v m (ok-end-erase z x y w) h = absurd m
+  mild-lacks k c e v m (ok-setup t y) h = refl
+  mild-lacks k c e v m (ok-unprotected b o) h = refl
+  mild-lacks k c e v m (ok-program o q a b d x y z) h = program-lacks k e o a x y h
+  mild-lacks k c e v m (ok-erase b q x y z) h = absurd (nothing-lacks k e x y h)
+
+  -- the one below it is of the other kind
+  rest-lacks : (k : Followed) (o : Operation) (u : ℕ) (s : List (Live Operation)) → Order g (live o u ∷ s) → isOf k o ≡ true → lacks k s ≡ 0
+  rest-lacks k o u [] q h = refl
+  rest-lacks the-program o u (live i v ∷ []) q h = rw (q .1)
+  rest-lacks the-erase o u (live i v ∷ []) q h = absurd (true≢false (sym h ∙ q .0))
+  rest-lacks k o u (live i v ∷ (x ∷ s)) q h = absurd q
+
+  -- work gives it what is offered, while it runs
+  work-lacks : (k : Followed) (n : ℕ) (e : Engine) → Order g (stack e) → lacks k (stack (engine-worked g n e)) ≡ lacks k (stack e) - cond (top k e) n 0
+  work-lacks k n (engine false s) q = omega arith
+  work-lacks k n (engine true []) q = omega arith
+  work-lacks k n (engine true (live o u ∷ s)) q = go (eqb v (len g o)) refl (isOf k o) refl
     where
-      go : (b : Bool) → (cond b (accepted s xs (Write a w)) (next s (Refused (refusalOf s (length xs) (Write a w))))) .state .control .activity .running ≡ s .control .activity .running
-      go true = running-written s a w formed r n
-      go false = refl
+      v : ℕ
+      v = entries.given (kinds g) o u n
 
-      go₂ : (b : Bool) → toldBy ((cond b (accepted s xs (Write a w)) (next s (Refused (refusalOf s (length xs) (Write a w))))) .answer) ≡ 0
-      go₂ true = refl
-      go₂ false = refl
+      go : (t : Bool) → eqb v (len g o) ≡ t → (b : Bool) → isOf k o ≡ b
+          → lacks k (stack (cond t (engine false s) (engine true (live o v ∷ s)))) ≡ cond b (len g o - u + lacks k s) (lacks k s) - cond b n 0
+      go true x true y = let z = rest-lacks k o u s q y in omega (arith, eqb-true v (len g o) x)
+      go true x false y = omega arith
+      go false x true y = let z = rest-lacks k o u s q y in rw y (omega arith)
+      go false x false y = rw y (omega arith)
 
-  moves : (x : Step) → Leaves s x → Moves s xs x (offered x)
-  moves (Read a) h = moves-read a
-  moves (Work n) h = moves-work n (laws.order 65535 n)
-  moves (Supply on) h = moves-supply on
-  moves (Write a w) h = moves-write a w (h .0) (h .1)
-  moves Reset h = absurd h
+-- ---- the device
 
-good-moves : (m : Machine) (x : Step) → Leaves (m .state) x → Good m → Moves (m .state) (m .array) x (offered x)
-good-moves m x h o = moves (m .state) (m .array) (o .formed) (state-good (m .state) (length (m .array)) (o .size) (o .formed)) (good-whole m o) x h
+module _ (g : Geometry) (bs : List ℕ) where
+  -- the stack says what the device does: the units that it lacks, whether it runs, and whether it is under way
+  erase-lacks : (k : Followed) (e : SuspendedErase) → lacks g k (addErase e) ≡ suspendedLeft g k program.Nothing e
+  erase-lacks the-program erase.Nothing = refl
+  erase-lacks the-erase erase.Nothing = refl
+  erase-lacks the-program (erase.Erase b n) = refl
+  erase-lacks the-erase (erase.Erase b n) = omega arith
+
+  program-lives : (k : Followed) (p : SuspendedProgram) (e : SuspendedErase) → lacks g k (addProgram bs p (addErase e)) ≡ suspendedLeft g k p e
+  program-lives k program.Nothing e = erase-lacks k e
+  program-lives the-program (program.Program l w) e = omega (arith, erase-lacks the-program e)
+  program-lives the-erase (program.Program l w) e = erase-lacks the-erase e
+  program-lives the-program (program.Buffer l n d) e = omega (arith, erase-lacks the-program e, words-length bs n)
+  program-lives the-erase (program.Buffer l n d) e = erase-lacks the-erase e
+
+  left-lacks : (k : Followed) (r : Running) (p : SuspendedProgram) (e : SuspendedErase) → Together r p e → leftOf g k r p e ≡ lacks g k (stack (underWayOf bs r p e))
+  unfolding unitsLeft
+  left-lacks the-program running.Idle p e m = sym (program-lives the-program p e)
+  left-lacks the-erase running.Idle p e m = sym (program-lives the-erase p e)
+  left-lacks the-program (running.Program l w) program.Nothing e m = omega (arith, erase-lacks the-program e)
+  left-lacks the-erase (running.Program l w) program.Nothing e m = sym (erase-lacks the-erase e)
+  left-lacks k (running.Program l w) (program.Program i v) e m = absurd m
+  left-lacks k (running.Program l w) (program.Buffer i v d) e m = absurd m
+  left-lacks the-program (running.Erase b n) program.Nothing erase.Nothing m = refl
+  left-lacks the-erase (running.Erase b n) program.Nothing erase.Nothing m = omega arith
+  left-lacks k (running.Erase b n) program.Nothing (erase.Erase i v) m = absurd m
+  left-lacks k (running.Erase b n) (program.Program i v) e m = absurd m
+  left-lacks k (running.Erase b n) (program.Buffer i v d) e m = absurd m
+  left-lacks the-program (running.Buffer l n d) program.Nothing e m = omega (arith, erase-lacks the-program e, words-length bs n)
+  left-lacks the-erase (running.Buffer l n d) program.Nothing e m = sym (erase-lacks the-erase e)
+  left-lacks k (running.Buffer l n d) (program.Program i v) e m = absurd m
+  left-lacks k (running.Buffer l n d) (program.Buffer i v d′) e m = absurd m
+
+  runs-top : (k : Followed) (r : Running) (p : SuspendedProgram) (e : SuspendedErase) → runsNow k r ≡ top g k (underWayOf bs r p e)
+  runs-top k running.Idle p e = refl
+  runs-top the-program (running.Program l w) p e = refl
+  runs-top the-erase (running.Program l w) p e = refl
+  runs-top the-program (running.Erase b n) p e = refl
+  runs-top the-erase (running.Erase b n) p e = refl
+  runs-top the-program (running.Buffer l n d) p e = refl
+  runs-top the-erase (running.Buffer l n d) p e = refl
+
+  live-erase : (k : Followed) (e : SuspendedErase) → lives k running.Idle program.Nothing e ≡ anyLive (isOf k) (addErase e)
+  live-erase the-program erase.Nothing = refl
+  live-erase the-erase erase.Nothing = refl
+  live-erase the-program (erase.Erase b n) = refl
+  live-erase the-erase (erase.Erase b n) = refl
+
+  live-program : (k : Followed) (p : SuspendedProgram) (e : SuspendedErase) → lives k running.Idle p e ≡ anyLive (isOf k) (addProgram bs p (addErase e))
+  live-program k program.Nothing e = live-erase k e
+  live-program the-program (program.Program l w) e = refl
+  live-program the-erase (program.Program l w) e = live-erase the-erase e
+  live-program the-program (program.Buffer l n d) e = refl
+  live-program the-erase (program.Buffer l n d) e = live-erase the-erase e
+
+  lives-any : (k : Followed) (r : Running) (p : SuspendedProgram) (e : SuspendedErase) → lives k r p e ≡ anyLive (isOf k) (stack (underWayOf bs r p e))
+  lives-any k running.Idle p e = live-program k p e
+  lives-any the-program (running.Program l w) p e = refl
+  lives-any the-erase (running.Program l w) p e = live-program the-erase p e
+  lives-any the-program (running.Erase b n) p e = live-program the-program p e
+  lives-any the-erase (running.Erase b n) p e = refl
+  lives-any the-program (running.Buffer l n d) p e = refl
+  lives-any the-erase (running.Buffer l n d) p e = live-program the-erase p e
+
+-- a count that is refused offers nothing
+none-offered : (k : Followed) (b : Bool) (n : ℕ) → leb n 65535 ≡ false → cond b (cond (leb n 65535) n 0) 0 ≡ 0
+none-offered k true n e = rw e
+none-offered k false n e = refl
+
+-- what a state with nothing wrong comes to
+module _ (m : Machine) (o : Good m) where
+  simulated : Sim (geometry (m .state)) (conditions (m .state)) (underWay (m .state)) (own (geometry (m .state)) (m .state .buffer) (m .state .control .activity .running) (m .state .control .activity .program) (m .state .control .activity .erase))
+  unfolding wellFormed
+  simulated =
+      formed-own (geometry (m .state)) (m .state .buffer) (laws.sound (m .state .part)) (conditions (m .state)) (m .state .control .activity .setup) (m .state .control .activity .running) (m .state .control .activity .program) (m .state .control .activity .erase) refl
+      (and-true-l (activityFormed (geometry (m .state)) (m .state .control .activity)) _ (o .formed))
+
+  side-by-side : Together (m .state .control .activity .running) (m .state .control .activity .program) (m .state .control .activity .erase)
+  side-by-side = together (geometry (m .state)) (m .state .buffer) (m .state .control .activity .running) (m .state .control .activity .program) (m .state .control .activity .erase) (simulated .order)
+
+  left-here : (k : Followed) → leftIn k (m .state) ≡ lacks (geometry (m .state)) k (stack (underWay (m .state)))
+  left-here k = left-lacks (geometry (m .state)) (m .state .buffer) k (m .state .control .activity .running) (m .state .control .activity .program) (m .state .control .activity .erase) side-by-side
+
+  -- it is under way exactly where it lacks a unit
+  lives-here : (k : Followed) → livesIn k (m .state) ≡ ltb 0 (leftIn k (m .state))
+  lives-here k =
+      lives-any (geometry (m .state)) (m .state .buffer) k (m .state .control .activity .running) (m .state .control .activity .program) (m .state .control .activity .erase)
+      ∙ any-lacks (geometry (m .state)) k (stack (underWay (m .state))) (entries.match-short (kinds (geometry (m .state))) (simulated .match)) ∙ ap (λ (n : ℕ). ltb 0 n) (sym (left-here k))
+
+  unrefused : stateRefusal (m .state) (length (m .array)) ≡ 0
+  unrefused = state-good (m .state) (length (m .array)) (o .size) (o .formed)
+
+  -- each step is an event
+  stepped : (x : Step) → Steps (eventOf (geometry (m .state)) (m .state) x) (m .state) (m .array) (after m x .state) (after m x .array)
+  stepped x = steps (m .state) (m .array) unrefused (agree-fit (m .state) (conditions (m .state)) _ (o .five) (o .thirty-two) simulated) x
+
+  allowed : (x : Step) → Ok (geometry (m .state)) (conditions (m .state) .setup) (busy (underWay (m .state))) (held? (underWay (m .state))) (eventOf (geometry (m .state)) (m .state) x)
+  allowed x = rule-ok (geometry (m .state)) (laws.sound (m .state .part)) (conditions (m .state)) (busy (underWay (m .state))) (held? (underWay (m .state))) (simulated .ready) x
+
+  -- a step that is no work
+  mild-left : (k : Followed) (x : Step) → Mild (eventOf (geometry (m .state)) (m .state) x) → 0 < leftIn k (m .state)
+      → lacks (geometry (m .state)) k (stack (underWay (after m x .state))) ≡ leftIn k (m .state)
+  mild-left k x v h =
+      ap (λ (e : Engine). lacks (geometry (m .state)) k (stack e)) (stepped x .1)
+      ∙ mild-lacks (geometry (m .state)) k _ (underWay (m .state)) _ v (allowed x) (omega (arith, left-here k)) ∙ sym (left-here k)
+
+  -- work
+  work-left : (k : Followed) (n : ℕ) → (65535 < n) ⊎ (n ≤ 65535) → 0 < leftIn k (m .state)
+      → lacks (geometry (m .state)) k (stack (underWay (after m (Work n) .state))) ≡ leftIn k (m .state) - offered k (m .state) (Work n)
+  work-left k n (inl i) h =
+      let e = lt-leb n 65535 i in
+      mild-left k (Work n) (rw e tt) h ∙ omega (arith, none-offered k (runsNow k (m .state .control .activity .running)) n e)
+  work-left k n (inr i) h =
+      let e = le-leb n 65535 i in
+      ap (λ (x : Engine). lacks (geometry (m .state)) k (stack x)) (stepped (Work n) .1)
+      ∙ ap (λ (b : Bool). lacks (geometry (m .state)) k (stack (engine-after (geometry (m .state)) (cond b (units n) nothing) (underWay (m .state))))) e
+      ∙ work-lacks (geometry (m .state)) k n (underWay (m .state)) (simulated .order)
+      ∙ rw (e, ← left-here k, runs-top (geometry (m .state)) (m .state .buffer) k (m .state .control .activity .running) (m .state .control .activity .program) (m .state .control .activity .erase))
+
+  mild-write : (a w : ℕ) → m .state .control .supply ≡ true → Mild (eventOf (geometry (m .state)) (m .state) (Write a w))
+  mild-write a w on =
+      of-cond Mild (ltb a 16777216) _ nothing
+      (mild-cycle (geometry (m .state)) (conditions (m .state)) (busy (underWay (m .state))) (held? (underWay (m .state))) on (conditions (m .state) .setup) (location (geometry (m .state)) a) (w % 256) w) tt
+
+  -- every such step
+  left-step : (k : Followed) (x : Step) → (m .state .control .supply ≡ true) → (x ≡ Reset → ⊥) → (x ≡ Supply false → ⊥) → 0 < leftIn k (m .state)
+      → lacks (geometry (m .state)) k (stack (underWay (after m x .state))) ≡ leftIn k (m .state) - offered k (m .state) x
+  left-step k (Read a) on a₁ a₂ h = mild-left k (Read a) tt h ∙ omega arith
+  left-step k (Write a w) on a₁ a₂ h = mild-left k (Write a w) (mild-write a w on) h ∙ omega arith
+  left-step k (Work n) on a₁ a₂ h = work-left k n (laws.order 65535 n) h
+  left-step k (Supply true) on a₁ a₂ h = mild-left k (Supply true) tt h ∙ omega arith
+  left-step k (Supply false) on a₁ a₂ h = absurd (a₂ refl)
+  left-step k Reset on a₁ a₂ h = absurd (a₁ refl)
+
+  -- the supply stays on
+  supply-after : (x : Step) → m .state .control .supply ≡ true → (x ≡ Reset → ⊥) → (x ≡ Supply false → ⊥) → after m x .state .control .supply ≡ true
+  supply-after x on a b = ap (λ (d : Conditions). d .supply) (stepped x .0) ∙ go x a b
+    where
+      go : (x : Step) → (x ≡ Reset → ⊥) → (x ≡ Supply false → ⊥) → conditions-after (eventOf (geometry (m .state)) (m .state) x) (conditions (m .state)) .supply ≡ true
+      go (Read l) a b = on
+      go (Write l w) a b = mild-supply (eventOf (geometry (m .state)) (m .state) (Write l w)) (conditions (m .state)) (mild-write l w on) on
+      go (Work n) a b = of-cond (λ (v : Event). conditions-after v (conditions (m .state)) .supply ≡ true) (leb n 65535) _ _ on on
+      go (Supply true) a b = refl
+      go (Supply false) a b = absurd (b refl)
+      go Reset a b = absurd (a refl)
+
+  -- the units that are told of, while it runs, are those that are offered, or what it lacks where that is less
+  told-work : (k : Followed) (n : ℕ) → (65535 < n) ⊎ (n ≤ 65535) → (b : Bool) → runsNow k (m .state .control .activity .running) ≡ b
+      → cond b (toldBy (stepOf (m .state) (m .array) (Work n) .answer)) 0
+      ≡ min (cond b (cond (leb n 65535) n 0) 0) (cond b (unitsLeft (geometry (m .state)) (m .state .control .activity .running)) (suspendedLeft (geometry (m .state)) k (m .state .control .activity .program) (m .state .control .activity .erase)))
+  unfolding stepRefusal accepted unitsDone
+  told-work k n z false e = omega arith
+  told-work k n (inl i) true e = rw (step-refused (m .state) (m .array) unrefused (Work n) 3 (count-bad n i), lt-leb n 65535 i) (omega arith)
+  told-work k n (inr i) true e = rw (step-done (m .state) (m .array) unrefused (Work n) (count-good n i), le-leb n 65535 i)
+
+  -- an answer that tells of no unit
+  told-none : (k : Followed) (x : Step) → toldBy (accepted (m .state) (m .array) x .answer) ≡ 0 → told k m x ≡ 0
+  unfolding stepOf
+  told-none k x e =
+      of-cond (λ (n : ℕ). n ≡ 0) (runsNow k (m .state .control .activity .running)) _ 0
+      (of-cond (λ (y : Next). toldBy (y .answer) ≡ 0) (eqb (refusalOf (m .state) (length (m .array)) x) 0) _ (next (m .state) (Refused (refusalOf (m .state) (length (m .array)) x))) e refl) refl
+
+  told-here : (k : Followed) (x : Step) → told k m x ≡ min (offered k (m .state) x) (leftIn k (m .state))
+  unfolding accepted
+  told-here k (Read a) = omega (arith, told-none k (Read a) refl)
+  told-here k (Write a w) = omega (arith, told-none k (Write a w) refl)
+  told-here k (Work n) = told-work k n (laws.order 65535 n) (runsNow k (m .state .control .activity .running)) refl
+  told-here k (Supply on) = omega (arith, told-none k (Supply on) refl)
+  told-here k Reset = omega (arith, told-none k Reset refl)
+
+-- what it lacks after such a step
+pub left-after : (m : Machine) (k : Followed) (x : Step) → Good m → m .state .control .supply ≡ true → (x ≡ Reset → ⊥) → (x ≡ Supply false → ⊥) → 0 < leftIn k (m .state)
+    → leftIn k (after m x .state) ≡ leftIn k (m .state) - offered k (m .state) x
+left-after m k x o on a b h =
+    left-here (after m x) (good-after m x o) k
+    ∙ ap (λ (p : Part). lacks (geometryOf p) k (stack (underWay (after m x .state)))) (kept-step (m .state) (m .array) x (o .five) .part)
+    ∙ left-step m o k x on a b h
 
 less-left : (u a b : ℕ) → ltb b (u - a) ≡ ltb (a + b) u
 less-left u a b = go (laws.order (a + b) u)
@@ -312,25 +468,26 @@ less-left u a b = go (laws.order (a + b) u)
     go (inl i) = lt-ltb b (u - a) (omega arith) ∙ sym (lt-ltb (a + b) u i)
     go (inr i) = le-ltb b (u - a) (omega arith) ∙ sym (le-ltb (a + b) u i)
 
-abbrev left : Machine → ℕ
-left m = unitsLeft (geometry (m .state)) (m .state .control .activity .running)
+-- The progress sentence, from any state that is reached (reached-good), with the supply on and the operation that is followed under way, over any list without a reset and without a step that
+-- switches the supply off: the units that the answers tell of, while it runs, come to what was offered while it ran, or to what it lacked where that is less; and it lives on exactly where less was
+-- offered than it lacked. So a program ends at 1 unit, a buffer program at the number of its words and an erase at the size of its block, whatever is read, written, suspended and resumed meanwhile
+pub progress : (k : Followed) (l : List Step) (m : Machine) → Good m → m .state .control .supply ≡ true → livesIn k (m .state) ≡ true → Lasting l
+    → (toldAll k m l ≡ min (offeredAll k m l) (leftIn k (m .state))) × (livesAll k m l ≡ ltb (offeredAll k m l) (leftIn k (m .state)))
+progress k [] m o on z h = (omega arith, sym z ∙ lives-here m o k)
+progress k (x ∷ l) m o on z h = go (livesIn k (after m x .state)) refl (λ y. progress k l (after m x) (good-after m x o) (supply-after m o x on (h .0) (h .1)) y (h .2))
+  where
+    some : 0 < leftIn k (m .state)
+    some = ltb-true 0 (leftIn k (m .state)) (sym (lives-here m o k) ∙ z)
 
-left-step : (m : Machine) (x : Step) → Leaves (m .state) x → Good m → left (after m x) ≡ left m - offered x
-left-step m x h o =
-    let k = kept-step (m .state) (m .array) x (o .five) in
-    let v = good-moves m x h o in
-    rw (k .part, v .runs-on) (left-after (geometry (m .state)) (m .state .control .activity .running) (offered x) (good-whole m o))
+    left : leftIn k (after m x .state) ≡ leftIn k (m .state) - offered k (m .state) x
+    left = left-after m k x o on (h .0) (h .1) some
 
--- "Left running, a program ends at 1 unit and an erase at the size of its block, counted over all work steps.", a buffer program at the number of its words: after steps that leave it running, the units that
--- were told come to what was offered, or to what was left where that is less; and it runs on exactly where less was offered than was left. By reached-good this
--- holds of whatever is reached from power-up
-pub progress : (l : List Step) (m : Machine) → LeavesAll m l → Good m
-    → (toldAll m l ≡ min (offeredAll l) (unitsLeft (geometry (m .state)) (m .state .control .activity .running)))
-    × (runs (afterAll m l .state .control .activity .running) ≡ ltb (offeredAll l) (unitsLeft (geometry (m .state)) (m .state .control .activity .running)))
-unfolding unitsDone
-progress [] m h o = (omega arith, runs-left (geometry (m .state)) (m .state .control .activity .running) (good-whole m o))
-progress (x ∷ l) m h o =
-    let r = progress l (after m x) (h .1) (good-after m x o) in
-    let e = left-step m x (h .0) o in
-    let v = good-moves m x (h .0) o in
-    (omega (arith, v .tells, r .0, e), r .1 ∙ ap (λ (n : ℕ). ltb (offeredAll l) n) e ∙ less-left (left m) (offered x) (offeredAll l))
+    go : (b : Bool) → livesIn k (after m x .state) ≡ b
+        → (livesIn k (after m x .state) ≡ true → (toldAll k (after m x) l ≡ min (offeredAll k (after m x) l) (leftIn k (after m x .state))) × (livesAll k (after m x) l ≡ ltb (offeredAll k (after m x) l) (leftIn k (after m x .state))))
+        → (told k m x + cond b (toldAll k (after m x) l) 0 ≡ min (offered k (m .state) x + cond b (offeredAll k (after m x) l) 0) (leftIn k (m .state)))
+        × ((b && livesAll k (after m x) l) ≡ ltb (offered k (m .state) x + cond b (offeredAll k (after m x) l) 0) (leftIn k (m .state)))
+    go true e f = let r = f e in
+        (omega (arith, told-here m o k x, r .0, left), r .1 ∙ ap (λ (n : ℕ). ltb (offeredAll k (after m x) l) n) left ∙ less-left (leftIn k (m .state)) (offered k (m .state) x) (offeredAll k (after m x) l))
+    go false e f =
+        let n = ltb-false 0 (leftIn k (after m x .state)) (sym (lives-here (after m x) (good-after m x o) k) ∙ e) in
+        (omega (arith, told-here m o k x), sym (le-ltb (offered k (m .state) x + 0) (leftIn k (m .state)) (omega (arith, left, n))))
