@@ -105,14 +105,17 @@ impl Device {
         }
     }
 
-    // The supply (VPP) switched on or off.
+    // The supply (VPP) switched on or off: off ends what runs.
     pub fn supply(self, array: &[u16], on: bool) -> Outcome
         ensures { λ r. ⌜ r ≡ outcome self (now (array .entry)) (Step.Supply on) ⌝ }
     {
         let s = self.state;
         let e = state::first_refusal(state::state_refusal(s, array.len()), 0);
         if e == 0 {
-            let next = state::with_supply(s, on);
+            let c = s.control;
+            let mut next = s;
+            let after = state::switch_supply(c, on, &mut next.buffer);
+            next.control = after;
             return Outcome {
                 device: Device { state: next },
                 answer: Answer::Done,

@@ -66,6 +66,9 @@ rest a h =
     let e = no-erase (a .erase) (z .1) in
     (x .0, λ j. activity (a .setup) (r j) (p j) (e j))
 
+pub at-rest-idle : (a : Activity) → atRest a ≡ true → runs (a .running) ≡ false
+at-rest-idle a h = split (runs (a .running)) _ (split (isLoad (a .setup)) _ h .1) .0
+
 -- ---- it is well formed, and uses no place
 
 formed : (g : Geometry) (s : Setup) → isLoad s ≡ false → activityFormed g (activity s running.Idle program.Nothing erase.Nothing) ≡ true

@@ -10,7 +10,7 @@ ghost use Rattle.geometry.specs.Blocks.{geometryOf};
 ghost use Rattle.semantics.specs.State.{withSetup, withRunning, runs, programSuspended, eraseSuspended};
 ghost use Rattle.semantics.specs.WellFormed.{pending, isEraseSetup, isErase, erasing, runningAlone, programAlone, eraseAlone, eraseFits, staysIn, wordsFit, bufferFits, setupFits, runningFits, programFits, suspendedEraseFits, allFit, runningApart, programApart, apart, activityFormed, setupPlaces, runningPlaces, programPlaces, placesUsed};
 ghost use Rattle.semantics.specs.Reading.{runsIn};
-ghost use Rattle.semantics.specs.Writing.{suspended, resumedErase, resumed, resume, accepts};
+ghost use Rattle.semantics.specs.Writing.{suspended, resumedErase, resumed, accepts};
 ghost use Rattle.operation.specs.Rest.{isLoad, atRest};
 
 // ---- tests of one part of it
@@ -176,7 +176,7 @@ fn resumed_erase(a: Activity) -> Activity
 }
 
 // The suspended program runs, or where there is none the suspended erase.
-fn resumed(a: Activity) -> Activity
+pub fn resumed(a: Activity) -> Activity
     ensures { λ r. ⌜ r ≡ resumed a (a .program) ⌝ }
 {
     let setup = a.setup;
@@ -197,17 +197,6 @@ fn resumed(a: Activity) -> Activity
             erase,
         },
     }
-}
-
-// The same where nothing runs.
-pub fn resume(a: Activity) -> Activity
-    ensures { λ r. ⌜ r ≡ resume a ⌝ }
-{
-    let running = a.running;
-    if runs(running) {
-        return a;
-    }
-    resumed(a)
 }
 
 // A set-up is accepted.

@@ -9,6 +9,7 @@ use lib.Seq.{take-length}
 use Rattle.geometry.specs.declared.Part.{Part}
 use Rattle.geometry.specs.Blocks.{geometryOf}
 use Rattle.geometry.specs.Laws.{sound, location-lt, part-bank-lt}
+use Rattle.semantics.specs.declared.Control.{Control}
 use Rattle.semantics.specs.declared.State.{State}
 use Rattle.semantics.specs.declared.Next.{Next}
 use Rattle.semantics.specs.declared.Step.{Step}
@@ -18,7 +19,8 @@ use Rattle.semantics.specs.declared.Step.the-variants.{Read, Write, Work, Suppl
 use Rattle.semantics.specs.declared.Place.{Place}
 use Rattle.semantics.specs.declared.Decoded.{Decoded}
 use Rattle.semantics.specs.declared.Decoded.the-variants.{Valid, Invalid}
-use Rattle.semantics.specs.Steps.{stepOf, Machine, after, afterAll, answersOf, fresh}
+use Rattle.semantics.specs.Steps.{switchedTo, stepOf, Machine, after, afterAll, answersOf, fresh}
+use Rattle.semantics.specs.Supply.{switched}
 use Rattle.semantics.specs.Encoding.{decode}
 use Rattle.semantics.specs.Demand.{Demand3}
 use Rattle.semantics.specs.Standing.{demand-3-whole}
@@ -215,8 +217,10 @@ module _ (c : ℕ) (s : State) (xs : List ℕ) (r : Held c s xs) (code : ℕ) (t
   plays-work n o bs m i j k l h =
       (Work n, (m .0, does-work c s xs r (Work n) _ _ refl refl t a ys n (workedOn (geometry s) (s .control) n) bs (m .1) refl refl (j ∙ rw i) (k ∙ rw i) (l ∙ rw i) (h ∙ rw i)))
 
-  pub plays-supply : (on : Bool) → Means c (geometry s) code (task.Supply on) → t ≡ withSupply s on → a ≡ Done → ys ≡ xs → Plays s xs code t a ys
-  plays-supply on m i j k = (Supply on, (m .0, does-supply c s xs r (Supply on) _ _ refl refl t a ys on (m .1) refl i j k))
+  pub plays-supply : (on : Bool) (d : Control) (bs : List ℕ) → Means c (geometry s) code (task.Supply on) → d ≡ switched (s .control) on
+      → bs ≡ bufferAfter (s .control .activity .running) (switched (s .control) on .activity .running) (s .buffer) → t ≡ withBuffer (withControl s d) bs → a ≡ Done → ys ≡ xs → Plays s xs code t a ys
+  unfolding switchedTo
+  plays-supply on d bs m e f i j k = (Supply on, (m .0, does-supply c s xs r (Supply on) _ _ refl refl t a ys on (m .1) refl (i ∙ rw (e, f)) j k))
 
   pub plays-reset : Means c (geometry s) code task.Reset → t ≡ withSupply (powerUp (s .part)) (s .control .supply) → a ≡ Done → ys ≡ xs → Plays s xs code t a ys
   plays-reset m i j k = (Reset, (m .0, does-reset c s xs r Reset _ _ refl refl t a ys (m .1) refl i j k))

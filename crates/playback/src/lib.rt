@@ -216,13 +216,17 @@ pub fn run(device: Device, steps: &[u64], answers: &mut [u64], array: &mut [u16]
             Task::Refused(e) => answer = Answer::Refused(e),
             Task::Read(address) => answer = Answer::Word(reading::read_word(s, array, address)),
             Task::Write(p, word) => {
-                let change = writing::change_of(activity_in(s.control), p, word);
+                let change = writing::change_of(activity_in(s.control), s.control.supply, p, word);
                 match change {
                     Change::First(mode, x) => {
                         s.control = with_setup(s.control, x);
                         s.banks[p.bank as usize] = Bank { mode };
                     }
                     Change::Activity(a) => s.control = with_activity(s.control, a),
+                    Change::Ended(a) => {
+                        let c = with_activity(s.control, a);
+                        s.control = state::end_running(c, &mut s.buffer);
+                    }
                     Change::View => {
                         let v = writing::told_view(s, p, word);
                         writing::load_buffer(part, s.control, p, word, v, &mut s.buffer);
@@ -240,7 +244,7 @@ pub fn run(device: Device, steps: &[u64], answers: &mut [u64], array: &mut [u16]
                 s.control = c;
                 answer = Answer::Units(o.units);
             }
-            Task::Supply(on) => s.control.supply = on,
+            Task::Supply(on) => s.control = state::switch_supply(s.control, on, &mut s.buffer),
             Task::Reset => s = state::reset(s),
         }
         answers[i] = answer_code(answer);

@@ -22,7 +22,9 @@ ghost use Rattle.geometry.specs.Blocks.{geometryOf, words};
 ghost use Rattle.semantics.specs.State.{withProtection, withSupply, modeIn, flagsOf, noFlags, joined, powerUp};
 ghost use Rattle.semantics.specs.View.{placeOf, viewAt, withView};
 ghost use Rattle.semantics.specs.Register.{withoutReserved, reservedZero};
-ghost use Rattle.semantics.specs.WellFormed.{wellFormed};
+ghost use Rattle.semantics.specs.Supply.{endFlags, ended, switched};
+ghost use Rattle.semantics.specs.WellFormed.{runsSupplied, wellFormed};
+ghost use Rattle.semantics.specs.Working.{bufferAfter};
 ghost use Rattle.semantics.specs.Steps.{stateRefusal, addressRefusal, countRefusal, stepRefusal, firstRefusal};
 
 // ---- one field changed
@@ -146,6 +148,74 @@ pub fn reserved_zero(w: u16) -> bool
     without_reserved(w) == w
 }
 
+// ---- the supply
+
+// The flags of what ends for want of supply.
+fn end_flags(r: Running) -> Flags
+    ensures { λ x. ⌜ x ≡ endFlags r ⌝ }
+{
+    match r {
+        Running::Idle => no_flags(),
+        Running::Program { .. } => flags_of(false, true, true, false),
+        Running::Erase { .. } => flags_of(true, false, true, false),
+        Running::Buffer { .. } => flags_of(false, true, true, false),
+    }
+}
+
+// What runs ends, with its flags beside those that were.
+pub fn ended(c: Control) -> Control
+    ensures { λ r. ⌜ r ≡ ended c ⌝ }
+{
+    let a = c.activity;
+    let flags = c.flags;
+    let running = a.running;
+    Control {
+        activity: operation::with_running(a, Running::Idle),
+        flags: join(flags, end_flags(running)),
+        configuration: c.configuration,
+        supply: c.supply,
+    }
+}
+
+// The same, where the buffer stands: a buffer program leaves it empty.
+pub fn end_running(c: Control, buffer: &mut [u16; 32]) -> Control
+    ensures control { λ r. ⌜ r ≡ ended c ⌝ }
+    ensures buffer { λ r. ⌜ now (buffer .exit) ≡ bufferAfter (c .activity .running) Running.Idle (now (buffer .entry)) ⌝ }
+{
+    let a = c.activity;
+    let running = a.running;
+    match running {
+        Running::Idle => ended(c),
+        Running::Program { .. } => ended(c),
+        Running::Erase { .. } => ended(c),
+        Running::Buffer { .. } => {
+            buffer::keep_if(buffer, false);
+            ended(c)
+        }
+    }
+}
+
+// The supply switched on or off: off ends what runs.
+pub fn switch_supply(mut c: Control, on: bool, buffer: &mut [u16; 32]) -> Control
+    ensures control { λ r. ⌜ r ≡ switched c on ⌝ }
+    ensures buffer { λ r. ⌜ now (buffer .exit) ≡ bufferAfter (c .activity .running) (switched c on .activity .running) (now (buffer .entry)) ⌝ }
+{
+    c.supply = on;
+    if on {
+        return c;
+    }
+    end_running(c, buffer)
+}
+
+// Something runs only with supply on.
+fn runs_supplied(c: Control) -> bool
+    ensures { λ r. ⌜ r ≡ runsSupplied c ⌝ }
+{
+    let a = c.activity;
+    let running = a.running;
+    !operation::runs(running) | c.supply
+}
+
 // ---- power-up
 
 pub fn power_up(part: Part) -> State
@@ -190,13 +260,15 @@ pub fn well_formed(s: State) -> bool
     let words = s.unprotected;
     let buffer = s.buffer;
     let register = s.control.configuration;
+    let c = s.control;
     if operation::at_rest(a) {
         return protection::spare_zero(words)
             & (buffer::zero_from(buffer, 0) & reserved_zero(register));
     }
     operation::activity_formed(part, a)
         & (protection::spare_zero(words)
-            & (buffer::zero_from(buffer, operation::places_used(a)) & reserved_zero(register)))
+            & (buffer::zero_from(buffer, operation::places_used(a))
+                & (reserved_zero(register) & runs_supplied(c))))
 }
 
 // The refusal beside an array of n words of a state of the part that is well formed or not, 0 where there is none: 1 for the length, or else 2 for the state.

@@ -1,6 +1,6 @@
 -- What a write changes of a state, where that is little, and that this is what the definition of a write gives. Assumes nothing.
 use Prim.Native.Nat.{ℕ, _+_, _-_, _%_}
-use mathlib.Core.Bool.{Bool, true, false, not, cond, true≢false, false≢true}
+use mathlib.Core.Bool.{Bool, true, false, not, cond, _||_, or-true, true≢false, false≢true}
 use mathlib.Core.List.{List}
 use mathlib.Core.Path.{_≡_, refl, sym, ap, _∙_}
 use lib.Dec.{eqb}
@@ -13,6 +13,10 @@ use Rattle.semantics.specs.declared.Setup.{Setup}
 use Rattle.semantics.specs.declared.Setup.the-variants as setup
 use Rattle.semantics.specs.declared.Running.{Running}
 use Rattle.semantics.specs.declared.Running.the-variants as running
+use Rattle.semantics.specs.declared.SuspendedProgram.{SuspendedProgram}
+use Rattle.semantics.specs.declared.SuspendedProgram.the-variants as program
+use Rattle.semantics.specs.declared.SuspendedErase.{SuspendedErase}
+use Rattle.semantics.specs.declared.SuspendedErase.the-variants as erase
 use Rattle.semantics.specs.declared.Activity.{Activity}
 use Rattle.semantics.specs.declared.Control.{Control}
 use Rattle.semantics.specs.declared.Command.{Command}
@@ -22,34 +26,41 @@ use Rattle.semantics.specs.declared.LockCommand.the-variants as lock
 use Rattle.semantics.specs.declared.State.{State}
 use Rattle.semantics.specs.declared.Place.{Place}
 use Rattle.semantics.specs.declared.View.{View}
-use Rattle.semantics.specs.State.{geometry, activity, withSetup, withRunning, withActivity, runs, flagsOf, noFlags}
+use Rattle.semantics.specs.State.{geometry, activity, setActivity, withControl, withBuffer, withSetup, withRunning, withActivity, runs, flagsOf, noFlags}
+use Rattle.semantics.specs.Supply.{ended, endedUnsupplied}
+use Rattle.semantics.specs.Supplied.{awake, resume-unsupplied, isResume, only-resume, first-holds}
 use Rattle.semantics.specs.View.{viewAt, withView, withMode, raise}
 use Rattle.semantics.specs.Modes.{view-back}
 use Rattle.semantics.specs.View as view
 use Rattle.semantics.specs.WellFormed.{pending, erasing}
-use Rattle.semantics.specs.Writing.{commandOf, suspended, resume, accepts, pend, setUp, clearStatus, firstCycle, programRuns, eraseCycle, lockCycle, lockCommandOf, settle, wrong, loads, countRight, firstRight, laterRight, confirmRight, confirmCycle, wordsCycle, cycle, loaded, cycleAt, writtenAt}
+use Rattle.semantics.specs.Writing.{commandOf, suspended, resumedErase, resumed, resume, accepts, pend, setUp, clearStatus, firstCycle, programRuns, eraseCycle, lockCycle, lockCommandOf, settle, wrong, loads, countRight, firstRight, laterRight, confirmRight, confirmCycle, wordsCycle, cycle, keptIf, heldAfter, loaded, cycleAt, loadedAt, writtenAt}
+use Rattle.semantics.specs.Working.{bufferAfter}
 use Rattle.writing.specs.declared.Change.{Change}
 use Rattle.writing.specs.declared.Change.the-variants as change
 
 abbrev pub setUpChange : Activity → Setup → Change
 setUpChange a x = cond (accepts a x) (change.First Status x) (change.Activity a)
 
-abbrev pub commandChange : Activity → Place → Command → Change
-commandChange a p command.ReadArray = change.First Array (a .setup)
-commandChange a p command.ReadStatus = change.First Status (a .setup)
-commandChange a p command.ReadSignature = change.First Signature (a .setup)
-commandChange a p command.ReadQuery = change.First Query (a .setup)
-commandChange a p command.Suspend = change.Activity (suspended a (a .running))
-commandChange a p command.Resume = change.Activity (resume a)
-commandChange a p command.ClearStatus = change.View
-commandChange a p command.SetUpProgram = setUpChange a setup.Program
-commandChange a p command.SetUpErase = setUpChange a setup.Erase
-commandChange a p command.SetUpLock = setUpChange a setup.Lock
-commandChange a p command.SetUpBuffer = setUpChange a (setup.BufferCount (p .block))
-commandChange a p command.Unknown = change.Activity a
+-- D0h: where nothing runs, what is suspended runs, and without supply ends
+abbrev pub resumeChange : Activity → Bool → Change
+resumeChange a supply = cond (runs (a .running)) (change.Activity a) (cond supply (change.Activity (resumed a (a .program))) (change.Ended (resumed a (a .program))))
 
-abbrev pub changeOf : Activity → Place → ℕ → Change
-changeOf a p w = cond (pending (a .setup)) change.View (commandChange a p (commandOf (w % 256)))
+abbrev pub commandChange : Activity → Bool → Place → Command → Change
+commandChange a supply p command.ReadArray = change.First Array (a .setup)
+commandChange a supply p command.ReadStatus = change.First Status (a .setup)
+commandChange a supply p command.ReadSignature = change.First Signature (a .setup)
+commandChange a supply p command.ReadQuery = change.First Query (a .setup)
+commandChange a supply p command.Suspend = change.Activity (suspended a (a .running))
+commandChange a supply p command.Resume = resumeChange a supply
+commandChange a supply p command.ClearStatus = change.View
+commandChange a supply p command.SetUpProgram = setUpChange a setup.Program
+commandChange a supply p command.SetUpErase = setUpChange a setup.Erase
+commandChange a supply p command.SetUpLock = setUpChange a setup.Lock
+commandChange a supply p command.SetUpBuffer = setUpChange a (setup.BufferCount (p .block))
+commandChange a supply p command.Unknown = change.Activity a
+
+abbrev pub changeOf : Activity → Bool → Place → ℕ → Change
+changeOf a supply p w = cond (pending (a .setup)) change.View (commandChange a supply p (commandOf (w % 256)))
 
 -- a cycle that is told by its view: by the set-up that is pending, or 50h where none is
 abbrev pub toldCycle : Geometry → View → Setup → Place → ℕ → View
@@ -91,6 +102,7 @@ cycle-first g v c p w h = sym (ap (λ (x : Setup). cycle g v x p w) (nothing-pen
 abbrev pub firstBy : View → Change → View
 firstBy v (change.First m x) = withMode (pend v x) m
 firstBy v (change.Activity a) = view.withActivity v a
+firstBy v (change.Ended a) = view.withControl v (ended (setActivity (v .control) a))
 firstBy v change.View = clearStatus v
 
 first-set-up : (v : View) (x : Setup) → firstBy v (setUpChange (v .control .activity) x) ≡ setUp v x
@@ -101,14 +113,24 @@ first-set-up v x = go (accepts (v .control .activity) x)
     go true = refl
     go false = refl
 
-pub first-is : (v : View) (p : Place) (c : Command) → firstBy v (commandChange (v .control .activity) p c) ≡ firstCycle v p c
+first-resume : (v : View) → firstBy v (resumeChange (v .control .activity) (v .control .supply)) ≡ view.withControl v (resume (v .control))
+unfolding resume endedUnsupplied
+first-resume v = go (runs (v .control .activity .running)) (v .control .supply)
+  where
+    go : (b t : Bool) → firstBy v (cond b (change.Activity (v .control .activity)) (cond t (change.Activity (awake (v .control) .activity)) (change.Ended (awake (v .control) .activity))))
+        ≡ view.withControl v (cond b (v .control) (cond t (awake (v .control)) (ended (awake (v .control)))))
+    go true t = refl
+    go false true = refl
+    go false false = refl
+
+pub first-is : (v : View) (p : Place) (c : Command) → firstBy v (commandChange (v .control .activity) (v .control .supply) p c) ≡ firstCycle v p c
 unfolding firstCycle
 first-is v p command.ReadArray = refl
 first-is v p command.ReadStatus = refl
 first-is v p command.ReadSignature = refl
 first-is v p command.ReadQuery = refl
 first-is v p command.Suspend = refl
-first-is v p command.Resume = refl
+first-is v p command.Resume = first-resume v
 first-is v p command.ClearStatus = refl
 first-is v p command.SetUpProgram = first-set-up v setup.Program
 first-is v p command.SetUpErase = first-set-up v setup.Erase
@@ -126,11 +148,13 @@ withBank s k m = record { part = s .part; banks = set (s .banks) k (record { mod
 abbrev pub putChange : State → Place → Change → State
 putChange s p (change.First m x) = withBank (withActivity s (withSetup (s .control .activity) x)) (p .bank) m
 putChange s p (change.Activity a) = withActivity s a
+putChange s p (change.Ended a) = withBuffer (withControl s (ended (setActivity (s .control) a))) (bufferAfter (a .running) running.Idle (s .buffer))
 putChange s p change.View = s
 
 abbrev pub told : Change → Bool
 told (change.First m x) = false
 told (change.Activity a) = false
+told (change.Ended a) = false
 told change.View = true
 
 -- a mode, and a block's protection, put back as it was
@@ -140,13 +164,84 @@ banks-back s p = ap (λ (t : State). t .banks) (view-back s p)
 protection-back : (s : State) (p : Place) → withUnprotected (s .unprotected) (p .block) (viewAt s p .unprotected) ≡ s .unprotected
 protection-back s p = ap (λ (t : State). t .unprotected) (view-back s p)
 
-put-view : (s : State) (p : Place) (k : Change) → told k ≡ false → withView s p (firstBy (viewAt s p) k) ≡ putChange s p k
+-- the buffer with that changed
+abbrev bufferBy : State → Change → List ℕ
+bufferBy s (change.First m x) = s .buffer
+bufferBy s (change.Activity a) = s .buffer
+bufferBy s (change.Ended a) = bufferAfter (a .running) running.Idle (s .buffer)
+bufferBy s change.View = s .buffer
+
+put-view : (s : State) (p : Place) (k : Change) → told k ≡ false → withBuffer (withView s p (firstBy (viewAt s p) k)) (bufferBy s k) ≡ putChange s p k
 put-view s p (change.First m x) h = rw (protection-back s p)
 put-view s p (change.Activity a) h = rw (protection-back s p, banks-back s p)
+put-view s p (change.Ended a) h = rw (protection-back s p, banks-back s p)
 put-view s p change.View h = absurd (true≢false h)
 
+-- the same as the definition has it: D0h without supply ends a buffer program
+ended-buffer : (a : Activity) (q : SuspendedProgram) (bs : List ℕ) → runs (a .running) ≡ false → bufferAfter (resumed a q .running) running.Idle bs ≡ heldAfter q (withRunning (resumed a q) running.Idle) bs
+unfolding bufferAfter heldAfter keptIf
+ended-buffer a (program.Program l w) bs h = refl
+ended-buffer a (program.Buffer l n d) bs h = refl
+ended-buffer a program.Nothing bs h = by-erase (a .erase)
+  where
+    idle : (r : Running) → runs r ≡ false → bufferAfter r running.Idle bs ≡ bs
+    idle running.Idle h = refl
+    idle (running.Program l w) h = refl
+    idle (running.Erase b n) h = refl
+    idle (running.Buffer l n d) h = absurd (true≢false h)
+
+    by-erase : (e : SuspendedErase) → bufferAfter (resumedErase a e .running) running.Idle bs ≡ bs
+    by-erase erase.Nothing = idle (a .running) h
+    by-erase (erase.Erase b n) = refl
+
+resume-buffer : (s : State) (p : Place) → bufferBy s (resumeChange (s .control .activity) (s .control .supply)) ≡ heldAfter (s .control .activity .program) (resume (s .control) .activity) (s .buffer)
+unfolding firstCycle ended
+resume-buffer s p = go (runs (s .control .activity .running)) refl (s .control .supply) refl
+  where
+    a : Activity
+    a = s .control .activity
+
+    holds : (s .control .supply || runs (s .control .activity .running)) ≡ true → heldAfter (s .control .activity .program) (resume (s .control) .activity) (s .buffer) ≡ s .buffer
+    holds h = first-holds (viewAt s p) p command.Resume (s .buffer) (λ k. h)
+
+    go : (b : Bool) → runs (a .running) ≡ b → (t : Bool) → s .control .supply ≡ t
+        → bufferBy s (cond b (change.Activity a) (cond t (change.Activity (resumed a (a .program))) (change.Ended (resumed a (a .program))))) ≡ heldAfter (a .program) (resume (s .control) .activity) (s .buffer)
+    go true e t f = sym (holds (rw e (or-true (s .control .supply))))
+    go false e true f = sym (holds (rw f))
+    go false e false f = rw (resume-unsupplied (s .control) e f) (ended-buffer a (a .program) (s .buffer) e)
+
+set-up-buffer : (s : State) (x : Setup) → bufferBy s (setUpChange (s .control .activity) x) ≡ s .buffer
+set-up-buffer s x = go (accepts (s .control .activity) x)
+  where
+    go : (t : Bool) → bufferBy s (cond t (change.First Status x) (change.Activity (s .control .activity))) ≡ s .buffer
+    go true = refl
+    go false = refl
+
+plain-buffer : (s : State) (p : Place) (c : Command) → isResume c ≡ false → bufferBy s (commandChange (s .control .activity) (s .control .supply) p c) ≡ s .buffer
+plain-buffer s p command.ReadArray h = refl
+plain-buffer s p command.ReadStatus h = refl
+plain-buffer s p command.ReadSignature h = refl
+plain-buffer s p command.ReadQuery h = refl
+plain-buffer s p command.Suspend h = refl
+plain-buffer s p command.Resume h = absurd (true≢false h)
+plain-buffer s p command.ClearStatus h = refl
+plain-buffer s p command.SetUpProgram h = set-up-buffer s setup.Program
+plain-buffer s p command.SetUpErase h = set-up-buffer s setup.Erase
+plain-buffer s p command.SetUpLock h = set-up-buffer s setup.Lock
+plain-buffer s p command.SetUpBuffer h = set-up-buffer s (setup.BufferCount (p .block))
+plain-buffer s p command.Unknown h = refl
+
+buffer-is : (s : State) (p : Place) (c : Command)
+    → bufferBy s (commandChange (s .control .activity) (s .control .supply) p c) ≡ heldAfter (s .control .activity .program) (firstCycle (viewAt s p) p c .control .activity) (s .buffer)
+unfolding firstCycle
+buffer-is s p c = go (isResume c) refl
+  where
+    go : (b : Bool) → isResume c ≡ b → bufferBy s (commandChange (s .control .activity) (s .control .supply) p c) ≡ heldAfter (s .control .activity .program) (firstCycle (viewAt s p) p c .control .activity) (s .buffer)
+    go true h = rw (only-resume c h) (resume-buffer s p)
+    go false h = plain-buffer s p c h ∙ sym (first-holds (viewAt s p) p c (s .buffer) (λ k. absurd (true≢false (sym k ∙ h))))
+
 -- a write that changes little changes that
-pub change-put : (s : State) (p : Place) (w : ℕ) (k : Change) → k ≡ changeOf (s .control .activity) p w → told k ≡ false → putChange s p k ≡ writtenAt s p w
+pub change-put : (s : State) (p : Place) (w : ℕ) (k : Change) → k ≡ changeOf (s .control .activity) (s .control .supply) p w → told k ≡ false → putChange s p k ≡ writtenAt s p w
 unfolding writtenAt loaded
 change-put s p w k e h = go (pending (s .control .activity .setup)) refl
   where
@@ -157,13 +252,17 @@ change-put s p w k e h = go (pending (s .control .activity .setup)) refl
     go true q = let v : k ≡ change.View = e ∙ rw q in absurd (true≢false (sym (ap told v) ∙ h))
     go false q =
         let n = nothing-pending (a .setup) q in
-        let c : k ≡ commandChange a p (commandOf (w % 256)) = e ∙ rw q in
+        let c : k ≡ commandChange a (s .control .supply) p (commandOf (w % 256)) = e ∙ rw q in
         let f : firstBy (viewAt s p) k ≡ cycleAt s p w =
         ap (firstBy (viewAt s p)) c ∙ first-is (viewAt s p) p (commandOf (w % 256)) ∙ cycle-first (geometry s) (viewAt s p) (a .setup) p w q in
-        sym (put-view s p k h) ∙ ap (withView s p) f ∙ rw n
+        let b : bufferBy s k ≡ loadedAt s p w (cycleAt s p w .control .activity) =
+        ap (bufferBy s) c ∙ buffer-is s p (commandOf (w % 256))
+        ∙ ap (λ (v : View). heldAfter (a .program) (v .control .activity) (s .buffer)) (cycle-first (geometry s) (viewAt s p) (a .setup) p w q)
+        ∙ ap (λ (x : Setup). loaded (geometry s) x (a .program) p w (cycleAt s p w .control .activity) (s .buffer)) (sym n) in
+        sym (put-view s p k h) ∙ rw (f, b)
 
 -- one that is told by its view is what that says
-pub change-told : (s : State) (p : Place) (w : ℕ) → change.View ≡ changeOf (s .control .activity) p w → toldAt s p w ≡ cycleAt s p w
+pub change-told : (s : State) (p : Place) (w : ℕ) → change.View ≡ changeOf (s .control .activity) (s .control .supply) p w → toldAt s p w ≡ cycleAt s p w
 change-told s p w e = go (pending (s .control .activity .setup)) refl
   where
     a : Activity
@@ -173,7 +272,7 @@ change-told s p w e = go (pending (s .control .activity .setup)) refl
     go true q = told-pending (geometry s) (viewAt s p) (a .setup) p w q
     go false q =
         let n = nothing-pending (a .setup) q in
-        let c : change.View ≡ commandChange a p (commandOf (w % 256)) = e ∙ rw q in
+        let c : change.View ≡ commandChange a (s .control .supply) p (commandOf (w % 256)) = e ∙ rw q in
         ap (λ (x : Setup). toldCycle (geometry s) (viewAt s p) x p w) n ∙ ap (firstBy (viewAt s p)) c ∙ first-is (viewAt s p) p (commandOf (w % 256))
         ∙ cycle-first (geometry s) (viewAt s p) (a .setup) p w q
 
@@ -258,8 +357,8 @@ told-settled s p w =
     λ j. record { activity = activity (v .control .activity .setup) (v .control .activity .running) (x j) (y j); flags = v .control .flags; configuration = v .control .configuration; supply = z j }
 
 -- the state after a write that is told by its view v, with the protection words u and the buffer bs that it leaves
-pub told-put : (s : State) (p : Place) (w : ℕ) (v : View) (u bs : List ℕ) → change.View ≡ changeOf (s .control .activity) p w → v ≡ toldAt s p w
-    → u ≡ withUnprotected (s .unprotected) (p .block) (v .unprotected) → bs ≡ loaded (geometry s) (s .control .activity .setup) p w (v .control .activity .running) (s .buffer)
+pub told-put : (s : State) (p : Place) (w : ℕ) (v : View) (u bs : List ℕ) → change.View ≡ changeOf (s .control .activity) (s .control .supply) p w → v ≡ toldAt s p w
+    → u ≡ withUnprotected (s .unprotected) (p .block) (v .unprotected) → bs ≡ loadedAt s p w (v .control .activity)
     → _≡_ {A = State} (record { part = s .part; banks = set (s .banks) (p .bank) (record { mode = v .mode }); unprotected = u; control = settledIn (s .control) v; buffer = bs }) (writtenAt s p w)
 unfolding writtenAt
 told-put s p w v u bs e f h i = rw (i, h, f, told-settled s p w, change-told s p w e)

@@ -11,19 +11,22 @@ use semantics::Place;
 use semantics::Running;
 use semantics::Setup;
 use semantics::State;
+use semantics::SuspendedProgram;
 use semantics::View;
 ghost use mathlib.Core.Path.{_≡_};
 ghost use Prim.Native.Nat.{_-_};
 ghost use Rattle.geometry.specs.Blocks.{geometryOf};
-ghost use Rattle.semantics.specs.View.{withActivity, withMode, raise};
-ghost use Rattle.semantics.specs.Writing.{commandOf, pend, clearStatus, firstCycle, programRuns, eraseCycle, lockCommandOf, lockCycle, settle, wrong, loads, countRight, firstRight, laterRight, confirmRight, confirmCycle, wordsCycle, cycle, wordsLoaded, loaded, cycleAt, written};
-ghost use Rattle.writing.specs.Changes.{setUpChange, commandChange, changeOf, toldCycle, toldAt};
+ghost use Rattle.semantics.specs.Supply.{ended};
+ghost use Rattle.semantics.specs.View.{withControl, withActivity, withMode, raise};
+ghost use Rattle.semantics.specs.Writing.{commandOf, pend, clearStatus, firstCycle, programRuns, eraseCycle, lockCommandOf, lockCycle, settle, wrong, loads, countRight, firstRight, laterRight, confirmRight, confirmCycle, wordsCycle, cycle, wordsLoaded, heldAfter, loaded, cycleAt, written};
+ghost use Rattle.writing.specs.Changes.{setUpChange, resumeChange, commandChange, changeOf, toldCycle, toldAt};
 
 // What a write changes of a state, where that is little: the mode of the addressed bank and the set-up; or what is under way, which of a write that is ignored is as
-// it was. Any other write is told by its view: 50h, and every cycle that goes on with a set-up or ends it.
+// it was; or the same, and what runs then ends for want of supply. Any other write is told by its view: 50h, and every cycle that goes on with a set-up or ends it.
 pub enum Change {
     First(Mode, Setup),
     Activity(Activity),
+    Ended(Activity),
     View,
 }
 
@@ -47,6 +50,15 @@ fn with_mode(v: View, x: Mode) -> View
         unprotected: v.unprotected,
         control,
     }
+}
+
+// The view with what runs ended.
+fn with_ended(mut v: View) -> View
+    ensures { λ r. ⌜ r ≡ withControl v (ended (v .control)) ⌝ }
+{
+    let control = v.control;
+    v.control = state::ended(control);
+    v
 }
 
 // The view with these flags set beside those that were.
@@ -115,9 +127,23 @@ fn set_up_change(a: Activity, x: Setup) -> Change
     Change::Activity(a)
 }
 
+// D0h resumes what is suspended, or without supply ends it.
+fn resume_change(a: Activity, supply: bool) -> Change
+    ensures { λ r. ⌜ r ≡ resumeChange a supply ⌝ }
+{
+    let running = a.running;
+    if operation::runs(running) {
+        return Change::Activity(a);
+    }
+    if supply {
+        return Change::Activity(operation::resumed(a));
+    }
+    Change::Ended(operation::resumed(a))
+}
+
 // What the first cycle at a place changes: a load is of the block there.
-fn command_change(a: Activity, p: Place, c: Command) -> Change
-    ensures { λ r. ⌜ r ≡ commandChange a p c ⌝ }
+fn command_change(a: Activity, supply: bool, p: Place, c: Command) -> Change
+    ensures { λ r. ⌜ r ≡ commandChange a supply p c ⌝ }
 {
     let setup = a.setup;
     match c {
@@ -126,7 +152,7 @@ fn command_change(a: Activity, p: Place, c: Command) -> Change
         Command::ReadSignature => Change::First(Mode::Signature, setup),
         Command::ReadQuery => Change::First(Mode::Query, setup),
         Command::Suspend => Change::Activity(operation::suspended(a)),
-        Command::Resume => Change::Activity(operation::resume(a)),
+        Command::Resume => resume_change(a, supply),
         Command::ClearStatus => Change::View,
         Command::SetUpProgram => set_up_change(a, Setup::Program),
         Command::SetUpErase => set_up_change(a, Setup::Erase),
@@ -141,10 +167,11 @@ fn first_cycle(v: View, p: Place, c: Command) -> View
     ensures { λ r. ⌜ r ≡ firstCycle v p c ⌝ }
 {
     let a = v.control.activity;
-    let change = command_change(a, p, c);
+    let change = command_change(a, v.control.supply, p, c);
     match change {
         Change::First(mode, x) => with_mode(pend(v, x), mode),
         Change::Activity(x) => with_activity(v, x),
+        Change::Ended(x) => with_ended(with_activity(v, x)),
         Change::View => clear_status(v),
     }
 }
@@ -357,14 +384,14 @@ fn told_cycle(part: Part, v: View, p: Place, word: u16) -> View
 }
 
 // What a write of a word changes at a place.
-pub fn change_of(a: Activity, p: Place, word: u16) -> Change
-    ensures { λ r. ⌜ r ≡ changeOf a p word ⌝ }
+pub fn change_of(a: Activity, supply: bool, p: Place, word: u16) -> Change
+    ensures { λ r. ⌜ r ≡ changeOf a supply p word ⌝ }
 {
     let setup = a.setup;
     if operation::pending(setup) {
         return Change::View;
     }
-    command_change(a, p, command_of(word % 256))
+    command_change(a, supply, p, command_of(word % 256))
 }
 
 // What such a cycle makes of what it sees of a state. Of a write that is no such cycle (`Change`) it says nothing: with no set-up pending it is that of 50h.
@@ -418,16 +445,33 @@ fn load_words(
     }
 }
 
+// What a first cycle makes of the buffer: the words of a buffer program that was suspended are in use where it still is, or runs.
+fn hold_buffer(p: SuspendedProgram, a: Activity, buffer: &mut [u16; 32])
+    ensures { λ _. ⌜ now (buffer .exit) ≡ heldAfter p a (now (buffer .entry)) ⌝ }
+{
+    let running = a.running;
+    let program = a.program;
+    match p {
+        SuspendedProgram::Nothing => {}
+        SuspendedProgram::Program { .. } => {}
+        SuspendedProgram::Buffer { .. } => {
+            let used = operation::program_suspended(program) | operation::runs(running);
+            buffer::keep_if(buffer, used);
+        }
+    }
+}
+
 // What a cycle at a place makes of the buffer, from the control before it to the view after it. The buffer stands where it is: a cycle that is no load's does not copy it.
 pub fn load_buffer(part: Part, c: Control, p: Place, word: u16, v: View, buffer: &mut [u16; 32])
-    ensures { λ _. ⌜ now (buffer .exit) ≡ loaded (geometryOf part) (c .activity .setup) p word (v .control .activity .running) (now (buffer .entry)) ⌝ }
+    ensures { λ _. ⌜ now (buffer .exit) ≡ loaded (geometryOf part) (c .activity .setup) (c .activity .program) p word (v .control .activity) (now (buffer .entry)) ⌝ }
 {
     let before = c.activity;
     let after = v.control.activity;
     let setup = before.setup;
+    let program = before.program;
     let running = after.running;
     match setup {
-        Setup::Nothing => {}
+        Setup::Nothing => hold_buffer(program, after, buffer),
         Setup::Program => {}
         Setup::Erase => {}
         Setup::Lock => {}

@@ -53,10 +53,11 @@ loop-again c =
           (⊎-elim (λ w. plays-read _ _ _ h _ _ _ _ _ _ (task-means _ _ _ _ (sym (w .1 .given .1) ∙ k)) (w .4 .ensures) (w .6) (w .7) (w .5))
           (⊎-elim (λ w. plays-write _ _ _ h _ _ _ _ _ _ (task-means _ _ _ _ (sym (w .1 .given .1) ∙ k)) (w .13 ∙ rw (w .10 .ensures) (change-put _ _ _ _ (sym (w .7 .given .1) ∙ (rw (w .4 .ensures) at (w .5 .ensures))) refl)) (w .14) (w .12))
           (⊎-elim (λ w. plays-write _ _ _ h _ _ _ _ _ _ (task-means _ _ _ _ (sym (w .1 .given .1) ∙ k)) (w .12 ∙ rw (w .10 .ensures) (change-put _ _ _ _ (sym (w .7 .given .1) ∙ (rw (w .4 .ensures) at (w .5 .ensures))) refl)) (w .13) (w .11))
+          (⊎-elim (λ w. plays-write _ _ _ h _ _ _ _ _ _ (task-means _ _ _ _ (sym (w .1 .given .1) ∙ k)) (w .14 ∙ rw (w .12 .ensures .0, w .12 .ensures .1, w .10 .ensures) (change-put _ _ _ _ (sym (w .7 .given .1) ∙ (rw (w .4 .ensures) at (w .5 .ensures))) refl)) (w .15) (w .13))
           (⊎-elim (λ w. plays-write _ _ _ h _ _ _ _ _ _ (task-means _ _ _ _ (sym (w .1 .given .1) ∙ k)) (w .19 ∙ rw (w .13 .ensures, w .14 .ensures) (told-put _ _ _ _ _ _ (sym (w .7 .given .1) ∙ (rw (w .4 .ensures) at (w .5 .ensures))) (w .8 .ensures) (w .17 .ensures) (w .11 .ensures))) (w .20) (w .18))
           (⊎-elim (λ w. plays-work _ _ _ h _ _ _ _ _ _ _ (task-means _ _ _ _ (sym (w .1 .given .1) ∙ k)) (rw (w .4 .ensures) at (w .7 .ensures .0)) (rw (w .4 .ensures) at (w .7 .ensures .1 .0)) (w .14 ∙ rw (w .12 .ensures)) (w .15) (w .13 ∙ (rw (w .4 .ensures) at (w .7 .ensures .1 .1))))
-          (⊎-elim (λ w. plays-supply _ _ _ h _ _ _ _ _ (task-means _ _ _ _ (sym (w .1 .given .1) ∙ k)) (w .5) (w .6) (w .4))
-          (λ w. plays-reset _ _ _ h _ _ _ _ (task-means _ _ _ _ (sym (w .1 .given .1) ∙ k)) (w .4 ∙ w .2 .ensures) (w .5) (w .3)))))))) (c .before .match .came))),
+          (⊎-elim (λ w. plays-supply _ _ _ h _ _ _ _ _ _ _ (task-means _ _ _ _ (sym (w .1 .given .1) ∙ k)) (w .5 .ensures .0) (w .5 .ensures .1) (w .7) (w .8) (w .6))
+          (λ w. plays-reset _ _ _ h _ _ _ _ (task-means _ _ _ _ (sym (w .1 .given .1) ∙ k)) (w .4 ∙ w .2 .ensures) (w .5) (w .3))))))))) (c .before .match .came))),
       l .inv .1,
       omega arith,
     )
@@ -100,6 +101,9 @@ run-spec =
     (λ c. search needs)
     (λ c κs. search needs)
     (λ c κs. search needs)
+    (λ c. search needs)
+    (λ c κs. search needs)
+    (λ c κs. search needs)
     (λ c κs. search needs)
     (λ c κs. search needs)
     (λ c. search needs)
@@ -110,6 +114,7 @@ run-spec =
     (λ c κs. search needs)
     (λ c κs. search needs)
     (λ c. search needs)
+    (λ c κs. search needs)
     (λ c. search needs)
     (λ c κs. search needs)
     (λ c κs. search needs)

@@ -19,7 +19,7 @@ returns-5 : tie.Need-returns-5
 returns-5 c = rw (c .before .enum-told5 .given .1, c .suspended .ensures)
 
 returns-6 : tie.Need-returns-6
-returns-6 c = rw (c .before .enum-told6 .given .1, c .resume .ensures)
+returns-6 c = rw (c .before .enum-told6 .given .1, c .resume-change .ensures)
 
 returns-8 : tie.Need-returns-8
 returns-8 c = rw (c .before .enum-told8 .given .1, c .set-up-change .ensures)
