@@ -327,7 +327,7 @@ impl Author {
         Erase { block, done }
     }
 
-    fn usual_block(&mut self) -> u32 {
+    pub(super) fn usual_block(&mut self) -> u32 {
         if self.dice.percent(70) {
             self.dice.pick(&self.favoured)
         } else {
