@@ -154,7 +154,22 @@ impl Author {
         }
     }
 
+    /// A step for a state that refuses all.
+    fn step_of_any_kind(&mut self) -> Step {
+        match self.dice.below(6) {
+            0 => Step::Read(self.address()),
+            1 => Step::Write(self.address(), self.command()),
+            2 => Step::Work(self.count(1)),
+            3 => Step::Supply(false),
+            4 => Step::Supply(true),
+            _ => Step::Reset,
+        }
+    }
+
     fn fitting_step(&mut self, device: &Device) -> Step {
+        if !device.well_formed() && self.dice.percent(60) {
+            return self.step_of_any_kind();
+        }
         if self.dice.percent(98) {
             if let Some(step) = self.scene.pop_front() {
                 return step;
@@ -185,7 +200,7 @@ impl Author {
         if device.running.is_some() && self.dice.percent(60) {
             return Step::Work(self.count(lacking(device)));
         }
-        if idle(device) && self.dice.percent(3) {
+        if idle(device) && self.dice.percent(4) {
             return self.begin_scene();
         }
         self.fitting_command(device)

@@ -60,7 +60,7 @@ impl Author {
             3 => self.plan_program(block),
             _ => self.plan_load(block),
         };
-        if self.dice.percent(60) {
+        if self.dice.percent(55) {
             self.plan_writes(block, &[0xB0]);
         }
         self.plan_supply(30);
@@ -83,7 +83,7 @@ impl Author {
 
     /// D0h and work, some times, and the supply on before, between or not at all.
     fn plan_end(&mut self, block: u32) {
-        let on = self.dice.pick(&[0, 1, 1, 2, 9]);
+        let on = self.dice.pick(&[0, 1, 2, 9, 9]);
         for round in 0..self.dice.pick(&[0, 1, 1, 2, 2, 3]) {
             if round == on {
                 self.scene.push_back(ON);
