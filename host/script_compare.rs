@@ -160,9 +160,14 @@ impl Drops {
         }
     }
 
-    fn rarest(&self) -> u64 {
-        let all = self.running.iter().chain(&self.suspended);
-        all.copied().min().unwrap_or(0)
+    /// Prints the counts of so many random scripts; fails where one is too low.
+    fn report(&self, scripts: u64) {
+        let Drops { running, suspended } = self;
+        println!("programs, buffer programs and erases ended by supply off: {running:?}; by D0h without supply: {suspended:?}");
+        let least = LEAST_DROPS * scripts / 1000;
+        if running.iter().chain(suspended).any(|&count| count < least) {
+            fail("the random scripts drop the supply too seldom");
+        }
     }
 }
 
@@ -544,11 +549,7 @@ fn main() {
         );
     }
     compare.one("a slow reader", &[b'\n'; 16384], Pace::SlowOut);
-    let Drops { running, suspended } = &compare.drops;
-    println!("programs, buffer programs and erases ended by supply off: {running:?}; by D0h without supply: {suspended:?}");
-    if compare.drops.rarest() < LEAST_DROPS * count / 1000 {
-        fail("the random scripts drop the supply too seldom");
-    }
+    compare.drops.report(count);
     println!(
         "scripts: {} compared, {stored} of them stored examples and {count} random of seed {seed}; {} lines printed, {} of them refused; {} scripts warned of",
         compare.scripts, compare.lines, compare.refused, compare.warned

@@ -161,22 +161,6 @@ impl Recorder {
         }
     }
 
-    /// "Supply: noted." When it goes off, what runs ends, and "Demand 3 counts such
-    /// an entry as unfinished" (document 02, item 5). What is suspended stays.
-    fn supply_step(&mut self, on: bool) {
-        self.supply = on;
-        let running = self.find(|entry| entry.state == State::Running);
-        if let (false, Some(index)) = (on, running) {
-            self.break_off(index);
-        }
-    }
-
-    /// Ends an entry before it is finished: no later step reaches it.
-    fn break_off(&mut self, index: usize) {
-        self.entries[index].state = State::BrokenOff;
-        self.live.retain(|&other| other != index);
-    }
-
     /// "the start array with the journal applied": see `apply_to`.
     pub fn apply(&self, start: &[u16]) -> Vec<u16> {
         let mut array = start.to_vec();
@@ -237,6 +221,22 @@ impl Recorder {
             entry.state = State::Finished;
             self.live.retain(|&other| other != index);
         }
+    }
+
+    /// "Supply: noted." When it goes off, what runs ends, and "Demand 3 counts such
+    /// an entry as unfinished" (document 02, item 5). What is suspended stays.
+    fn supply_step(&mut self, on: bool) {
+        self.supply = on;
+        let running = self.find(|entry| entry.state == State::Running);
+        if let (false, Some(index)) = (on, running) {
+            self.break_off(index);
+        }
+    }
+
+    /// Ends an entry before it is finished: no later step reaches it.
+    fn break_off(&mut self, index: usize) {
+        self.entries[index].state = State::BrokenOff;
+        self.live.retain(|&other| other != index);
     }
 
     /// "Write, no set-up".

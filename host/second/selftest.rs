@@ -783,16 +783,7 @@ fn check_list(random: &mut Random, part: u32, longest: u32, tally: &mut Tally) {
         recorder.note(step);
 
         assert!(device.well_formed(), "{step:?} on {before:?}");
-        assert_eq!(device.unprotected, *recorder.unprotected_blocks());
-        assert_eq!(device.supply, recorder.supply());
-        assert_eq!(device.setup.is_some(), recorder.set_up_pending());
-        assert_eq!(device.running.is_some(), recorder.running().is_some());
-        let suspended = (&device.suspended_program, &device.suspended_erase);
-        let suspended = (suspended.0.is_some(), suspended.1.is_some());
-        assert_eq!(suspended, recorder.suspended());
-        if let (Some(operation), Some(entry)) = (device.running, recorder.running()) {
-            assert_eq!(done(operation), entry.units);
-        }
+        check_recorder(&recorder, &device);
         if answer.refusal != 0 {
             assert_eq!(device, before, "{step:?}");
             assert_eq!(answer.value, 0, "{step:?}");
@@ -824,6 +815,21 @@ fn check_list(random: &mut Random, part: u32, longest: u32, tally: &mut Tally) {
     tally.note(&recorder);
     let changed = start.iter().zip(&array).filter(|(old, new)| old != new);
     tally.changed_words += changed.count() as u64;
+}
+
+/// The recorder holds what the device holds of the supply, the blocks and what is
+/// under way.
+fn check_recorder(recorder: &Recorder, device: &Device) {
+    assert_eq!(device.unprotected, *recorder.unprotected_blocks());
+    assert_eq!(device.supply, recorder.supply());
+    assert_eq!(device.setup.is_some(), recorder.set_up_pending());
+    assert_eq!(device.running.is_some(), recorder.running().is_some());
+    if let (Some(operation), Some(entry)) = (device.running, recorder.running()) {
+        assert_eq!(done(operation), entry.units);
+    }
+    let (program, erase) = (&device.suspended_program, &device.suspended_erase);
+    let suspended = (program.is_some(), erase.is_some());
+    assert_eq!(suspended, recorder.suspended());
 }
 
 /// The units that a running operation has had.

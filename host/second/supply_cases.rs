@@ -6,7 +6,7 @@ use crate::model::{
     Device, Erase, Flags, Mode, Operation, Part, Program, Setup, BANKS, BUFFER_WORDS,
 };
 use crate::steps::Step;
-use crate::{check_example, check_malformed, refused, Bench, Change};
+use crate::{check_example, check_malformed, check_recorder, refused, Bench, Change};
 
 const ON: Step = Step::Supply(true);
 const OFF: Step = Step::Supply(false);
@@ -610,12 +610,7 @@ impl Told {
         self.bench.step(step);
         self.recorder.note(step);
         assert!(self.bench.array == self.recorder.apply(&self.start));
-        let device = &self.bench.device;
-        assert_eq!(device.supply, self.recorder.supply());
-        assert_eq!(device.running.is_some(), self.recorder.running().is_some());
-        let suspended = (&device.suspended_program, &device.suspended_erase);
-        let suspended = (suspended.0.is_some(), suspended.1.is_some());
-        assert_eq!(suspended, self.recorder.suspended());
+        check_recorder(&self.recorder, &self.bench.device);
     }
 
     fn write(&mut self, address: u32, words: &[u16]) {
