@@ -445,6 +445,20 @@ static uint64_t status_of(uint64_t *state, uint32_t part)
     return answers[1];
 }
 
+/* Supply off while it runs: it ends with its flags, and an erase around it stays suspended; supply off again, supply on and work change no more. */
+static void check_running_cut(uint32_t part, unsigned operation)
+{
+    const uint64_t due = operation == ERASE ? 0xA8 : operation >= NESTED_PROGRAM ? 0xD8 : 0x98;
+    const uint64_t later[] = { M58_SUPPLY(0), M58_WORK(5), M58_SUPPLY(1), M58_WORK(5) };
+    uint64_t state[M58_STATE_WORDS];
+    run_operation(state, part, operation);
+    SAME(M58_REFUSED_NOTHING, refusal(state, M58_STATE_WORDS, M58_SUPPLY(0), words_of(part)));
+    SAME(0, state[SUPPLY_WORD] >> SUPPLY_BIT);
+    SAME(due, status_of(state, part));
+    PLAY_LIST(state, part, later);
+    SAME(due, status_of(state, part));
+}
+
 /* State words in which it is suspended without supply: those that supply off leaves, and D0h ends it; with supply, D0h resumes it. */
 static void check_suspended_without_supply(uint32_t part, unsigned operation)
 {
@@ -475,6 +489,7 @@ static void check_supply(void)
         fill_array(words_of(part), 0xFFFF);
         for (unsigned operation = 0; operation < OPERATIONS; operation++) {
             check_running_without_supply(part, operation);
+            check_running_cut(part, operation);
             check_suspended_without_supply(part, operation);
         }
         /* no program had its unit, and no second word of a load went in */
