@@ -347,7 +347,8 @@ fn suspended_go_on_with_supply() {
 }
 
 /// "resumed without supply, they end with the same flags and no unit": the one that
-/// would have been resumed, and it alone; a second D0h ends the other.
+/// would have been resumed, and it alone; a second D0h ends the other. Neither changes
+/// a mode, also where its bank is in array or signature mode.
 fn resume_without_supply_ends_one() {
     for (mut bench, flags) in suspended() {
         bench.step(OFF);
@@ -358,9 +359,9 @@ fn resume_without_supply_ends_one() {
         if due.suspended_program.take().is_none() {
             due.suspended_erase = None;
         }
-        let mut after = bench.after(0x3FFF, 0x12D0);
+        let mut after = bench.after(0x400, 0x12D0);
         after.is(&due, &bench);
-        after.write(0, &[0xD0]);
+        after.write(0x800, &[0xD0]);
         if both {
             due.suspended_erase = None;
             due.flags = joined(SR43, SR53);
