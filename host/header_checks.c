@@ -464,9 +464,10 @@ static void check_suspended_without_supply(uint32_t part, unsigned operation)
 {
     const size_t own = words_of(part);
     const uint64_t resume = M58_WRITE(fourth[part], 0xD0), nested = operation >= NESTED_PROGRAM ? 0x40 : 0;
-    uint64_t state[M58_STATE_WORDS], off[M58_STATE_WORDS];
+    uint64_t state[M58_STATE_WORDS], on[M58_STATE_WORDS], off[M58_STATE_WORDS];
     run_operation(state, part, operation);
     SAME(M58_REFUSED_NOTHING, refusal(state, M58_STATE_WORDS, M58_WRITE(fourth[part], 0xB0), own));
+    memcpy(on, state, sizeof on);
     memcpy(off, state, sizeof off);
     off[SUPPLY_WORD] ^= UINT64_C(1) << SUPPLY_BIT;
     SAME(M58_REFUSED_NOTHING, refusal(state, M58_STATE_WORDS, M58_SUPPLY(0), own));
@@ -476,6 +477,7 @@ static void check_suspended_without_supply(uint32_t part, unsigned operation)
     SAME(M58_REFUSED_NOTHING, refusal(off, M58_STATE_WORDS, resume, own));
     SAME(operation == ERASE ? 0xA8 : nested | 0x98, status_of(off, part));
     SAME(M58_REFUSED_NOTHING, refusal(state, M58_STATE_WORDS, M58_SUPPLY(1), own));
+    SAME(0, memcmp(state, on, sizeof on));
     SAME(M58_REFUSED_NOTHING, refusal(state, M58_STATE_WORDS, resume, own));
     SAME(nested, status_of(state, part));
 }
