@@ -194,6 +194,7 @@ impl Author {
         if half_done(device) && self.dice.percent(3) {
             return Step::Reset;
         }
+        // More often on than off, so that more is finished than cut.
         if under_way(device) && self.dice.percent(if device.supply { 3 } else { 30 }) {
             return Step::Supply(!device.supply);
         }

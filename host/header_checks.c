@@ -445,7 +445,7 @@ static uint64_t status_of(uint64_t *state, uint32_t part)
     return answers[1];
 }
 
-/* Supply off while it runs: it ends with its flags, and an erase around it stays suspended; supply off again, supply on and work change no more. */
+/* Supply off while it runs: it ends with its flags, and an erase around it stays suspended; off again, on and work change no more. */
 static void check_running_cut(uint32_t part, unsigned operation)
 {
     const uint64_t due = operation == ERASE ? 0xA8 : operation >= NESTED_PROGRAM ? 0xD8 : 0x98;
