@@ -1,8 +1,10 @@
 //! Writes the steps of random lists, and random states to begin from. All is
 //! drawn from a seed, with an eye on the second model's device, so that blocks
 //! are unprotected, loads come to their end, and programs and erases are accepted,
-//! suspended, nested and cut far more often than by chance.
+//! suspended, nested and cut, by resets and by the supply, far more often than by
+//! chance.
 
+mod drops;
 mod loads;
 pub mod states;
 
@@ -13,6 +15,7 @@ use crate::second::model::{
 };
 use crate::second::steps::Step;
 use loads::Order;
+use std::collections::VecDeque;
 
 /// SplitMix64.
 #[derive(Clone)]
@@ -83,6 +86,8 @@ pub struct Author {
     no_steps: u64,
     /// In which order the words of the load come.
     order: Order,
+    /// The steps to come of a scene in which the supply drops.
+    scene: VecDeque<Step>,
 }
 
 impl Author {
@@ -103,6 +108,7 @@ impl Author {
             resets: dice.pick(&[0, 1, 5, 30]),
             no_steps: dice.pick(&[0, 0, 5, 30]),
             order: Order::Upward,
+            scene: VecDeque::new(),
             dice,
         }
     }
@@ -148,7 +154,27 @@ impl Author {
         }
     }
 
+    /// A step for a state that refuses all.
+    fn step_of_any_kind(&mut self) -> Step {
+        match self.dice.below(6) {
+            0 => Step::Read(self.address()),
+            1 => Step::Write(self.address(), self.command()),
+            2 => Step::Work(self.count(1)),
+            3 => Step::Supply(false),
+            4 => Step::Supply(true),
+            _ => Step::Reset,
+        }
+    }
+
     fn fitting_step(&mut self, device: &Device) -> Step {
+        if !device.well_formed() && self.dice.percent(60) {
+            return self.step_of_any_kind();
+        }
+        if self.dice.percent(98) {
+            if let Some(step) = self.scene.pop_front() {
+                return step;
+            }
+        }
         match self.dice.below(100) {
             0..=11 => return Step::Read(self.address()),
             12..=13 => return Step::Read(self.register_place(device)),
@@ -168,8 +194,15 @@ impl Author {
         if half_done(device) && self.dice.percent(3) {
             return Step::Reset;
         }
+        // More often on than off, so that more is finished than cut.
+        if under_way(device) && self.dice.percent(if device.supply { 3 } else { 30 }) {
+            return Step::Supply(!device.supply);
+        }
         if device.running.is_some() && self.dice.percent(60) {
             return Step::Work(self.count(lacking(device)));
+        }
+        if idle(device) && self.dice.percent(4) {
+            return self.begin_scene();
         }
         self.fitting_command(device)
     }
@@ -230,6 +263,9 @@ impl Author {
     }
 
     fn second_cycle(&mut self, device: &Device, setup: Setup) -> Step {
+        if self.dice.percent(if device.supply { 2 } else { 20 }) {
+            return Step::Supply(!device.supply);
+        }
         if setup == Setup::Lock && self.dice.percent(15) {
             return Step::Write(self.register_address(), self.dressed(0x03));
         }
@@ -401,6 +437,17 @@ fn lacking(device: &Device) -> u32 {
         }
         _ => 1,
     }
+}
+
+fn under_way(device: &Device) -> bool {
+    device.running.is_some()
+        || device.suspended_program.is_some()
+        || device.suspended_erase.is_some()
+}
+
+/// Whether nothing is pending, runs or is suspended.
+fn idle(device: &Device) -> bool {
+    device.setup.is_none() && !under_way(device)
 }
 
 /// Whether a buffer program has had some of its units.

@@ -469,7 +469,46 @@ fn malformed(part: Part) -> Vec<(String, Words)> {
     }
     states.extend(malformed_buffer_words(&base));
     states.extend(malformed_registers(&base));
+    states.extend(malformed_supply(&base));
     states.extend(broken_clauses(part));
+    states
+}
+
+/// "In a well made state something runs only with supply on" (document 02, item 5):
+/// each kind of operation without it, also in an erase suspend, and each in a device
+/// that is else as after power-up.
+fn malformed_supply(base: &Device) -> Vec<(String, Words)> {
+    let fresh = Device::power_up(base.part.number());
+    let start = buffer_start(base.part);
+    let (words, done) = (2, 1);
+    let word = Program::Word {
+        location: start,
+        data: 0x1234,
+    };
+    let programs = [word, Program::Buffer { start, words, done }].map(Operation::Program);
+    let erase = Erase {
+        block: 200,
+        done: 5,
+    };
+    let mut states = Vec::new();
+    for (name, device) in [("power-up", &fresh), ("all unprotected", base)] {
+        let mut add = |running, suspended_erase| {
+            let device = Device {
+                running: Some(running),
+                suspended_erase,
+                supply: false,
+                ..device.clone()
+            };
+            let beside = suspended_erase.is_some();
+            let name = format!("{name}, {running:?} without supply, erase suspended: {beside}");
+            states.push((name, state::encode(&device)));
+        };
+        for running in programs {
+            add(running, None);
+            add(running, Some(erase));
+        }
+        add(Operation::Erase(erase), None);
+    }
     states
 }
 
@@ -497,8 +536,8 @@ fn malformed_registers(base: &Device) -> Vec<(String, Words)> {
     states
 }
 
-/// What the rule of well-formed states says of the write buffer and of the
-/// configuration register, broken clause by clause.
+/// What the rule of well-formed states says of the write buffer, of the configuration
+/// register and of the supply, broken clause by clause.
 fn broken_clauses(part: Part) -> Vec<(String, Words)> {
     let mut states = Vec::new();
     let seeds = BROKEN[usize::from(part.unit() == 64)];
@@ -641,6 +680,13 @@ fn shapes(part: Part) -> Vec<Device> {
     shapes.extend(buffer_shapes(&busy));
     busy.suspended_erase = erase;
     shapes.extend(buffer_shapes(&busy));
+    // What is suspended or set up needs no supply.
+    let mut unsupplied = shapes.clone();
+    unsupplied.retain(|device| device.supply && device.running.is_none());
+    for device in &mut unsupplied {
+        device.supply = false;
+    }
+    shapes.extend(unsupplied);
     shapes
 }
 

@@ -1,7 +1,7 @@
 /*
  * Checks what m58.h says of its macros, of state words that are those of no
- * device, of the write buffer, of the configuration register, and of Intel HEX
- * text. Prints one line; ends with 1 where something is otherwise.
+ * device, of the write buffer, of the configuration register, of the supply, and
+ * of Intel HEX text. Prints one line; ends with 1 where something is otherwise.
  *
  * To build:  cc header_checks.c libm58.a
  */
@@ -246,19 +246,19 @@ static void power_up_with(uint64_t *state, uint32_t part, uint64_t step, uint64_
     state[REGISTER_WORD] ^= (REGISTER_DEFAULT ^ reg) << REGISTER_BIT;
 }
 
-/* Steps of every kind; 03h, after a set-up, and reset would give a good register. */
+/* Steps of every kind; 03h, after a set-up, and reset would give a good register, and B0h, supply on and reset make good what runs without supply. */
 static const uint64_t kinds[] = {
-    M58_READ(5), M58_WRITE(0, 0x03), M58_WRITE(0, 0x90), M58_WORK(1), M58_SUPPLY(1), M58_RESET
+    M58_READ(5), M58_WRITE(0, 0x03), M58_WRITE(0, 0x90), M58_WRITE(0, 0xB0), M58_WRITE(0, 0xD0),
+    M58_WORK(0), M58_WORK(1), M58_SUPPLY(0), M58_SUPPLY(1), M58_RESET
 };
 enum { KINDS = sizeof kinds / sizeof kinds[0] };
 
-/* State words with a reserved bit set: refused by each step, by a list of them and by the report, and all stays. */
-static void check_register_refused(uint32_t part, uint64_t first, uint64_t reg)
+/* State words of a part that are not well formed: refused by each step, by a list of them and by the report, and all stays. */
+static void check_refused(uint32_t part, uint64_t *state)
 {
     const size_t own = words_of(part);
     const uint64_t due = (uint64_t)M58_REFUSED_STATE << 32;
-    uint64_t state[M58_STATE_WORDS], before[M58_STATE_WORDS], answers[KINDS];
-    power_up_with(state, part, first, reg);
+    uint64_t before[M58_STATE_WORDS], answers[KINDS];
     memcpy(before, state, sizeof before);
     for (size_t i = 0; i < KINDS; i++) {
         SAME(M58_REFUSED_STATE, refusal(state, M58_STATE_WORDS, kinds[i], own));
@@ -270,6 +270,14 @@ static void check_register_refused(uint32_t part, uint64_t first, uint64_t reg)
         SAME(due, answers[i]);
     SAME(due, m58_report(state, M58_STATE_WORDS));
     SAME(0, memcmp(before, state, sizeof before));
+}
+
+/* State words with a reserved bit set. */
+static void check_register_refused(uint32_t part, uint64_t first, uint64_t reg)
+{
+    uint64_t state[M58_STATE_WORDS];
+    power_up_with(state, part, first, reg);
+    check_refused(part, state);
 }
 
 /* Any other register is shown as it was handed in, and stays until a reset. */
@@ -303,6 +311,192 @@ static void check_register_states(void)
     for (uint64_t bit = 1; bit <= 0x8000; bit <<= 1)
         if ((bit & REGISTER_RESERVED) == 0)
             check_register_accepted(bit);
+}
+
+/* ---- The supply, which ends what runs when it goes off (document 02, item 5) ---- */
+
+enum { SUPPLY_WORD = 11, SUPPLY_BIT = 48 }; /* its place in the state words: state.rs */
+enum { MOST_DROPS = 32 };
+
+/* The lowest locations of blocks 4 and 5, by the part. */
+static const uint32_t fourth[] = { 0x010000, 0xFE0000, 0x000040, 0x003F80 };
+static const uint32_t fifth[] = { 0x020000, 0xFD0000, 0x000080, 0x003F40 };
+
+/* A list from power-up of a part, a call for each step and one call for all: so many words are not FFFFh after it. */
+static void check_drop(uint32_t part, const struct line *lines, size_t count, size_t changed)
+{
+    const size_t own = words_of(part);
+    uint64_t alone[M58_STATE_WORDS], together[M58_STATE_WORDS], steps[MOST_DROPS], answers[MOST_DROPS];
+    same("power-up", 1, m58_power_up(part, alone, M58_STATE_WORDS));
+    memcpy(together, alone, sizeof together);
+    fill_array(own, 0xFFFF);
+    for (size_t i = 0; i < count; i++) {
+        steps[i] = lines[i].step;
+        SAME(1, m58_run(alone, M58_STATE_WORDS, &steps[i], 1, &answers[i], 1, array, own));
+        SAME(lines[i].value, answers[i]);
+    }
+    SAME(changed, other_words(own, 0xFFFF));
+    fill_array(own, 0xFFFF);
+    SAME(count, m58_run(together, M58_STATE_WORDS, steps, count, answers, count, array, own));
+    for (size_t i = 0; i < count; i++)
+        SAME(lines[i].value, answers[i]);
+    SAME(changed, other_words(own, 0xFFFF));
+    SAME(0, memcmp(alone, together, sizeof alone));
+}
+#define CHECK_DROP(part, lines, changed) check_drop(part, lines, sizeof lines / sizeof lines[0], changed)
+
+/* An erase cut after 10 units, A8h: the tenth word is erased and the eleventh is not. */
+static void check_erase_cut(uint32_t part)
+{
+    const uint32_t a = fourth[part];
+    const struct line lines[] = {
+        { M58_SUPPLY(1), 0 },        { M58_WRITE(a, 0x60), 0 },      { M58_WRITE(a, 0xD0), 0 },      { M58_WRITE(a, 0x40), 0 },
+        { M58_WRITE(a, 0x0000), 0 }, { M58_WORK(1), 1 },             { M58_WRITE(a + 10, 0x40), 0 }, { M58_WRITE(a + 10, 0), 0 },
+        { M58_WORK(1), 1 },          { M58_WRITE(a, 0x20), 0 },      { M58_WRITE(a, 0xD0), 0 },      { M58_WORK(10), 10 },
+        { M58_SUPPLY(0), 0 },        { M58_READ(a), 0x00A8 },        { M58_WORK(5), 0 },             { M58_WRITE(a, 0x50), 0 },
+        { M58_SUPPLY(1), 0 },        { M58_WORK(5), 0 },             { M58_READ(a), 0x0080 },        { M58_WRITE(a, 0xFF), 0 },
+        { M58_READ(a), 0xFFFF },     { M58_READ(a + 9), 0xFFFF },    { M58_READ(a + 10), 0x0000 },
+    };
+    CHECK_DROP(part, lines, 1);
+}
+
+/* A program in an erase, both suspended: two D0h without supply end the one and then the other, and nothing is left to resume. */
+static void check_resume_cut(uint32_t part)
+{
+    const uint32_t a = fourth[part], b = fifth[part];
+    const struct line lines[] = {
+        { M58_SUPPLY(1), 0 },        { M58_WRITE(a, 0x60), 0 },      { M58_WRITE(a, 0xD0), 0 },      { M58_WRITE(b, 0x60), 0 },
+        { M58_WRITE(b, 0xD0), 0 },   { M58_WRITE(a, 0x20), 0 },      { M58_WRITE(a, 0xD0), 0 },      { M58_WORK(1), 1 },
+        { M58_WRITE(a, 0xB0), 0 },   { M58_WRITE(b, 0x40), 0 },      { M58_WRITE(b, 0x1234), 0 },    { M58_WRITE(b, 0xB0), 0 },
+        { M58_READ(b), 0x00C4 },     { M58_SUPPLY(0), 0 },           { M58_READ(b), 0x00C4 },        { M58_WRITE(b, 0xD0), 0 },
+        { M58_READ(b), 0x00D8 },     { M58_WRITE(b, 0xD0), 0 },      { M58_READ(b), 0x00B8 },        { M58_SUPPLY(1), 0 },
+        { M58_WORK(5), 0 },          { M58_WRITE(b, 0xD0), 0 },      { M58_READ(b), 0x00B8 },        { M58_WRITE(b, 0xFF), 0 },
+        { M58_READ(b), 0xFFFF },
+    };
+    CHECK_DROP(part, lines, 0);
+}
+
+/* Supply off and on leaves a load; off after one unit of two, 98h, and the first word stays. */
+static void check_load_cut(uint32_t part)
+{
+    const uint32_t a = fourth[part];
+    const struct line lines[] = {
+        { M58_SUPPLY(1), 0 },         { M58_WRITE(a, 0x60), 0 },      { M58_WRITE(a, 0xD0), 0 },      { M58_WRITE(a, 0xE8), 0 },
+        { M58_WRITE(a, 1), 0 },       { M58_WRITE(a, 0xAAAA), 0 },    { M58_WRITE(a + 1, 0xBBBB), 0 }, { M58_SUPPLY(0), 0 },
+        { M58_SUPPLY(1), 0 },         { M58_WRITE(a, 0xD0), 0 },      { M58_WORK(1), 1 },             { M58_SUPPLY(0), 0 },
+        { M58_READ(a), 0x0098 },      { M58_WRITE(a, 0xFF), 0 },      { M58_READ(a), 0xAAAA },        { M58_READ(a + 1), 0xFFFF },
+    };
+    CHECK_DROP(part, lines, 1);
+}
+
+/* Operations in block 4; the nested ones inside the suspended erase of block 5. */
+enum { PROGRAM, BUFFER_PROGRAM, ERASE, NESTED_PROGRAM, NESTED_BUFFER_PROGRAM, OPERATIONS };
+
+/* A list of steps of which each is accepted. */
+static void play_list(uint64_t *state, uint32_t part, const uint64_t *steps, size_t count)
+{
+    for (size_t i = 0; i < count; i++)
+        SAME(M58_REFUSED_NOTHING, refusal(state, M58_STATE_WORDS, steps[i], words_of(part)));
+}
+#define PLAY_LIST(state, part, steps) play_list(state, part, steps, sizeof steps / sizeof steps[0])
+
+/* The state words of a part with an operation running, some units done where it has several. */
+static void run_operation(uint64_t *state, uint32_t part, unsigned operation)
+{
+    const uint32_t a = fourth[part], b = fifth[part];
+    const uint64_t ready[] = {
+        M58_SUPPLY(1), M58_WRITE(a, 0x60), M58_WRITE(a, 0xD0), M58_WRITE(b, 0x60), M58_WRITE(b, 0xD0)
+    };
+    const uint64_t outer[] = { M58_WRITE(b, 0x20), M58_WRITE(b, 0xD0), M58_WORK(3), M58_WRITE(b, 0xB0) };
+    const uint64_t program[] = { M58_WRITE(a, 0x40), M58_WRITE(a, 0x0F0F) };
+    const uint64_t load[] = {
+        M58_WRITE(a, 0xE8), M58_WRITE(a, 1), M58_WRITE(a, 0xFFFF), M58_WRITE(a + 1, 0x0F0F), M58_WRITE(a, 0xD0), M58_WORK(1)
+    };
+    const uint64_t erase[] = { M58_WRITE(a, 0x20), M58_WRITE(a, 0xD0), M58_WORK(3) };
+    same("power-up", 1, m58_power_up(part, state, M58_STATE_WORDS));
+    PLAY_LIST(state, part, ready);
+    if (operation >= NESTED_PROGRAM)
+        PLAY_LIST(state, part, outer);
+    if (operation == ERASE)
+        PLAY_LIST(state, part, erase);
+    else if (operation == PROGRAM || operation == NESTED_PROGRAM)
+        PLAY_LIST(state, part, program);
+    else
+        PLAY_LIST(state, part, load);
+}
+
+/* State words in which it runs without supply: refused by all. */
+static void check_running_without_supply(uint32_t part, unsigned operation)
+{
+    uint64_t state[M58_STATE_WORDS];
+    run_operation(state, part, operation);
+    SAME(1, state[SUPPLY_WORD] >> SUPPLY_BIT);
+    SAME(2, m58_report(state, M58_STATE_WORDS) >> 16);
+    state[SUPPLY_WORD] ^= UINT64_C(1) << SUPPLY_BIT;
+    check_refused(part, state);
+}
+
+/* The status word in the bank of block 4. */
+static uint64_t status_of(uint64_t *state, uint32_t part)
+{
+    const uint64_t steps[] = { M58_WRITE(fourth[part], 0x70), M58_READ(fourth[part]) };
+    uint64_t answers[2] = { 0, 0 };
+    SAME(2, m58_run(state, M58_STATE_WORDS, steps, 2, answers, 2, array, words_of(part)));
+    return answers[1];
+}
+
+/* Supply off while it runs: it ends with its flags, and an erase around it stays suspended; off again, on and work change no more. */
+static void check_running_cut(uint32_t part, unsigned operation)
+{
+    const uint64_t due = operation == ERASE ? 0xA8 : operation >= NESTED_PROGRAM ? 0xD8 : 0x98;
+    const uint64_t later[] = { M58_SUPPLY(0), M58_WORK(5), M58_SUPPLY(1), M58_WORK(5) };
+    uint64_t state[M58_STATE_WORDS];
+    run_operation(state, part, operation);
+    SAME(M58_REFUSED_NOTHING, refusal(state, M58_STATE_WORDS, M58_SUPPLY(0), words_of(part)));
+    SAME(0, state[SUPPLY_WORD] >> SUPPLY_BIT);
+    SAME(due, status_of(state, part));
+    PLAY_LIST(state, part, later);
+    SAME(due, status_of(state, part));
+}
+
+/* State words in which it is suspended without supply: those that supply off leaves, and D0h ends it; with supply, D0h resumes it. */
+static void check_suspended_without_supply(uint32_t part, unsigned operation)
+{
+    const size_t own = words_of(part);
+    const uint64_t resume = M58_WRITE(fourth[part], 0xD0), nested = operation >= NESTED_PROGRAM ? 0x40 : 0;
+    uint64_t state[M58_STATE_WORDS], on[M58_STATE_WORDS], off[M58_STATE_WORDS];
+    run_operation(state, part, operation);
+    SAME(M58_REFUSED_NOTHING, refusal(state, M58_STATE_WORDS, M58_WRITE(fourth[part], 0xB0), own));
+    memcpy(on, state, sizeof on);
+    memcpy(off, state, sizeof off);
+    off[SUPPLY_WORD] ^= UINT64_C(1) << SUPPLY_BIT;
+    SAME(M58_REFUSED_NOTHING, refusal(state, M58_STATE_WORDS, M58_SUPPLY(0), own));
+    SAME(0, memcmp(state, off, sizeof off));
+    SAME(2, m58_report(off, M58_STATE_WORDS) >> 16);
+    SAME(operation == ERASE ? 0xC0 : nested | 0x84, status_of(off, part));
+    SAME(M58_REFUSED_NOTHING, refusal(off, M58_STATE_WORDS, resume, own));
+    SAME(operation == ERASE ? 0xA8 : nested | 0x98, status_of(off, part));
+    SAME(M58_REFUSED_NOTHING, refusal(state, M58_STATE_WORDS, M58_SUPPLY(1), own));
+    SAME(0, memcmp(state, on, sizeof on));
+    SAME(M58_REFUSED_NOTHING, refusal(state, M58_STATE_WORDS, resume, own));
+    SAME(nested, status_of(state, part));
+}
+
+static void check_supply(void)
+{
+    for (uint32_t part = 0; part < M58_PARTS; part++) {
+        check_erase_cut(part);
+        check_resume_cut(part);
+        check_load_cut(part);
+        fill_array(words_of(part), 0xFFFF);
+        for (unsigned operation = 0; operation < OPERATIONS; operation++) {
+            check_running_without_supply(part, operation);
+            check_running_cut(part, operation);
+            check_suspended_without_supply(part, operation);
+        }
+        /* no program had its unit, and no second word of a load went in */
+        SAME(0, other_words(words_of(part), 0xFFFF));
+    }
 }
 
 /* ---- Intel HEX ---- */
@@ -453,6 +647,7 @@ int main(void)
     check_buffer();
     check_register_stored();
     check_register_states();
+    check_supply();
     check_hex_reading();
     check_hex_refusals();
     check_hex_lent();

@@ -1,6 +1,8 @@
-//! What the lists reach of the write buffer, of the configuration register and of
-//! the status word: each kind of step and of state, and each status word that is
+//! What the lists reach of the write buffer, of the configuration register, of supply
+//! drops and of the status word: each kind of step and of state, and each status word that is
 //! read, is counted, by the second model's device before and after the step.
+
+mod drops;
 
 use crate::author::states::CLAUSES;
 use crate::second::model::{
@@ -8,6 +10,7 @@ use crate::second::model::{
     DEFAULT_CONFIGURATION, RESERVED_BITS,
 };
 use crate::second::steps::Step;
+use drops::Drops;
 
 /// The kinds, each with its text.
 macro_rules! kinds {
@@ -102,15 +105,93 @@ kinds! {
     ReadReset, "register read after a reset of one that was not the default";
     ReadGiven, "register read as the list began with it";
     GivenRegister, "state with a register that is not the default";
+
+    CutProgram, "supply off, program running";
+    CutProgramErase, "supply off, program running beside a suspended erase";
+    CutBufferNone, "supply off, buffer program running, no word in";
+    CutBufferSome, "supply off, buffer program running, some words in";
+    CutBufferLast, "supply off, buffer program running, all words in but one";
+    CutBufferErase, "supply off, buffer program running beside a suspended erase";
+    CutEraseNone, "supply off, erase running, no word done";
+    CutEraseSome, "supply off, erase running, some words done";
+    CutEraseLast, "supply off, erase running, all words done but one";
+    CutFlags, "supply off, something running, flags set before";
+
+    StaysProgram, "supply off, program suspended";
+    StaysBuffer, "supply off, buffer program suspended";
+    StaysErase, "supply off, erase suspended";
+    StaysProgramErase, "supply off, program and erase suspended";
+    StaysBufferErase, "supply off, buffer program and erase suspended";
+    OffAgain, "supply off when it is off";
+    OffAgainSuspended, "supply off when it is off, something suspended";
+    OnRunning, "supply on, something running";
+    OnSuspended, "supply on again, something suspended";
+
+    EndedProgram, "D0h without supply, program suspended";
+    EndedBuffer, "D0h without supply, buffer program suspended";
+    EndedErase, "D0h without supply, erase suspended";
+    EndedProgramErase, "D0h without supply, program and erase suspended";
+    EndedBufferErase, "D0h without supply, buffer program and erase suspended";
+    EndedSecond, "D0h without supply again: after the program the erase";
+    EndedFlags, "D0h without supply, something suspended, flags set before";
+    EndedNothing, "D0h without supply, nothing suspended";
+    ResumedProgram, "program resumed, over which supply was off";
+    ResumedBuffer, "buffer program resumed, over which supply was off";
+    ResumedErase, "erase resumed, over which supply was off";
+
+    OffProgram, "supply off in the set-up of a program";
+    OffErase, "supply off in the set-up of an erase";
+    OffLock, "supply off in the set-up of a lock";
+    OffCount, "supply off in a load, count due";
+    OffFirst, "supply off in a load, first word due";
+    OffLater, "supply off in a load, later word due";
+    OffConfirm, "supply off in a load, D0h due";
+    OnProgram, "supply on again in the set-up of a program";
+    OnErase, "supply on again in the set-up of an erase";
+    OnLock, "supply on again in the set-up of a lock";
+    OnCount, "supply on again in a load, count due";
+    OnFirst, "supply on again in a load, first word due";
+    OnLater, "supply on again in a load, later word due";
+    OnConfirm, "supply on again in a load, D0h due";
+    RefusedProgramOff, "program refused, supply off since its set-up";
+    RefusedEraseOff, "erase refused, supply off since its set-up";
+    RefusedLoadOff, "buffer program refused, supply off since its E8h";
+    RunsProgramBack, "program accepted, supply off and on since its set-up";
+    RunsEraseBack, "erase accepted, supply off and on since its set-up";
+    RunsLoadBack, "buffer program accepted, supply off and on since its E8h";
+    LockNoResume, "D0h of a lock without supply, erase suspended";
+
+    SeenErased, "word read that an erase had reached when it ended without supply";
+    SeenNotErased, "word read that it had not reached";
+    SeenLoaded, "word read that a buffer program had put in when it ended without supply";
+    SeenNotLoaded, "word read that it had not put in";
+    SeenNotProgrammed, "word read whose program ended without supply";
+
+    RefusedRead, "read refused, something running without supply";
+    RefusedWrite, "write refused, something running without supply";
+    RefusedWork, "work refused, something running without supply";
+    RefusedOff, "supply off refused, something running without supply";
+    RefusedOn, "supply on refused, something running without supply";
+    RefusedReset, "reset refused, something running without supply";
+
+    GivenOffProgram, "state without supply, program suspended";
+    GivenOffBuffer, "state without supply, buffer program suspended";
+    GivenOffErase, "state without supply, erase suspended";
+    GivenOffProgramErase, "state without supply, program and erase suspended";
+    GivenOffBufferErase, "state without supply, buffer program and erase suspended";
+    GivenOffSetUp, "state without supply, set-up of two cycles pending";
+    GivenOffLoad, "state without supply, load pending";
 }
 
 /// How often the lists of `quick` have to reach each kind, at the least: those of
-/// the register come last.
+/// the register and of the supply come last, and a list has one state to begin with.
 fn least(kind: usize) -> u64 {
     if kind < Kind::Stored14 as usize {
         1
-    } else {
+    } else if kind < Kind::GivenOffProgram as usize {
         200
+    } else {
+        50
     }
 }
 
@@ -231,6 +312,7 @@ pub struct Glance {
     pub suspended_erase: Option<Erase>,
     flags: Flags,
     configuration: u16,
+    supply: bool,
 }
 
 impl Glance {
@@ -242,6 +324,7 @@ impl Glance {
             suspended_erase: device.suspended_erase,
             flags: device.flags,
             configuration: device.configuration,
+            supply: device.supply,
         }
     }
 
@@ -252,6 +335,10 @@ impl Glance {
 
     fn erase_suspended(&self) -> bool {
         self.suspended_erase.is_some()
+    }
+
+    fn program_suspended(&self) -> bool {
+        self.suspended_program.is_some()
     }
 }
 
@@ -268,8 +355,9 @@ enum Register {
     Reset,
 }
 
-/// Watches the steps of a list; of a load it keeps which words were given, and of
-/// the register where it comes from, which the device does not tell.
+/// Watches the steps of a list; of a load it keeps which words were given, of the
+/// register where it comes from, and of the supply where it went off, which the
+/// device does not tell.
 #[derive(Clone, Copy, Default)]
 pub struct Watch {
     /// Of a load whose first word was seen: a bit for each word given.
@@ -278,6 +366,7 @@ pub struct Watch {
     upward: bool,
     repeated: bool,
     register: Register,
+    drops: Drops,
 }
 
 impl Watch {
@@ -293,6 +382,9 @@ impl Watch {
         if answer.refusal != 0 {
             let write = matches!(step, Step::Write(..));
             reached.add_if(write && before.load().is_some(), Kind::LoadRefused);
+            if answer.refusal == 2 {
+                drops::note_refused(reached, step, after);
+            }
             return;
         }
         if let Step::Read(address) = step {
@@ -301,6 +393,7 @@ impl Watch {
             reached.status[usize::from(answer.value & 0xFF)] += u64::from(shown);
         }
         self.register_step(reached, before, step, after);
+        self.drops.step(reached, before, step, after);
         match (step, before.load()) {
             (Step::Write(address, data), Some(load)) => {
                 let cycle = Cycle::new(after, address, data);
@@ -383,6 +476,7 @@ impl Watch {
                 given: Some(1),
                 upward: true,
                 register: self.register,
+                drops: self.drops,
                 ..Watch::default()
             };
         } else if let Some(given) = self.given {
@@ -572,6 +666,7 @@ pub fn note_state(reached: &mut Reached, device: &Device) {
     if !device.well_formed() {
         return;
     }
+    drops::note_state(reached, device);
     let changed = device.configuration != DEFAULT_CONFIGURATION;
     reached.add_if(changed, Kind::GivenRegister);
     let erased = device.suspended_erase.map(|erase| erase.block);

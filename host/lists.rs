@@ -1,7 +1,7 @@
 //! Random lists. A list is made by its part and its seed alone: the state and
 //! array it begins with, its steps, and the calls it is played in.
 
-use crate::author::states::CLAUSES;
+use crate::author::states::{CLAUSES, SUPPLY_CLAUSES};
 use crate::author::{Author, Dice};
 use crate::library::STATE_WORDS;
 use crate::pair::{Difference, Fate, Pair, Start};
@@ -19,7 +19,10 @@ pub fn play(pair: &mut Pair, seed: u64) -> Result<(), Difference> {
         0..=11 => Start::PowerUp,
         12..=16 => Start::Words(state::encode(&author.device()).to_vec()),
         17 => {
-            let clause = dice.index(CLAUSES.len());
+            let clause = match dice.below(4) {
+                0 => SUPPLY_CLAUSES + dice.index(CLAUSES.len() - SUPPLY_CLAUSES),
+                _ => dice.index(CLAUSES.len()),
+            };
             pair.counts.reached.add_clause(clause);
             Start::Words(state::encode(&author.broken(clause)).to_vec())
         }

@@ -109,6 +109,18 @@ uint32_t m58_lookup_bank(uint32_t part, uint32_t address);
  */
 
 /*
+ * SUPPLY. It is off after power-up, and a reset keeps it. When it goes off, what
+ * runs ends at once: the words that it has reached stay as they are, and SR3 is set
+ * with SR4 for a program or a buffer program (98h), with SR5 for an erase (A8h). What
+ * is suspended stays: D0h with supply on resumes it; without supply, D0h ends the one
+ * that it would have resumed, the program before the erase, with the same flags and
+ * no unit. A set-up or a load stays too, and its last cycle looks at the supply.
+ * Switching supply on resumes nothing. State words in which something runs without
+ * supply, which older libraries may have left, are not those of a well-formed device:
+ * every step and m58_report refuse them.
+ */
+
+/*
  * The steps, as constant expressions where the arguments are. An address or a
  * count that 32 bits do not hold, also a negative one, is encoded as
  * 0xFFFFFFFF, which is refused as it would be (3 for an address, 4 for a

@@ -46,6 +46,10 @@ pub struct Counts {
     pub resumes: u64,
     pub resets: u64,
     pub cuts: u64,
+    /// Operations that the supply ended, where they ran and where they would have
+    /// been resumed.
+    pub supply_cuts: u64,
+    pub supply_ends: u64,
     /// Refused steps by the number of the refusal; 0 counts the accepted ones.
     pub refused: [u64; 8],
     pub words: u64,
@@ -72,6 +76,8 @@ impl Counts {
             resumes: self.resumes + other.resumes,
             resets: self.resets + other.resets,
             cuts: self.cuts + other.cuts,
+            supply_cuts: self.supply_cuts + other.supply_cuts,
+            supply_ends: self.supply_ends + other.supply_ends,
             refused,
             words: self.words + other.words,
             journals: self.journals + other.journals,
@@ -87,8 +93,8 @@ impl Counts {
         format!(
             "{} lists, {} states, {} steps in {} calls, {} numbers that are no step; accepted {} programs \
              ({} beside a suspended erase) and {} erases; {} suspends, {} resumes, {} resets \
-             ({} cut something); {refused} steps refused ({}); {} array words compared, {} \
-             journals applied",
+             ({} cut something); {} operations ended by supply off, {} by D0h without supply; \
+             {refused} steps refused ({}); {} array words compared, {} journals applied",
             self.lists,
             self.states,
             self.steps,
@@ -101,6 +107,8 @@ impl Counts {
             self.resumes,
             self.resets,
             self.cuts,
+            self.supply_cuts,
+            self.supply_ends,
             by_number.join(", "),
             self.words,
             self.journals,
@@ -407,6 +415,7 @@ impl Pair {
                     "running",
                     recorder.running().is_some() == device.running.is_some(),
                 ),
+                ("suspended", recorder.suspended() == suspended(device)),
             ];
             if let Some((name, _)) = pairs.iter().find(|(_, equal)| !equal) {
                 return Err(Difference {
@@ -549,9 +558,23 @@ impl Counts {
             }
             (Step::Write(..), None, Some(Operation::Erase(_))) => self.erases += 1,
             (Step::Write(..), Some(_), None) => self.suspends += 1,
+            (Step::Write(..), None, None) => {
+                let count = |glance: Glance| {
+                    u64::from(glance.suspended_program.is_some())
+                        + u64::from(glance.suspended_erase.is_some())
+                };
+                self.supply_ends += count(before) - count(after);
+            }
+            (Step::Supply(false), Some(_), _) => self.supply_cuts += 1,
             _ => {}
         }
     }
+}
+
+/// Whether a program is suspended, and whether an erase is.
+fn suspended(device: &Device) -> (bool, bool) {
+    let (program, erase) = (&device.suspended_program, &device.suspended_erase);
+    (program.is_some(), erase.is_some())
 }
 
 fn same(what: &str, step: usize, expected: u64, got: u64) -> Result<(), Difference> {

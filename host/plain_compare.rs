@@ -21,7 +21,7 @@ mod second {
 use author::{Author, Dice};
 use plain::Plain;
 use second::model::{
-    Answer, Device, Flags, Mode, Operation, Part, Place, Program, Setup, BANKS, BLOCKS,
+    Answer, Device, Erase, Flags, Mode, Operation, Part, Place, Program, Setup, BANKS, BLOCKS,
     BUFFER_WORDS, DEFAULT_CONFIGURATION,
 };
 use second::steps::Step;
@@ -29,11 +29,14 @@ use std::collections::BTreeMap;
 use std::process::ExitCode;
 
 /// Lists for each part.
-const LISTS: [u64; 4] = [30, 30, 3_000, 3_000];
+const LISTS: [u64; 4] = [30, 30, 4_000, 4_000];
 
 /// How many different things become of a step. Fewer would mean that the lists
 /// try less than they seem to.
-const OUTCOMES: usize = 169;
+const OUTCOMES: usize = 206;
+
+/// How often each outcome of a supply step, and each end without supply, has to come.
+const LEAST_DROPS: u64 = 100;
 
 /// What lies in an answer before a call.
 const UNTOUCHED: u64 = 0xA5A5_5A5A_C3C3_3C3C;
@@ -64,6 +67,11 @@ fn compare() -> Result<String, String> {
     if reached != OUTCOMES {
         return Err(format!(
             "plain_compare: {reached} outcomes reached, and not {OUTCOMES}"
+        ));
+    }
+    if let Some(seldom) = tally.seldom_drop() {
+        return Err(format!(
+            "plain_compare: less than {LEAST_DROPS} times: {seldom}"
         ));
     }
     Ok(format!(
@@ -100,6 +108,17 @@ impl Tally {
             "{} lists, {} steps, {} array words",
             self.lists, self.steps, self.words
         )
+    }
+
+    /// What the lists do too seldom with the supply (document 02, item 5).
+    fn seldom_drop(&self) -> Option<String> {
+        let drop = |asked: &str, became: &str| {
+            asked.starts_with("supply") || asked == "write, D0h" && became.starts_with("ended")
+        };
+        self.outcomes
+            .iter()
+            .find(|&(&(asked, became), &times)| drop(asked, became) && times < LEAST_DROPS)
+            .map(|((asked, became), times)| format!("{asked}: {times} {became}"))
     }
 
     /// A line for each thing asked, with what became of it.
@@ -166,7 +185,7 @@ impl Pair {
             self.call(told, size, &mut |device| author.next(device))?;
             left -= size;
         }
-        let closing = closing(&self.device);
+        let closing = closing(&self.device, dice.percent(50));
         let mut numbers = closing.iter().copied().map(library::number);
         let mut next = |_: &Device| numbers.next().expect("as many as are asked for");
         self.call(words, closing.len(), &mut next)?;
@@ -233,15 +252,16 @@ impl Pair {
         let before = self.device.clone();
         let array = &mut self.model_array[..told];
         let answer = self.device.step(array, step);
-        // The flags that a write set, where some were set before it. A write
-        // leaves the array.
+        // The flags that a write or a supply step set, where some were set before
+        // it. Both leave the array.
         let mut bare = before.clone();
         bare.flags = Flags::default();
-        if matches!(step, Step::Write(..)) {
+        if matches!(step, Step::Write(..) | Step::Supply(_)) {
             bare.step(array, step);
         }
         let became = match (answer.refusal, flags_text(bare.flags)) {
             (0, "") => became(&before, &self.device, step, answer),
+            (0, flags) if without_supply(&before, step).is_some() => ended(&before, step, flags),
             (0, WRONG_CYCLE) => wrong_cycle(&before, step),
             (0, flags) => flags,
             (1, _) => "refused 1",
@@ -356,11 +376,15 @@ impl Pair {
     }
 }
 
-/// Steps whose answers, and the array after them, tell all that a state holds.
-fn closing(device: &Device) -> Vec<Step> {
+/// Steps whose answers, and the array after them, tell all that a state holds; without
+/// supply, what is suspended ends with its flags alone, and with it by its units.
+fn closing(device: &Device, supply: bool) -> Vec<Step> {
     let part = device.part;
     let banks = (0..BANKS as u32).map(|bank| part.bank_start(bank).expect("a bank of the part"));
     let mut steps: Vec<Step> = banks.clone().map(Step::Read).collect();
+    if supply {
+        steps.push(Step::Supply(true));
+    }
     // A load gets the data cycles that it lacks, all for its start, and D0h.
     if let Some(Setup::LoadNext { start, due, .. }) = device.setup {
         steps.extend((0..due).map(|_| Step::Write(start, 0xFFFF)));
@@ -452,12 +476,82 @@ fn became(before: &Device, after: &Device, step: Step, answer: Answer) -> &'stat
         Step::Read(address) => became_of_read(before, address),
         Step::Write(..) => became_of_write(before, after),
         Step::Work(_) => became_of_work(before, after, answer),
-        Step::Supply(_) if is_load(before.setup) => "in a load",
-        Step::Supply(_) if before == after => "changed nothing",
-        Step::Supply(_) => "changed the state",
+        Step::Supply(_) => became_of_supply(before, after),
         Step::Reset => became_of_reset(before),
     }
 }
+
+/// What became of a supply step that ended nothing.
+fn became_of_supply(before: &Device, after: &Device) -> &'static str {
+    use Program as P;
+    match before.setup {
+        Some(Setup::LoadCount { .. }) => return "in a load before its count",
+        Some(Setup::LoadFirst { .. }) => return "in a load before its first word",
+        Some(Setup::LoadNext { due: 0, .. }) => return "in a load before D0h",
+        Some(Setup::LoadNext { .. }) => return "in a load among its words",
+        Some(Setup::Program) => return "in the set-up of a program",
+        Some(Setup::Erase) => return "in the set-up of an erase",
+        Some(Setup::Lock) => return "in the set-up of a lock",
+        None => {}
+    }
+    match (before.suspended_program, before.suspended_erase) {
+        (Some(P::Word { .. }), None) => "with a program suspended",
+        (Some(P::Word { .. }), Some(_)) => "with a program and an erase suspended",
+        (Some(P::Buffer { .. }), None) => "with a buffer program suspended",
+        (Some(P::Buffer { .. }), Some(_)) => "with a buffer program and an erase suspended",
+        (None, Some(_)) if before.running.is_none() => "with an erase suspended",
+        _ if before.running.is_some() => "with something running",
+        _ if before == after => "changed nothing",
+        _ => "changed the state",
+    }
+}
+
+/// The operation that a step ends for want of supply (document 02, item 5).
+fn without_supply(before: &Device, step: Step) -> Option<Operation> {
+    match step {
+        Step::Supply(false) => before.running,
+        Step::Write(_, data) if data % 256 == 0xD0 && before.setup.is_none() && !before.supply => {
+            let program = before.suspended_program.map(Operation::Program);
+            program.or(before.suspended_erase.map(Operation::Erase))
+        }
+        _ => None,
+    }
+}
+
+/// Which operation a step ended for want of supply, and after how many units where it
+/// was running; the flags are those that the kind of operation has.
+fn ended(before: &Device, step: Step, flags: &str) -> &'static str {
+    use {Operation as O, Program as P};
+    let nested = before.suspended_erase.is_some();
+    let suspended = before.running.is_none();
+    match (without_supply(before, step), flags) {
+        (Some(O::Program(P::Word { .. })), PROGRAM_CUT) if nested => "ended a program in an erase",
+        (Some(O::Program(P::Word { .. })), PROGRAM_CUT) => "ended a program",
+        (Some(O::Program(P::Buffer { .. })), PROGRAM_CUT) if nested => {
+            "ended a buffer program in an erase"
+        }
+        (Some(O::Program(P::Buffer { .. })), PROGRAM_CUT) if suspended => "ended a buffer program",
+        (Some(O::Program(P::Buffer { words, done, .. })), PROGRAM_CUT) => match done {
+            0 => "ended a buffer program before its first word",
+            _ if words - done == 1 => "ended a buffer program before its last word",
+            _ => "ended a buffer program among its words",
+        },
+        (Some(O::Erase(_)), ERASE_CUT) if suspended => "ended an erase",
+        (Some(O::Erase(erase)), ERASE_CUT) => match erase.done {
+            0 => "ended an erase before its first word",
+            _ if lacks_one(before, erase) => "ended an erase before its last word",
+            _ => "ended an erase among its words",
+        },
+        _ => "ended with flags that are not due",
+    }
+}
+
+/// Whether an erase lacks one unit.
+fn lacks_one(device: &Device, erase: Erase) -> bool {
+    let block = device.part.block(erase.block).expect("a block of the part");
+    block.size - erase.done == 1
+}
+
 fn became_of_read(device: &Device, address: u32) -> &'static str {
     match device.running {
         None => "with nothing running",
@@ -515,8 +609,10 @@ fn became_of_reset(before: &Device) -> &'static str {
     }
 }
 
-/// The flags of a wrong cycle.
+/// The flags of a wrong cycle, and of what ends without supply.
 const WRONG_CYCLE: &str = "set SR5 SR4";
+const PROGRAM_CUT: &str = "set SR4 SR3";
+const ERASE_CUT: &str = "set SR5 SR3";
 
 /// What is wrong with a wrong cycle; of a load, the first rule that it breaks.
 fn wrong_cycle(before: &Device, step: Step) -> &'static str {
@@ -570,11 +666,11 @@ fn running_bank(device: &Device, operation: Operation) -> u32 {
 fn flags_text(flags: Flags) -> &'static str {
     match (flags.sr5, flags.sr4, flags.sr3, flags.sr1) {
         (false, false, false, false) => "",
-        (false, true, true, false) => "set SR4 SR3",
+        (false, true, true, false) => PROGRAM_CUT,
         (false, true, false, true) => "set SR4 SR1",
         (false, true, false, false) => "set SR4",
         (true, true, false, false) => WRONG_CYCLE,
-        (true, false, true, false) => "set SR5 SR3",
+        (true, false, true, false) => ERASE_CUT,
         (true, false, false, true) => "set SR5 SR1",
         _ => "set flags that no rule sets",
     }

@@ -1,5 +1,6 @@
 //! Plays scripts through the real program and compares what it prints with the transcript of the independent second model: the stored examples, every form
-//! and its near misses, the bounds of document 01, random scripts and damaged ones, and input that arrives a byte at a time.
+//! and its near misses, the bounds of document 01, random scripts and damaged ones, and input that arrives a byte at a time. Fails too where the random scripts
+//! drop the supply too seldom over something that runs or is suspended (document 02, item 5).
 //!
 //! usage: script_compare PROGRAM EXAMPLES [COUNT [SEED]]
 
@@ -12,8 +13,10 @@ mod script;
 #[path = "second/steps.rs"]
 mod steps;
 
+use model::{Device, Operation, Program};
 use std::io::{Read, Write};
 use std::process::{Command, Stdio};
+use steps::Step;
 
 /// xorshift64*: the same scripts on every machine.
 struct Random(u64);
@@ -116,6 +119,56 @@ struct Compare<'a> {
     lines: u64,
     refused: u64,
     warned: u64,
+    drops: Drops,
+}
+
+/// How often each of the counts in `Drops` has to be reached for a thousand random scripts.
+const LEAST_DROPS: u64 = 200;
+
+/// Programs, buffer programs and erases that end without supply: by supply off, and by D0h.
+#[derive(Default)]
+struct Drops {
+    running: [u64; 3],
+    suspended: [u64; 3],
+}
+
+impl Drops {
+    /// Counts those of a script, by the second model.
+    fn note(&mut self, input: &[u8]) {
+        let mut device = Device::power_up(script::BENCH_BOTTOM);
+        let mut array = vec![0xFFFF; script::BENCH_WORDS];
+        let place = |operation| match operation {
+            Operation::Program(Program::Word { .. }) => 0,
+            Operation::Program(Program::Buffer { .. }) => 1,
+            Operation::Erase(_) => 2,
+        };
+        for step in script::lines(input).filter_map(script::parse) {
+            let (running, supply) = (device.running, device.supply);
+            let program = device.suspended_program.map(Operation::Program);
+            let resumed = program.or(device.suspended_erase.map(Operation::Erase));
+            let first_cycle = device.setup.is_none();
+            device.step(&mut array, step);
+            match (step, running, resumed) {
+                (Step::Supply(false), Some(operation), _) => self.running[place(operation)] += 1,
+                (Step::Write(_, data), None, Some(operation))
+                    if data % 256 == 0xD0 && first_cycle && !supply =>
+                {
+                    self.suspended[place(operation)] += 1;
+                }
+                _ => {}
+            }
+        }
+    }
+
+    /// Prints the counts of so many random scripts; fails where one is too low.
+    fn report(&self, scripts: u64) {
+        let Drops { running, suspended } = self;
+        println!("programs, buffer programs and erases ended by supply off: {running:?}; by D0h without supply: {suspended:?}");
+        let least = LEAST_DROPS * scripts / 1000;
+        if running.iter().chain(suspended).any(|&count| count < least) {
+            fail("the random scripts drop the supply too seldom");
+        }
+    }
 }
 
 impl Compare<'_> {
@@ -294,7 +347,7 @@ fn random_script(r: &mut Random, damage: bool) -> Vec<u8> {
         } else {
             *r.pick(PLACES)
         };
-        match r.below(23) {
+        match r.below(26) {
             0..=4 => text.push_str(&format!("R {address:06X}\n")),
             5..=8 => {
                 // both cycles of a command to one place
@@ -333,6 +386,7 @@ fn random_script(r: &mut Random, damage: bool) -> Vec<u8> {
             18 => text.push_str(if r.below(3) == 0 { "V 0\n" } else { "V 1\n" }),
             19..=20 => text.push_str(&random_load(r, address)),
             21 => text.push_str(&random_register(r)),
+            22..=24 => text.push_str(&random_drop(r)),
             _ => text.push_str(if r.below(3) == 0 { "Z\n" } else { "R 000040\n" }),
         }
     }
@@ -389,6 +443,34 @@ fn random_register(r: &mut Random) -> String {
     text
 }
 
+/// An operation that the supply ends where it runs, or where it is suspended and D0h comes; or that goes on with supply again. What it left is read.
+fn random_drop(r: &mut Random) -> String {
+    let address = *r.pick(&[0x40, 0x41, 0x44, 0x80, 0x82]);
+    let write = |data: u64| format!("W {address:06X} {data:04X}\n");
+    let mut text = "V 1\n".to_string() + &write(0x60) + &write(0xD0);
+    text += &match r.below(3) {
+        0 => write(0x40) + &write(r.below(65536)),
+        1 => write(0x20) + &write(0xD0),
+        _ => random_load(r, address),
+    };
+    text += &format!("K {}\n", r.pick(&[0, 0, 1, 2, 3, 10, 63]));
+    if r.below(2) == 0 {
+        text += &write(0xB0);
+    }
+    text += "V 0\n";
+    if r.below(2) == 0 {
+        text += &write(0xD0);
+    }
+    text += &format!("R {address:06X}\n");
+    if r.below(4) > 0 {
+        text += "V 1\n";
+    }
+    if r.below(2) == 0 {
+        text += &write(0xD0);
+    }
+    text + "K 1\n" + &write(0xFF) + &format!("R {address:06X}\nR {:06X}\n", address + 1)
+}
+
 fn examples(compare: &mut Compare, folder: &str) -> u64 {
     let mut names: Vec<_> = std::fs::read_dir(folder)
         .unwrap_or_else(|e| fail(&format!("cannot read {folder}: {e}")))
@@ -433,6 +515,7 @@ fn main() {
         lines: 0,
         refused: 0,
         warned: 0,
+        drops: Drops::default(),
     };
     let stored = examples(&mut compare, &args[2]);
     for near in NEAR {
@@ -450,6 +533,7 @@ fn main() {
     let mut r = Random(seed | 1);
     for i in 0..count {
         let text = random_script(&mut r, i % 2 == 1);
+        compare.drops.note(&text);
         compare.one(
             &format!("random script {i} of seed {seed}"),
             &text,
@@ -465,6 +549,7 @@ fn main() {
         );
     }
     compare.one("a slow reader", &[b'\n'; 16384], Pace::SlowOut);
+    compare.drops.report(count);
     println!(
         "scripts: {} compared, {stored} of them stored examples and {count} random of seed {seed}; {} lines printed, {} of them refused; {} scripts warned of",
         compare.scripts, compare.lines, compare.refused, compare.warned

@@ -17,7 +17,8 @@
 //! | 9, 10    | suspended erase: 0; 1, block, words done                    |
 //! | 11       | SR5, SR4, SR3, SR1, a byte each from the lowest; from bit   |
 //! |          | 32 the configuration register, whose bits 14, 5 and 4 are 0 |
-//! |          | where the device is well formed; from bit 48 the supply     |
+//! |          | where the device is well formed; from bit 48 the supply, on |
+//! |          | where it is well formed and something runs                  |
 //! | 12 to 16 | bit b % 64 of word b / 64 is 1 where block b is unprotected |
 //! | 17 to 24 | word i of the buffer from bit 16 (i % 4) of word 17 + i / 4 |
 //!

@@ -22,6 +22,9 @@ impl Author {
         if !device.well_formed() {
             return Step::Write(self.address(), self.command());
         }
+        if !device.supply && self.dice.percent(4) {
+            return Step::Supply(true); // else most loads would come to nothing
+        }
         match self.dice.below(100) {
             0 => return Step::Supply(!device.supply),
             1 => return Step::Work(0),

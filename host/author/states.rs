@@ -1,6 +1,6 @@
 //! Random states to begin from: well formed, or with one clause broken of what
-//! the rule of well-formed states says of the write buffer and of the
-//! configuration register.
+//! the rule of well-formed states says of the write buffer, of the configuration
+//! register and of the supply.
 
 use super::{some_block, Author};
 use crate::second::model::{
@@ -9,7 +9,7 @@ use crate::second::model::{
 };
 
 /// The clauses that `Author::broken` breaks.
-pub const CLAUSES: [&str; 22] = [
+pub const CLAUSES: [&str; 27] = [
     "a load beside a running operation",
     "a load beside a suspended program",
     "a load of a block that the part has not",
@@ -32,7 +32,15 @@ pub const CLAUSES: [&str; 22] = [
     "a configuration register with reserved bit 5 set",
     "a configuration register with reserved bit 4 set",
     "a configuration register with two or three reserved bits set",
+    "a program that runs without supply",
+    "a buffer program that runs without supply",
+    "an erase that runs without supply",
+    "a program that runs beside a suspended erase without supply",
+    "a buffer program that runs beside a suspended erase without supply",
 ];
+
+/// The first of those that say that something runs without supply.
+pub const SUPPLY_CLAUSES: usize = 22;
 
 /// Numbers of words that the buffer has not.
 const TOO_MANY: [u32; 5] = [33, 34, 64, 1 << 16, u32::MAX];
@@ -65,24 +73,45 @@ impl Author {
             _ => {}
         }
         self.fill_buffer(&mut device);
+        supply_what_runs(&mut device);
         device
     }
 
     /// A device that breaks a clause; the number is a place in `CLAUSES`.
     pub fn broken(&mut self, clause: usize) -> Device {
-        if clause >= 18 {
-            return self.break_register(clause - 18);
-        }
         let mut device = self.idle_device();
-        if clause < 8 {
-            self.break_load(clause, &mut device);
-        } else if clause < 16 {
-            self.break_program(clause - 8, &mut device);
-        } else {
-            return self.break_spare(clause - 16, device);
+        match clause {
+            0..8 => self.break_load(clause, &mut device),
+            8..16 => self.break_program(clause - 8, &mut device),
+            16..18 => device = self.break_spare(clause - 16, device),
+            18..SUPPLY_CLAUSES => return self.break_register(clause - 18),
+            _ => return self.break_supply(clause - SUPPLY_CLAUSES),
         }
-        self.fill_buffer(&mut device);
+        if clause < 16 {
+            self.fill_buffer(&mut device);
+        }
+        supply_what_runs(&mut device);
         device
+    }
+
+    /// Any device in which an operation of one kind runs, but without supply.
+    fn break_supply(&mut self, clause: usize) -> Device {
+        use {Operation as O, Program as P};
+        loop {
+            let mut device = self.device();
+            let kind = match (device.running, device.suspended_erase) {
+                (Some(O::Program(P::Word { .. })), None) => 0,
+                (Some(O::Program(P::Buffer { .. })), None) => 1,
+                (Some(O::Erase(_)), _) => 2,
+                (Some(O::Program(P::Word { .. })), Some(_)) => 3,
+                (Some(O::Program(P::Buffer { .. })), Some(_)) => 4,
+                (None, _) => continue,
+            };
+            if kind == clause {
+                device.supply = false;
+                return device;
+            }
+        }
     }
 
     /// Any device that would be well formed but for the reserved bits of its
@@ -205,7 +234,7 @@ impl Author {
         }
         // Else every step would be refused.
         device.configuration = without_reserved_bits(dice.next() as u16);
-        device.supply = dice.percent(70);
+        device.supply = dice.percent(60);
         device
     }
 
@@ -327,13 +356,18 @@ impl Author {
         Erase { block, done }
     }
 
-    fn usual_block(&mut self) -> u32 {
+    pub(super) fn usual_block(&mut self) -> u32 {
         if self.dice.percent(70) {
             self.dice.pick(&self.favoured)
         } else {
             some_block(&mut self.dice)
         }
     }
+}
+
+/// "In a well made state something runs only with supply on" (document 02, item 5).
+fn supply_what_runs(device: &mut Device) {
+    device.supply |= device.running.is_some();
 }
 
 fn load_next(start: u32, words: u32, due: u32) -> Setup {

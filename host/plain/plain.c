@@ -226,14 +226,24 @@ static void suspend(struct plain *device) {
     device->running = PLAIN_NOTHING;
 }
 
+/* Without supply an operation ends, where it runs and where it would be resumed (document 02, item 5). What it has done stays in the array. */
+static void end_without_supply(struct plain *device, enum plain_operation operation) {
+    if (operation != PLAIN_NOTHING)
+        device->flags |= operation == PLAIN_ERASE ? SR5 | SR3 : SR4 | SR3;
+}
+
 static void resume(struct plain *device) {
-    if (device->suspended_program != PLAIN_NOTHING) {
-        device->running = device->suspended_program;
+    enum plain_operation resumed = device->suspended_program;
+    if (resumed != PLAIN_NOTHING) {
         device->suspended_program = PLAIN_NOTHING;
     } else if (device->erase_suspended) {
-        device->running = PLAIN_ERASE;
+        resumed = PLAIN_ERASE;
         device->erase_suspended = false;
     }
+    if (device->supply)
+        device->running = resumed;
+    else
+        end_without_supply(device, resumed);
 }
 
 static void set_up(struct plain *device, uint32_t bank, uint32_t location, enum plain_setup setup) {
@@ -338,6 +348,16 @@ static uint32_t work(struct plain *device, uint32_t units, uint16_t *array) {
     }
 }
 
+/* Supply: what is suspended and what is set up stay. */
+
+static void set_supply(struct plain *device, bool on) {
+    device->supply = on;
+    if (on)
+        return;
+    end_without_supply(device, device->running);
+    device->running = PLAIN_NOTHING;
+}
+
 /* Steps */
 
 static uint64_t refused(uint32_t refusal) { return (uint64_t)refusal << 32; }
@@ -372,7 +392,7 @@ static uint64_t take(struct plain *device, uint32_t kind, uint16_t data, uint32_
         if (low > MOST_WORK)
             return refused(WRONG_COUNT);
         return work(device, low, array);
-    case SUPPLY: device->supply = low == 1; return 0;
+    case SUPPLY: set_supply(device, low == 1); return 0;
     default: reset(device); return 0;
     }
 }

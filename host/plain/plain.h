@@ -34,7 +34,7 @@ struct plain {
     enum plain_mode mode[PLAIN_BANKS];
     uint16_t flags; /* SR5, SR4, SR3 and SR1, at their places in the status word */
     uint16_t configuration; /* its reserved bits, 14, 5 and 4, are 0 */
-    enum plain_operation running;
+    enum plain_operation running; /* only with supply on */
     enum plain_operation suspended_program; /* a program, a buffer program or nothing */
     bool erase_suspended;
     struct {

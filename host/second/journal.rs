@@ -1,6 +1,6 @@
 //! The recorder of document 01, "The journal" (there: the clerk), with the entries of document 02,
-//! item 1. It is told the part and the steps "but no device, array or answer"; nothing here comes
-//! from the model.
+//! item 1, and its supply drops, item 5. It is told the part and the steps "but no device, array or
+//! answer"; nothing here comes from the model.
 
 #![allow(dead_code)] // a program that takes this module in need not use all of it
 
@@ -126,6 +126,15 @@ impl Recorder {
             .map(|index| &self.entries[index])
     }
 
+    /// Whether a program is suspended, and whether an erase is.
+    pub fn suspended(&self) -> (bool, bool) {
+        let is = |program| {
+            self.find(|entry| entry.state == State::Suspended && entry.is_program() == program)
+                .is_some()
+        };
+        (is(true), is(false))
+    }
+
     /// Takes down one step.
     pub fn note(&mut self, step: Step) {
         match step {
@@ -139,8 +148,7 @@ impl Recorder {
                 Some(setup) => self.second_write(setup, address, data),
             },
             Step::Work(count) => self.work(count),
-            // "Supply: noted."
-            Step::Supply(on) => self.supply = on,
+            Step::Supply(on) => self.supply_step(on),
             // "Reset: every block is shut, the set-up ends, what runs or is
             // suspended is broken off."
             Step::Reset => {
@@ -215,6 +223,22 @@ impl Recorder {
         }
     }
 
+    /// "Supply: noted." When it goes off, what runs ends, and "Demand 3 counts such
+    /// an entry as unfinished" (document 02, item 5). What is suspended stays.
+    fn supply_step(&mut self, on: bool) {
+        self.supply = on;
+        let running = self.find(|entry| entry.state == State::Running);
+        if let (false, Some(index)) = (on, running) {
+            self.break_off(index);
+        }
+    }
+
+    /// Ends an entry before it is finished: no later step reaches it.
+    fn break_off(&mut self, index: usize) {
+        self.entries[index].state = State::BrokenOff;
+        self.live.retain(|&other| other != index);
+    }
+
     /// "Write, no set-up".
     fn first_write(&mut self, address: u32, data: u16) {
         let command = data % 256;
@@ -229,12 +253,13 @@ impl Recorder {
         let program = self.find(|entry| entry.is_program());
         let erase = self.find(|entry| !entry.is_program());
         match command {
-            // "D0h sets the suspended program running, else the suspended erase"
-            0xD0 => {
-                if let Some(index) = program.or(erase) {
-                    self.entries[index].state = State::Running;
-                }
-            }
+            // "D0h sets the suspended program running, else the suspended erase";
+            // "resumed without supply, they end" (document 02, item 5)
+            0xD0 => match program.or(erase) {
+                Some(index) if self.supply => self.entries[index].state = State::Running,
+                Some(index) => self.break_off(index),
+                None => {}
+            },
             // "10h and 40h (program) and 60h (lock) become the set-up if no
             // program is suspended, 20h (erase) if nothing is"
             0x10 | 0x40 if program.is_none() => self.setup = Some(Setup::Program),

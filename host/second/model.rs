@@ -1,5 +1,5 @@
 //! A second model of the flash chip, written from document 01 and document 02, items 1 (the write
-//! buffer) and 4 (the reserved bits of the configuration register) alone.
+//! buffer), 4 (the reserved bits of the configuration register) and 5 (supply drops) alone.
 
 #![allow(dead_code)] // a program that takes this module in need not use all of it
 
@@ -193,6 +193,11 @@ impl Device {
         {
             return false;
         }
+        // "In a well made state something runs only with supply on" (document 02,
+        // item 5)
+        if self.running.is_some() && !self.supply {
+            return false;
+        }
         // One at most, by the first clause.
         let program = running_program.or(self.suspended_program);
         self.erase_well_formed(running_erase)
@@ -287,7 +292,7 @@ impl Device {
             }
             Step::Work(count) => self.work(array, count),
             Step::Supply(on) => {
-                self.supply = on;
+                self.set_supply(on);
                 0
             }
             Step::Reset => {
@@ -429,15 +434,7 @@ impl Device {
                 Some(Operation::Erase(erase)) => self.suspended_erase = Some(erase),
                 None => {}
             },
-            // "nothing running: resume the suspended program, else the
-            // suspended erase"
-            0xD0 if idle => {
-                self.running = if let Some(program) = self.suspended_program.take() {
-                    Some(Operation::Program(program))
-                } else {
-                    self.suspended_erase.take().map(Operation::Erase)
-                };
-            }
+            0xD0 if idle => self.resume(),
             // "nothing running: the flags are cleared"
             0x50 if idle => self.flags = Flags::default(),
             0x10 | 0x40 if ready => self.set_up(bank, Setup::Program),
@@ -448,6 +445,20 @@ impl Device {
             0x20 if ready && self.suspended_erase.is_none() => self.set_up(bank, Setup::Erase),
             // "Anything else is ignored without a flag"
             _ => {}
+        }
+    }
+
+    /// "nothing running: resume the suspended program, else the suspended erase";
+    /// "resumed without supply, they end with the same flags and no unit"
+    /// (document 02, item 5).
+    fn resume(&mut self) {
+        let resumed = match self.suspended_program.take() {
+            Some(program) => Some(Operation::Program(program)),
+            None => self.suspended_erase.take().map(Operation::Erase),
+        };
+        match resumed {
+            Some(operation) if !self.supply => self.end_without_supply(operation),
+            _ => self.running = resumed,
         }
     }
 
@@ -642,6 +653,31 @@ impl Device {
         let words = &mut array[location as usize..][..units as usize];
         for (word, data) in words.iter_mut().zip(&self.buffer[place as usize..]) {
             *word &= data;
+        }
+    }
+
+    /// "When supply goes off, a running operation ends then and there" (document
+    /// 02, item 5). "Suspended ones stay", and so does a set-up, whose second cycle
+    /// looks at the supply.
+    fn set_supply(&mut self, on: bool) {
+        self.supply = on;
+        if !on {
+            if let Some(operation) = self.running.take() {
+                self.end_without_supply(operation);
+            }
+        }
+    }
+
+    /// "with SR3 and SR4 for a program, SR3 and SR5 for an erase" (document 02,
+    /// item 5). What it has done stays; a program that has ended holds no buffer.
+    fn end_without_supply(&mut self, operation: Operation) {
+        self.flags.sr3 = true;
+        match operation {
+            Operation::Program(_) => {
+                self.flags.sr4 = true;
+                self.buffer = [0; BUFFER_WORDS];
+            }
+            Operation::Erase(_) => self.flags.sr5 = true,
         }
     }
 

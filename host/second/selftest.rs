@@ -1,7 +1,8 @@
 //! Self-test of the second model: document 01's twelve proved cases, its
-//! worked script, the refusal card, the cases of the write buffer and of the
-//! configuration register, and random lists of steps whose array is compared with
-//! the recorder's reading. Prints one line; panics on a difference.
+//! worked script, the refusal card, the cases of the write buffer, of the
+//! configuration register and of supply drops, and random lists of steps whose
+//! array is compared with the recorder's reading. Prints one line; panics on a
+//! difference, and where the lists drop the supply too seldom.
 //!
 //!     rustc -O --edition 2021 selftest.rs -o selftest
 //!     ./selftest [seed]
@@ -13,6 +14,7 @@ mod journal;
 mod model;
 mod script;
 mod steps;
+mod supply_cases;
 
 use geometry::{Part, ADDRESSES, BANKS, BLOCKS};
 use journal::{Kind, Recorder, State};
@@ -22,6 +24,7 @@ use steps::Step;
 
 const BENCH_LISTS: u32 = 10_000; // for each bench part
 const FULL_LISTS: u32 = 4; // for each full part
+const LEAST_DROPS: u64 = 200; // of each kind, by the supply
 const DEFAULT_SEED: u64 = 0x5EED_F1A5_4C41_9001;
 
 fn main() {
@@ -35,6 +38,7 @@ fn main() {
     let errors = check_errors_that_look_right();
     let loads = buffer_cases::check();
     let registers = configuration_cases::check();
+    let drops = supply_cases::check();
     let states = check_malformed_states();
     check_reads();
     check_modes_and_flags();
@@ -52,9 +56,11 @@ fn main() {
             check_list(&mut random, part, 100_000, &mut tally);
         }
     }
+    let rarest = tally.drops.rarest();
+    assert!(rarest >= LEAST_DROPS, "{}", tally.drops.text());
     println!(
         "selftest ok: seed {seed}, {cases} proved cases, {errors} errors that look right, \
-         {loads} buffer cases, {registers} configuration register cases, {states} malformed states, {scripts} scripts, {locations} locations, {}",
+         {loads} buffer cases, {registers} configuration register cases, {drops} supply cases, {states} malformed states, {scripts} scripts, {locations} locations, {}",
         tally.text()
     );
 }
@@ -293,7 +299,6 @@ fn check_errors_that_look_right() -> u32 {
     assert_eq!(bench.work(3), 3);
     bench.write(0x40, &[0xB0, 0x60, 0x01]);
     assert_eq!(bench.work(100), 0);
-    bench.step(Step::Supply(false));
     bench.write(0x40, &[0xD0]);
     assert_eq!(bench.work(100), 61);
     assert_eq!(bench.work(100), 0);
@@ -370,41 +375,61 @@ fn check_malformed_states() -> u32 {
             d.suspended_program = Some(program(0x3F));
         },
     ];
-    check_states(&ill, &well) + buffer_cases::check_states() + configuration_cases::check_states()
+    check_states(&ill, &well)
+        + buffer_cases::check_states()
+        + configuration_cases::check_states()
+        + supply_cases::check_states()
 }
 
 /// All five steps and the report of unprotected blocks refuse 2 in the first
-/// states, and none in the others. Gives the number of the first.
+/// states, with supply on and off, and none in the others, with supply on and,
+/// where nothing runs, off. Gives the number of the first.
 fn check_states(ill: &[Change], well: &[Change]) -> u32 {
-    let steps = [
+    for supply in [false, true] {
+        let changed = |change: &Change| {
+            let mut device = Device::power_up(2);
+            device.supply = supply;
+            change(&mut device);
+            device
+        };
+        for device in ill.iter().map(changed) {
+            check_malformed(&device);
+        }
+        for device in well.iter().map(changed) {
+            let good = supply || device.running.is_none();
+            assert_eq!(device.well_formed(), good, "{device:?}");
+            let refusal = device.unprotected_report().refusal;
+            assert_eq!(refusal, if good { 0 } else { 2 }, "{device:?}");
+        }
+    }
+    ill.len() as u32
+}
+
+/// Each step, and the report, refuses the state by 2, or by 1 where the array is
+/// wrong too.
+fn check_malformed(device: &Device) {
+    assert!(!device.well_formed(), "{device:?}");
+    let report = device.unprotected_report();
+    assert_eq!((report.count, report.lowest, report.refusal), (0, 0, 2));
+    let words = device.part.array_length();
+    for step in [
         Step::Read(0),
         Step::Read(ADDRESSES),
         Step::Write(0, 0xFF),
         Step::Write(0, 0x03),
+        Step::Write(0, 0xB0),
+        Step::Write(0, 0xD0),
         Step::Write(ADDRESSES, 0xFF),
+        Step::Work(0),
         Step::Work(1),
         Step::Work(65_536),
+        Step::Supply(false),
         Step::Supply(true),
         Step::Reset,
-    ];
-    for change in ill {
-        let mut device = Device::power_up(2);
-        change(&mut device);
-        assert!(!device.well_formed(), "{device:?}");
-        let report = device.unprotected_report();
-        assert_eq!((report.count, report.lowest, report.refusal), (0, 0, 2));
-        for step in steps {
-            refused(&device, 16_384, step, 2);
-            refused(&device, 16_383, step, 1);
-        }
+    ] {
+        refused(device, words, step, 2);
+        refused(device, words - 1, step, 1);
     }
-    for change in well {
-        let mut device = Device::power_up(2);
-        change(&mut device);
-        assert!(device.well_formed(), "{device:?}");
-        assert_eq!(device.unprotected_report().refusal, 0);
-    }
-    ill.len() as u32
 }
 
 /// The step is refused with this number and changes nothing.
@@ -638,6 +663,69 @@ struct Tally {
     lost_loads: u64,
     both_suspended: u64,
     changed_words: u64,
+    drops: Drops,
+}
+
+/// What the supply ended in the random lists (document 02, item 5): programs,
+/// buffer programs and erases, by supply off and by D0h without supply.
+#[derive(Default)]
+struct Drops {
+    running: [u64; 3],
+    suspended: [u64; 3],
+    /// V 0 and V 1 while something was suspended, and while a set-up was pending.
+    beside_suspended: u64,
+    beside_set_up: u64,
+}
+
+impl Drops {
+    fn note(&mut self, before: &Device, after: &Device, step: Step) {
+        let place = |operation| match operation {
+            Operation::Program(Program::Word { .. }) => 0,
+            Operation::Program(Program::Buffer { .. }) => 1,
+            Operation::Erase(_) => 2,
+        };
+        let suspended = (before.suspended_program, before.suspended_erase);
+        match (step, before.running) {
+            (Step::Supply(false), Some(operation)) => self.running[place(operation)] += 1,
+            (Step::Supply(_), _) => {
+                self.beside_suspended += u64::from(suspended != (None, None));
+                self.beside_set_up += u64::from(before.setup.is_some());
+            }
+            (Step::Write(..), None) if after.running.is_none() => {
+                let ended = match (suspended.0, suspended.1) {
+                    (Some(program), _) if after.suspended_program.is_none() => {
+                        Operation::Program(program)
+                    }
+                    (_, Some(erase)) if after.suspended_erase.is_none() => Operation::Erase(erase),
+                    _ => return,
+                };
+                self.suspended[place(ended)] += 1;
+            }
+            _ => {}
+        }
+    }
+
+    fn rarest(&self) -> u64 {
+        let ended = self.running.iter().chain(&self.suspended);
+        let beside = [self.beside_suspended, self.beside_set_up];
+        ended.copied().chain(beside).min().unwrap_or(0)
+    }
+
+    fn text(&self) -> String {
+        format!(
+            "ended by supply off, and by D0h without supply: programs {} and {}, buffer programs \
+             {} and {}, erases {} and {}; {} supply steps beside something suspended, {} beside a \
+             set-up",
+            self.running[0],
+            self.suspended[0],
+            self.running[1],
+            self.suspended[1],
+            self.running[2],
+            self.suspended[2],
+            self.beside_suspended,
+            self.beside_set_up
+        )
+    }
 }
 
 impl Tally {
@@ -660,7 +748,7 @@ impl Tally {
         format!(
             "{} random lists of {} steps ({} refused, {} with both suspended), {} units, \
              programs {} finished {} not, buffer programs {} finished {} not ({} loads came to \
-             none), erases {} finished {} not, {} words changed",
+             none), erases {} finished {} not, {} words changed; {}",
             self.lists,
             self.steps,
             self.refusals,
@@ -673,7 +761,8 @@ impl Tally {
             self.lost_loads,
             self.finished_erases,
             self.unfinished_erases,
-            self.changed_words
+            self.changed_words,
+            self.drops.text()
         )
     }
 }
@@ -694,13 +783,7 @@ fn check_list(random: &mut Random, part: u32, longest: u32, tally: &mut Tally) {
         recorder.note(step);
 
         assert!(device.well_formed(), "{step:?} on {before:?}");
-        assert_eq!(device.unprotected, *recorder.unprotected_blocks());
-        assert_eq!(device.supply, recorder.supply());
-        assert_eq!(device.setup.is_some(), recorder.set_up_pending());
-        assert_eq!(device.running.is_some(), recorder.running().is_some());
-        if let (Some(operation), Some(entry)) = (device.running, recorder.running()) {
-            assert_eq!(done(operation), entry.units);
-        }
+        check_recorder(&recorder, &device);
         if answer.refusal != 0 {
             assert_eq!(device, before, "{step:?}");
             assert_eq!(answer.value, 0, "{step:?}");
@@ -708,6 +791,7 @@ fn check_list(random: &mut Random, part: u32, longest: u32, tally: &mut Tally) {
         } else if matches!(step, Step::Work(_)) {
             units += u64::from(answer.value);
         }
+        tally.drops.note(&before, &device, step);
         if before.suspended_program.is_some() && before.suspended_erase.is_some() {
             tally.both_suspended += 1;
         }
@@ -731,6 +815,21 @@ fn check_list(random: &mut Random, part: u32, longest: u32, tally: &mut Tally) {
     tally.note(&recorder);
     let changed = start.iter().zip(&array).filter(|(old, new)| old != new);
     tally.changed_words += changed.count() as u64;
+}
+
+/// The recorder holds what the device holds of the supply, the blocks and what is
+/// under way.
+fn check_recorder(recorder: &Recorder, device: &Device) {
+    assert_eq!(device.unprotected, *recorder.unprotected_blocks());
+    assert_eq!(device.supply, recorder.supply());
+    assert_eq!(device.setup.is_some(), recorder.set_up_pending());
+    assert_eq!(device.running.is_some(), recorder.running().is_some());
+    if let (Some(operation), Some(entry)) = (device.running, recorder.running()) {
+        assert_eq!(done(operation), entry.units);
+    }
+    let (program, erase) = (&device.suspended_program, &device.suspended_erase);
+    let suspended = (program.is_some(), erase.is_some());
+    assert_eq!(suspended, recorder.suspended());
 }
 
 /// The units that a running operation has had.
@@ -774,7 +873,7 @@ fn random_list(random: &mut Random, part: Part, longest: u32) -> Vec<Step> {
             0
         };
         let mut write = |command: u16| list.push(Step::Write(address, upper | command));
-        match random.below(46) {
+        match random.below(48) {
             0..=6 => {
                 write(random.pick(&[0x10, 0x40]));
                 let second = address_in(random, part, block);
@@ -814,6 +913,7 @@ fn random_list(random: &mut Random, part: Part, longest: u32) -> Vec<Step> {
                 let on = !random.one_in(4);
                 list.push(Step::Supply(on));
             }
+            46 | 47 => random_drop(random, address, &mut list),
             39 => {
                 if random.one_in(4) {
                     list.push(Step::Reset);
@@ -823,6 +923,27 @@ fn random_list(random: &mut Random, part: Part, longest: u32) -> Vec<Step> {
         }
     }
     list
+}
+
+/// Supply off, whatever is pending, runs or is suspended, most often soon on again;
+/// between the two now and then a D0h, a set-up's second cycle or some work.
+fn random_drop(random: &mut Random, address: u32, list: &mut Vec<Step>) {
+    match random.below(6) {
+        0 => list.push(Step::Write(address, random.pick(&[0x20, 0x40, 0x60]))),
+        1 => list.push(Step::Write(address, 0xB0)),
+        _ => {}
+    }
+    list.push(Step::Supply(false));
+    match random.below(8) {
+        0 | 1 => list.push(Step::Write(address, 0xD0)),
+        2 => list.extend([0xD0, 0xD0].map(|command| Step::Write(address, command))),
+        3 => list.push(Step::Work(1 + random.below(99))),
+        4 => list.push(Step::Supply(false)),
+        _ => {}
+    }
+    if !random.one_in(4) {
+        list.push(Step::Supply(true));
+    }
 }
 
 /// A load, now and then with another step or a wrong cycle in it, some work and
@@ -854,7 +975,8 @@ fn random_load(random: &mut Random, part: Part, block: u32, list: &mut Vec<Step>
             list.push(Step::Write(stray, random.word()));
         }
         if random.one_in(20) {
-            list.push(random.pick(&[Step::Supply(true), Step::Work(3), Step::Read(first)]));
+            let off = Step::Supply(random.one_in(2));
+            list.push(random.pick(&[off, Step::Supply(true), Step::Work(3), Step::Read(first)]));
         }
     }
     let confirm = random.pick(&[0xD0, 0xD0, 0xD0, 0x12D0, 0xFF]);
