@@ -79,6 +79,18 @@ plays =
     ∷ play (replicate 16384 0xFFFF)
     "W 000000 0090\nW 005432 0060\nW 005432 0003\nR 000005\nW 004030 0060\nR 000005\nW 004030 0003\nW 000000 0090\nR 000005\nZ\nW 000000 0090\nR 000005\n"
     "1 ok\n2 ok\n3 ok\n4 1402\n5 ok\n6 0080\n7 ok\n8 ok\n9 0000\n10 ok\n11 ok\n12 BFCF\nend 12\n"
+    -- document 02, item 5: an erase cut by the supply after 10 of 64 words
+    ∷ play (replicate 16384 0xFFFF)
+    "V 1\nW 000040 0060\nW 000040 00D0\nW 000040 0040\nW 000040 0000\nK 1\nW 00004A 0040\nW 00004A 0000\nK 1\nW 000040 0020\nW 000040 00D0\nK 10\nV 0\nR 000040\nK 5\nW 000040 0050\nV 1\nK 5\nR 000040\nW 000040 00FF\nR 000040\nR 00004A\n"
+    "1 ok\n2 ok\n3 ok\n4 ok\n5 ok\n6 1\n7 ok\n8 ok\n9 1\n10 ok\n11 ok\n12 10\n13 ok\n14 00A8\n15 0\n16 ok\n17 ok\n18 0\n19 0080\n20 ok\n21 FFFF\n22 0000\nend 22\n"
+    -- a program and an erase suspended, and ended by D0h without supply, one after the other
+    ∷ play (replicate 16384 0xFFFF)
+    "V 1\nW 000040 0060\nW 000040 00D0\nW 000080 0060\nW 000080 00D0\nW 000040 0020\nW 000040 00D0\nK 1\nW 000040 00B0\nW 000080 0040\nW 000080 1234\nW 000080 00B0\nR 000080\nV 0\nR 000080\nW 000080 00D0\nR 000080\nW 000080 00D0\nR 000080\nV 1\nK 5\nW 000080 00D0\nR 000080\nW 000080 00FF\nR 000080\n"
+    "1 ok\n2 ok\n3 ok\n4 ok\n5 ok\n6 ok\n7 ok\n8 1\n9 ok\n10 ok\n11 ok\n12 ok\n13 00C4\n14 ok\n15 00C4\n16 ok\n17 00D8\n18 ok\n19 00B8\n20 ok\n21 0\n22 ok\n23 00B8\n24 ok\n25 FFFF\nend 25\n"
+    -- a load over supply off and on, and its buffer program cut after one of two words
+    ∷ play (replicate 16384 0xFFFF)
+    "V 1\nW 000040 0060\nW 000040 00D0\nW 000040 00E8\nW 000040 0001\nW 000040 AAAA\nW 000041 BBBB\nV 0\nV 1\nW 000040 00D0\nK 1\nV 0\nR 000040\nW 000040 00FF\nR 000040\nR 000041\n"
+    "1 ok\n2 ok\n3 ok\n4 ok\n5 ok\n6 ok\n7 ok\n8 ok\n9 ok\n10 ok\n11 1\n12 ok\n13 0098\n14 ok\n15 AAAA\n16 FFFF\nend 16\n"
     ∷ []
 
 pub plays-hold : map printed plays ≡ map output plays

@@ -1,4 +1,4 @@
--- Which refusal comes, and that it changes nothing: document 01, "Refusal card"; and of a reserved bit that is set, document 02, item 4.
+-- Which refusal comes, and that it changes nothing: document 01, "Refusal card"; and of a reserved bit that is set, document 02, item 4, and of what runs without supply, item 5.
 -- Assumes nothing.
 use mathlib.Core.Path.{_≡_, refl, sym, _∙_}
 use mathlib.Core.List.{List}
@@ -14,10 +14,10 @@ use Rattle.semantics.specs.declared.State.{State}
 use Rattle.semantics.specs.declared.Step.{Step}
 use Rattle.semantics.specs.declared.Step.the-variants.{Read, Write, Work, Supply, Reset}
 use Rattle.semantics.specs.declared.Answer.the-variants.{Refused}
-use Rattle.semantics.specs.State.{geometry}
+use Rattle.semantics.specs.State.{geometry, runs}
 use Rattle.semantics.specs.Register.{isReserved, reservedZero}
 use Rattle.semantics.specs.RegisterBits.{zero-each}
-use Rattle.semantics.specs.WellFormed.{activityFormed, placesUsed, zeroFrom, wellFormed}
+use Rattle.semantics.specs.WellFormed.{activityFormed, placesUsed, zeroFrom, runsSupplied, wellFormed}
 use Rattle.semantics.specs.Steps.{stateRefusal, firstRefusal, refusalOf, next, accepted, stepOf, arrayOf, numberOf, reportedOf}
 
 -- "A refusal gives its number beside the answer 0, gives back the state it got and leaves all lent memory."
@@ -71,5 +71,21 @@ pub reserved-refused : (s : State) (xs : List ℕ) (x : Step) (i : ℕ) → leng
     → (stepOf s xs x ≡ next s (Refused 2)) × (arrayOf s xs x ≡ xs) × (reportedOf s ≡ record { refusal = 2; count = 0; lowest = 0 })
 reserved-refused s xs x i n e h =
     let f : wellFormed s ≡ false = reserved-unformed s i e h in
+    let k = refusal-changes-nothing s xs x 1 (refusal-2 s (length xs) x n f) in
+    (k .0, k .1, report-refused s f)
+
+-- ---- the supply
+
+-- "In a well made state something runs only with supply on": one in which something runs without it is not well formed
+pub unsupplied-unformed : (s : State) → runs (s .control .activity .running) ≡ true → s .control .supply ≡ false → wellFormed s ≡ false
+unfolding wellFormed runsSupplied
+unsupplied-unformed s r h =
+    rw (r, h, and-false (reservedZero (s .control .configuration)), and-false (zeroFrom (placesUsed (s .control .activity)) (s .buffer)), and-false (spareZero (s .unprotected)), and-false (activityFormed (geometry s) (s .control .activity)))
+
+-- so every step is refused 2 on it, a supply step too, and gives state and array back as they were, and the report is refused 2
+pub unsupplied-refused : (s : State) (xs : List ℕ) (x : Step) → length xs ≡ words (geometry s) → runs (s .control .activity .running) ≡ true → s .control .supply ≡ false
+    → (stepOf s xs x ≡ next s (Refused 2)) × (arrayOf s xs x ≡ xs) × (reportedOf s ≡ record { refusal = 2; count = 0; lowest = 0 })
+unsupplied-refused s xs x n r h =
+    let f : wellFormed s ≡ false = unsupplied-unformed s r h in
     let k = refusal-changes-nothing s xs x 1 (refusal-2 s (length xs) x n f) in
     (k .0, k .1, report-refused s f)

@@ -91,6 +91,11 @@ pub switched-supplied : (c : Control) (on : Bool) → runsSupplied (switched c o
 switched-supplied c true = rw (switched-on c) (on-supplied (setSupply c true) refl)
 switched-supplied c false = rw (switched-off c) (ended-supplied (setSupply c false))
 
+-- where something runs, the supply is on
+pub runs-supply : (c : Control) → runsSupplied c ≡ true → runs (c .activity .running) ≡ true → c .supply ≡ true
+unfolding runsSupplied
+runs-supply c h e = rw e at h
+
 -- where the supply is off, nothing runs
 pub unsupplied-idle : (c : Control) → runsSupplied c ≡ true → c .supply ≡ false → runs (c .activity .running) ≡ false
 unfolding runsSupplied

@@ -20,6 +20,8 @@ use Rattle.semantics.specs.Layout.{inside, only}
 use Rattle.protection.specs.Words.{bit}
 use Rattle.semantics.specs.Register.{isReserved}
 use Rattle.semantics.specs.RegisterBits.{ShowsRegister, register-shown, zero-each}
+use Rattle.semantics.specs.State.{runs}
+use Rattle.semantics.specs.Supplied.{runs-supply}
 use Rattle.semantics.specs.Reading.{readWord}
 use Rattle.semantics.specs.WellFormed.{wellFormed}
 use Rattle.semantics.specs.Steps.{Machine, after, afterAll, fresh}
@@ -137,3 +139,8 @@ pub reserved-read-0 : (p : Part) (l : List Step) (xs : List ℕ) → length xs �
     → (i : ℕ) → isReserved i ≡ true → bit (readWord (afterAll (fresh p xs) l .state) (afterAll (fresh p xs) l .array) a) i ≡ 0
 reserved-read-0 p l xs h a r i e = let m : Machine = afterAll (fresh p xs) l in
     ap (λ (w : ℕ). bit w i) (register-shown (m .state) (m .array) a r) ∙ zero-each _ (reached p l xs h .reserved) i e
+
+-- "something runs only with supply on": after any list of steps, whatever of them switched the supply
+pub reached-supplied : (p : Part) (l : List Step) (xs : List ℕ) → length xs ≡ words (geometryOf p) → runs (afterAll (fresh p xs) l .state .control .activity .running) ≡ true
+    → afterAll (fresh p xs) l .state .control .supply ≡ true
+reached-supplied p l xs h r = runs-supply (afterAll (fresh p xs) l .state .control) (reached p l xs h .powered) r
