@@ -129,10 +129,17 @@ journals =
     ∷ (ready ++ erases ++ work 64 ++ programs ++ work 1 ++ programs ++ pause ++ off ++ resume ++ on ++ erases ++ pause ++ off ++ resume
     ⟶ entry (erase 4) 0 broken-off ∷ entry (program 0x80 0x1234) 0 broken-off ∷ entry (program 0x80 0x1234) 1 finished ∷ entry (erase 4) 64 finished ∷ [])
     -- resumed without supply at any address and with any upper byte; a block that was protected meanwhile counts for nothing; the supply is off still, and the blocks are as they were
-    ∷ (ready ++ programs ++ pause ++ off ++ Write 0x480 0x12D0 ∷ programs ++ on ++ programs ⟶ entry (program 0x80 0x1234) 0 running ∷ entry (program 0x80 0x1234) 0 broken-off ∷ [])
-    ∷ (ready ++ erases ++ pause ++ cycles 0x40 0x60 0x01 ++ off ++ Write 0x480 0xFFD0 ∷ programs ++ on ++ erases ++ cycles 0xC0 0x40 0 ++ programs
+    ∷ (ready ++ programs ++ pause ++ off ++ Write 0x480 0x12D0 ∷ programs ++ on ++ cycles 0xC0 0x40 0 ++ programs ⟶ entry (program 0x80 0x1234) 0 running ∷ entry (program 0x80 0x1234) 0 broken-off ∷ [])
+    ∷ (ready ++ erases ++ pause ++ cycles 0x40 0x60 0x01 ++ off ++ Write 0x480 0xFFD0 ∷ cycles 0x81 0x40 0 ++ on ++ erases ++ cycles 0xC0 0x40 0 ++ programs
     ⟶ entry (program 0x80 0x1234) 0 running ∷ entry (erase 4) 0 broken-off ∷ [])
     ∷ (ready ++ two ++ pause ++ off ++ Write 0x40 0xD0 ∷ two ++ on ++ erases ⟶ entry (erase 4) 0 running ∷ entry (buffer 0x80 words) 0 broken-off ∷ [])
+    -- a resume with supply sets each kind running, and a resume changes nothing else: the supply is on still, no set-up is pending, and the blocks are as they were
+    ∷ (ready ++ programs ++ pause ++ resume ++ work 1 ++ programs ++ work 1 ++ cycles 0xC0 0x40 0 ⟶ entry (program 0x80 0x1234) 1 finished ∷ entry (program 0x80 0x1234) 1 finished ∷ [])
+    ∷ (ready ++ erases ++ pause ++ resume ++ work 64 ++ programs ++ work 1 ++ cycles 0xC0 0x40 0 ⟶ entry (program 0x80 0x1234) 1 finished ∷ entry (erase 4) 64 finished ∷ [])
+    ∷ (ready ++ erases ++ pause ++ off ++ resume ++ on ++ programs ⟶ entry (program 0x80 0x1234) 0 running ∷ entry (erase 4) 0 broken-off ∷ [])
+    ∷ (ready ++ erases ++ pause ++ programs ++ pause ++ resume ⟶ entry (program 0x80 0x1234) 0 running ∷ entry (erase 4) 0 suspended ∷ [])
+    ∷ (ready ++ erases ++ pause ++ two ++ pause ++ resume ⟶ entry (buffer 0x80 words) 0 running ∷ entry (erase 4) 0 suspended ∷ [])
+    ∷ (ready ++ two ++ pause ++ resume ⟶ entry (buffer 0x80 words) 0 running ∷ [])
     -- after a drop the supply is off, and the blocks are as they were
     ∷ (ready ++ programs ++ off ++ programs ++ on ++ erases ++ off ++ programs ++ on ++ cycles 0xC0 0x40 0 ⟶ entry (erase 4) 0 broken-off ∷ entry (program 0x80 0x1234) 0 broken-off ∷ [])
     ∷ (ready ++ two ++ off ++ two ++ on ++ two ⟶ entry (buffer 0x80 words) 0 running ∷ entry (buffer 0x80 words) 0 broken-off ∷ [])
