@@ -140,6 +140,8 @@ journals =
     ∷ (ready ++ erases ++ pause ++ programs ++ pause ++ resume ⟶ entry (program 0x80 0x1234) 0 running ∷ entry (erase 4) 0 suspended ∷ [])
     ∷ (ready ++ erases ++ pause ++ two ++ pause ++ resume ⟶ entry (buffer 0x80 words) 0 running ∷ entry (erase 4) 0 suspended ∷ [])
     ∷ (ready ++ two ++ pause ++ resume ⟶ entry (buffer 0x80 words) 0 running ∷ [])
+    ∷ (ready ++ programs ++ pause ++ Write 0x480 0xD0 ∷ [] ⟶ entry (program 0x80 0x1234) 0 running ∷ [])
+    ∷ (ready ++ erases ++ pause ++ Write 0x480 0xD0 ∷ [] ⟶ entry (erase 4) 0 running ∷ [])
     -- after a drop the supply is off, and the blocks are as they were
     ∷ (ready ++ programs ++ off ++ programs ++ on ++ erases ++ off ++ programs ++ on ++ cycles 0xC0 0x40 0 ⟶ entry (erase 4) 0 broken-off ∷ entry (program 0x80 0x1234) 0 broken-off ∷ [])
     ∷ (ready ++ two ++ off ++ two ++ on ++ two ⟶ entry (buffer 0x80 words) 0 running ∷ entry (buffer 0x80 words) 0 broken-off ∷ [])
