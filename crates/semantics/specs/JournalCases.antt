@@ -4,7 +4,8 @@ use Prim.Native.Nat.{ℕ}
 use mathlib.Core.Bool.{true, false}
 use mathlib.Core.List.{List, [], _∷_, _++_, map}
 use mathlib.Core.Path.{_≡_, refl}
-use Rattle.geometry.specs.declared.Part.the-variants.{BenchBottom}
+use Rattle.geometry.specs.declared.Part.{Part}
+use Rattle.geometry.specs.declared.Part.the-variants.{FullBottom, FullTop, BenchBottom, BenchTop}
 use Rattle.geometry.specs.Blocks.{geometryOf, mirror, blockFrom, blockOf, sizeOf, startFrom, startOf}
 use Rattle.semantics.specs.declared.Step.{Step}
 use Rattle.semantics.specs.declared.Step.the-variants.{Read, Write, Work, Supply, Reset}
@@ -99,10 +100,91 @@ journals =
     ∷ (ready ++ Write 0x40 0x20 ∷ off ++ on ++ Write 0x40 0xD0 ∷ [] ⟶ entry (erase 4) 0 running ∷ [])
     ∷ (ready ++ loads ++ off ++ Write 0x80 0xD0 ∷ [] ⟶ [])
     ∷ (ready ++ loads ++ off ++ on ++ Write 0x80 0xD0 ∷ [] ⟶ entry (buffer 0x80 words) 0 running ∷ [])
+    -- also with no unit done, with the last one left, and in a small block; a whole buffer, and one word
+    ∷ (ready ++ erases ++ off ⟶ entry (erase 4) 0 broken-off ∷ [])
+    ∷ (ready ++ erases ++ work 1 ++ off ⟶ entry (erase 4) 1 broken-off ∷ [])
+    ∷ (ready ++ erases ++ work 63 ++ off ⟶ entry (erase 4) 63 broken-off ∷ [])
+    ∷ (ready ++ cycles 0x0 0x60 0xD0 ++ cycles 0x0 0x20 0xD0 ++ work 3 ++ off ⟶ entry (erase 0) 3 broken-off ∷ [])
+    ∷ (ready ++ cycles 0x3FC0 0x60 0xD0 ++ cycles 0x3FC0 0x20 0xD0 ++ work 3 ++ off ⟶ entry (erase 258) 3 broken-off ∷ [])
+    ∷ (ready ++ two ++ off ⟶ entry (buffer 0x80 words) 0 broken-off ∷ [])
+    ∷ (ready ++ cycles 0x80 0xE8 0 ++ Write 0x80 0xAAAA ∷ Write 0x80 0xD0 ∷ off ⟶ entry (buffer 0x80 (0xAAAA ∷ [])) 0 broken-off ∷ [])
+    ∷ (ready ++ cycles 0x80 0xE8 2 ++ Write 0x80 0xAAAA ∷ Write 0x81 0xBBBB ∷ Write 0x82 0 ∷ Write 0x80 0xD0 ∷ work 2 ++ off ⟶ entry (buffer 0x80 (0xAAAA ∷ 0xBBBB ∷ 0 ∷ [])) 2 broken-off ∷ [])
+    ∷ (ready ++ cycles 0x81 0x40 0 ++ off ⟶ entry (program 0x81 0) 0 broken-off ∷ [])
+    ∷ (ready ++ cycles 0x81 0x40 0xFFFF ++ off ⟶ entry (program 0x81 0xFFFF) 0 broken-off ∷ [])
+    -- a suspended one that has had no unit stays too; a buffer program beside a suspended erase ends alone
+    ∷ (ready ++ erases ++ pause ++ off ⟶ entry (erase 4) 0 suspended ∷ [])
+    ∷ (ready ++ erases ++ pause ++ two ++ work 1 ++ off ⟶ entry (buffer 0x80 words) 1 broken-off ∷ entry (erase 4) 0 suspended ∷ [])
+    -- supply on leaves each kind, running and suspended, alone and beside a suspended erase; and both suspended stay at supply off and on
+    ∷ (ready ++ programs ++ on ⟶ entry (program 0x80 0x1234) 0 running ∷ [])
+    ∷ (ready ++ programs ++ pause ++ on ⟶ entry (program 0x80 0x1234) 0 suspended ∷ [])
+    ∷ (ready ++ two ++ work 1 ++ on ⟶ entry (buffer 0x80 words) 1 running ∷ [])
+    ∷ (ready ++ two ++ work 1 ++ pause ++ off ++ on ⟶ entry (buffer 0x80 words) 1 suspended ∷ [])
+    ∷ (ready ++ erases ++ work 3 ++ pause ++ programs ++ on ⟶ entry (program 0x80 0x1234) 0 running ∷ entry (erase 4) 3 suspended ∷ [])
+    ∷ (ready ++ erases ++ work 3 ++ pause ++ programs ++ pause ++ off ++ off ++ on ⟶ entry (program 0x80 0x1234) 0 suspended ∷ entry (erase 4) 3 suspended ∷ [])
+    ∷ (ready ++ erases ++ work 3 ++ pause ++ two ++ work 1 ++ pause ++ off ++ on ⟶ entry (buffer 0x80 words) 1 suspended ∷ entry (erase 4) 3 suspended ∷ [])
+    -- what was broken off or finished stays so, through later drops, resumes and operations
+    ∷ (ready ++ erases ++ work 3 ++ off ++ off ++ on ++ resume ++ work 5 ++ programs ++ off ++ on ++ two ++ work 2 ++ off
+    ⟶ entry (buffer 0x80 words) 2 finished ∷ entry (program 0x80 0x1234) 0 broken-off ∷ entry (erase 4) 3 broken-off ∷ [])
+    ∷ (ready ++ programs ++ work 1 ++ programs ++ work 1 ++ erases ++ work 3 ++ off ⟶ entry (erase 4) 3 broken-off ∷ entry (program 0x80 0x1234) 1 finished ∷ entry (program 0x80 0x1234) 1 finished ∷ [])
+    ∷ (ready ++ erases ++ work 64 ++ programs ++ work 1 ++ programs ++ pause ++ off ++ resume ++ on ++ erases ++ pause ++ off ++ resume
+    ⟶ entry (erase 4) 0 broken-off ∷ entry (program 0x80 0x1234) 0 broken-off ∷ entry (program 0x80 0x1234) 1 finished ∷ entry (erase 4) 64 finished ∷ [])
+    -- resumed without supply at any address and with any upper byte; a block that was protected meanwhile counts for nothing; the supply is off still, and the blocks are as they were
+    ∷ (ready ++ programs ++ pause ++ off ++ Write 0x480 0x12D0 ∷ programs ++ on ++ cycles 0xC0 0x40 0 ++ programs ⟶ entry (program 0x80 0x1234) 0 running ∷ entry (program 0x80 0x1234) 0 broken-off ∷ [])
+    ∷ (ready ++ erases ++ pause ++ cycles 0x40 0x60 0x01 ++ off ++ Write 0x480 0xFFD0 ∷ cycles 0x81 0x40 0 ++ on ++ erases ++ cycles 0xC0 0x40 0 ++ programs
+    ⟶ entry (program 0x80 0x1234) 0 running ∷ entry (erase 4) 0 broken-off ∷ [])
+    ∷ (ready ++ two ++ pause ++ off ++ Write 0x40 0xD0 ∷ two ++ on ++ erases ⟶ entry (erase 4) 0 running ∷ entry (buffer 0x80 words) 0 broken-off ∷ [])
+    -- a resume with supply sets each kind running, and a resume changes nothing else: the supply is on still, no set-up is pending, and the blocks are as they were
+    ∷ (ready ++ programs ++ pause ++ resume ++ work 1 ++ programs ++ work 1 ++ cycles 0xC0 0x40 0 ⟶ entry (program 0x80 0x1234) 1 finished ∷ entry (program 0x80 0x1234) 1 finished ∷ [])
+    ∷ (ready ++ erases ++ pause ++ resume ++ work 64 ++ programs ++ work 1 ++ cycles 0xC0 0x40 0 ⟶ entry (program 0x80 0x1234) 1 finished ∷ entry (erase 4) 64 finished ∷ [])
+    ∷ (ready ++ erases ++ pause ++ off ++ resume ++ on ++ programs ⟶ entry (program 0x80 0x1234) 0 running ∷ entry (erase 4) 0 broken-off ∷ [])
+    ∷ (ready ++ erases ++ pause ++ programs ++ pause ++ resume ⟶ entry (program 0x80 0x1234) 0 running ∷ entry (erase 4) 0 suspended ∷ [])
+    ∷ (ready ++ erases ++ pause ++ two ++ pause ++ resume ⟶ entry (buffer 0x80 words) 0 running ∷ entry (erase 4) 0 suspended ∷ [])
+    ∷ (ready ++ two ++ pause ++ resume ⟶ entry (buffer 0x80 words) 0 running ∷ [])
+    ∷ (ready ++ programs ++ pause ++ Write 0x480 0xD0 ∷ [] ⟶ entry (program 0x80 0x1234) 0 running ∷ [])
+    ∷ (ready ++ erases ++ pause ++ Write 0x480 0xD0 ∷ [] ⟶ entry (erase 4) 0 running ∷ [])
+    -- after a drop the supply is off, and the blocks are as they were
+    ∷ (ready ++ programs ++ off ++ programs ++ on ++ erases ++ off ++ programs ++ on ++ cycles 0xC0 0x40 0 ⟶ entry (erase 4) 0 broken-off ∷ entry (program 0x80 0x1234) 0 broken-off ∷ [])
+    ∷ (ready ++ two ++ off ++ two ++ on ++ two ⟶ entry (buffer 0x80 words) 0 running ∷ entry (buffer 0x80 words) 0 broken-off ∷ [])
+    -- it is noted whatever is suspended or pending: an erase, and a lock set-up, which does not look at it; each stage of a load
+    ∷ (ready ++ erases ++ pause ++ off ++ programs ++ on ++ programs ⟶ entry (program 0x80 0x1234) 0 running ∷ entry (erase 4) 0 suspended ∷ [])
+    ∷ (ready ++ Write 0x40 0x20 ∷ off ++ Write 0x40 0xD0 ∷ programs ⟶ [])
+    ∷ (ready ++ Write 0xC0 0x60 ∷ off ++ Write 0xC0 0xD0 ∷ programs ++ on ++ cycles 0xC0 0x40 0 ⟶ entry (program 0xC0 0) 0 running ∷ [])
+    ∷ (cycles 0x80 0x60 0xD0 ++ Write 0xC0 0x60 ∷ on ++ Write 0xC0 0xD0 ∷ cycles 0xC0 0x40 0 ⟶ entry (program 0xC0 0) 0 running ∷ [])
+    ∷ (ready ++ Write 0x80 0xE8 ∷ off ++ Write 0x80 1 ∷ Write 0x80 0xAAAA ∷ Write 0x81 0xBBBB ∷ Write 0x80 0xD0 ∷ [] ⟶ [])
+    ∷ (ready ++ Write 0x80 0xE8 ∷ off ++ on ++ Write 0x80 1 ∷ Write 0x80 0xAAAA ∷ Write 0x81 0xBBBB ∷ Write 0x80 0xD0 ∷ [] ⟶ entry (buffer 0x80 words) 0 running ∷ [])
+    ∷ (ready ++ cycles 0x80 0xE8 1 ++ off ++ Write 0x80 0xAAAA ∷ Write 0x81 0xBBBB ∷ Write 0x80 0xD0 ∷ [] ⟶ [])
+    ∷ (ready ++ cycles 0x80 0xE8 1 ++ off ++ on ++ Write 0x80 0xAAAA ∷ Write 0x81 0xBBBB ∷ Write 0x80 0xD0 ∷ [] ⟶ entry (buffer 0x80 words) 0 running ∷ [])
+    ∷ (ready ++ cycles 0x80 0xE8 1 ++ Write 0x80 0xAAAA ∷ off ++ Write 0x81 0xBBBB ∷ Write 0x80 0xD0 ∷ [] ⟶ [])
+    ∷ (ready ++ cycles 0x80 0xE8 1 ++ Write 0x80 0xAAAA ∷ off ++ on ++ Write 0x81 0xBBBB ∷ Write 0x80 0xD0 ∷ [] ⟶ entry (buffer 0x80 words) 0 running ∷ [])
+    -- without supply no other first cycle ends what is suspended
+    ∷ (ready ++ erases ++ pause ++ off ++ pause ++ Write 0x40 0x20 ∷ Write 0x40 0x50 ∷ Write 0x40 0xFF ∷ Write 0x40 0x70 ∷ programs ++ cycles 0xC0 0x60 0x01 ++ loads ++ Write 0x80 0xD0 ∷ [] ⟶ entry (erase 4) 0 suspended ∷ [])
+    ∷ (ready ++ programs ++ pause ++ off ++ pause ++ Write 0x40 0x20 ∷ Write 0x40 0x50 ∷ Write 0x40 0xFF ∷ Write 0x40 0x40 ∷ Write 0x40 0x60 ∷ Write 0x40 0xE8 ∷ Write 0x40 0x70 ∷ [] ⟶ entry (program 0x80 0x1234) 0 suspended ∷ [])
     -- reset breaks off all that is under way, whatever the supply
     ∷ (ready ++ erases ++ work 10 ++ pause ++ programs ++ Reset ∷ [] ⟶ entry (program 0x80 0x1234) 0 broken-off ∷ entry (erase 4) 10 broken-off ∷ [])
     ∷ (ready ++ erases ++ work 10 ++ pause ++ off ++ Reset ∷ on ++ resume ⟶ entry (erase 4) 10 broken-off ∷ [])
     ∷ []
+
+-- on the other parts alike: blocks at 0 and at 1000000h less one, an erase and a program there, whatever blocks these are
+abbrev on-part : Part → List Step → List (Entry Operation)
+on-part p l = journalOf (geometryOf p) (Supply true ∷ cycles 0x0 0x60 0xD0 ++ cycles 0xFFFFFF 0x60 0xD0 ++ cycles 0x0 0x20 0xD0 ++ work 10 ++ l)
+
+abbrev pub lasts : Part → List (List (Entry Operation))
+lasts p =
+    on-part p off ∷ on-part p (pause ++ off) ∷ on-part p (pause ++ off ++ resume) ∷ on-part p (pause ++ cycles 0xFFFFFF 0x40 0x1234 ++ off) ∷ on-part p (pause ++ cycles 0xFFFFFF 0x40 0x1234 ++ pause ++ off ++ resume)
+    ∷ on-part p (pause ++ cycles 0xFFFFFF 0x40 0x1234 ++ pause ++ off ++ resume ++ resume)
+    ∷ []
+
+-- of an erase of block b, and a program at location l
+abbrev pub lasts-so : ℕ → ℕ → List (List (Entry Operation))
+lasts-so b l =
+    (entry (erase b) 10 broken-off ∷ []) ∷ (entry (erase b) 10 suspended ∷ []) ∷ (entry (erase b) 10 broken-off ∷ []) ∷ (entry (program l 0x1234) 0 broken-off ∷ entry (erase b) 10 suspended ∷ [])
+    ∷ (entry (program l 0x1234) 0 broken-off ∷ entry (erase b) 10 suspended ∷ [])
+    ∷ (entry (program l 0x1234) 0 broken-off ∷ entry (erase b) 10 broken-off ∷ [])
+    ∷ []
+
+pub parts-hold : (lasts FullBottom ≡ lasts-so 0 0xFFFFFF) × (lasts FullTop ≡ lasts-so 258 0xFFFFFF) × (lasts BenchBottom ≡ lasts-so 0 0x3FFF) × (lasts BenchTop ≡ lasts-so 258 0x3FFF)
+unfolding mirror blockFrom blockOf sizeOf startFrom startOf
+parts-hold = (refl, refl, refl, refl)
 
 pub journals-hold : map drawn journals ≡ map expected journals
 unfolding mirror blockFrom blockOf sizeOf startFrom startOf
