@@ -18,7 +18,7 @@ use Rattle.semantics.specs.declared.Answer.the-variants.{Word, Units, Do
 use Rattle.semantics.specs.Tabulate.{tabulate}
 use Rattle.semantics.specs.State.{emptyBuffer, powerUp}
 use Rattle.semantics.specs.Register.{withoutReserved, reservedZero}
-use Rattle.semantics.specs.Supply.{endFlags, ended, endedUnsupplied, switched}
+use Rattle.semantics.specs.Supply.{endFlags, ended, endedIfUnsupplied, switched}
 use Rattle.semantics.specs.WellFormed.{runningAlone, programAlone, eraseAlone, eraseFits, wordsFit, bufferFits, setupFits, runningFits, programFits, suspendedEraseFits, allFit, runningApart, programApart, apart, activityFormed, setupPlaces, runningPlaces, programPlaces, placesUsed, zeroFrom, runsSupplied, wellFormed}
 use Rattle.semantics.specs.Reading.{runsIn, statusWord, signatureWord, queryWord, shown, showsBy, readIn, readWord}
 use Rattle.semantics.specs.Writing.{commandOf, resume, accepts, setUp, clearStatus, firstCycle, programRuns, eraseCycle, lockCommandOf, lockCycle, settle, loads, countRight, firstRight, laterRight, confirmRight, confirmCycle, wordsCycle, cycle, keptIf, firstLoaded, wordsLoaded, heldAfter, loaded, writtenAt, written}
@@ -157,5 +157,5 @@ cases =
     ∷ []
 
 pub cases-hold : T (every cases)
-unfolding mirror blockFrom blockOf bankOf sizeOf startFrom startOf bankStart blockOffset bankOffset bankOfBlock lookupOf bit bitAt isUnprotected withUnprotected spareZero allProtected emptyBuffer powerUp runningAlone programAlone eraseAlone eraseFits wordsFit bufferFits setupFits runningFits programFits suspendedEraseFits allFit runningApart programApart apart activityFormed setupPlaces runningPlaces programPlaces placesUsed zeroFrom reservedZero runsSupplied wellFormed runsIn statusWord signatureWord queryWord shown showsBy readIn readWord commandOf endFlags ended endedUnsupplied resume accepts setUp clearStatus firstCycle programRuns eraseCycle lockCommandOf withoutReserved lockCycle settle loads countRight firstRight laterRight confirmRight confirmCycle wordsCycle cycle keptIf firstLoaded wordsLoaded heldAfter loaded writtenAt written unitsLeft unitsDone runningAfter wordAfter tabulate arrayAfter bufferAfter workedOn worked workedArray locationRefusal addressRefusal countRefusal stepRefusal stateRefusal firstRefusal refusalOf switched switchedTo accepted acceptedArray stepOf arrayOf
+unfolding mirror blockFrom blockOf bankOf sizeOf startFrom startOf bankStart blockOffset bankOffset bankOfBlock lookupOf bit bitAt isUnprotected withUnprotected spareZero allProtected emptyBuffer powerUp runningAlone programAlone eraseAlone eraseFits wordsFit bufferFits setupFits runningFits programFits suspendedEraseFits allFit runningApart programApart apart activityFormed setupPlaces runningPlaces programPlaces placesUsed zeroFrom reservedZero runsSupplied wellFormed runsIn statusWord signatureWord queryWord shown showsBy readIn readWord commandOf endFlags ended endedIfUnsupplied resume accepts setUp clearStatus firstCycle programRuns eraseCycle lockCommandOf withoutReserved lockCycle settle loads countRight firstRight laterRight confirmRight confirmCycle wordsCycle cycle keptIf firstLoaded wordsLoaded heldAfter loaded writtenAt written unitsLeft unitsDone runningAfter wordAfter tabulate arrayAfter bufferAfter workedOn worked workedArray locationRefusal addressRefusal countRefusal stepRefusal stateRefusal firstRefusal refusalOf switched switchedTo accepted acceptedArray stepOf arrayOf
 cases-hold = tt

@@ -28,7 +28,7 @@ use Rattle.semantics.specs.declared.View.{View}
 use Rattle.semantics.specs.State.{geometry, setFlags, setSupply, withControl, runs, withFlags, withBuffer, withSetup, noFlags, joined}
 use Rattle.semantics.specs.View as view
 use Rattle.semantics.specs.View.{placeOf, viewAt, withView, withActivity, withMode}
-use Rattle.semantics.specs.Supply.{ended, endedUnsupplied, switched}
+use Rattle.semantics.specs.Supply.{ended, endedIfUnsupplied, switched}
 use Rattle.semantics.specs.Supplied.{awake, of-resume, of-switched, switched-on, switched-off}
 use Rattle.semantics.specs.WellFormed.{pending, erasing, runsSupplied, wellFormed}
 use Rattle.semantics.specs.Writing.{commandOf, resume, accepts, setUp, clearStatus, firstCycle, pend, programRuns, eraseCycle, lockCommandOf, lockCycle, settle, loads, countRight, firstRight, laterRight, confirmRight, confirmCycle, wordsCycle, cycle, loadedAt, writtenAt, written}
@@ -184,7 +184,7 @@ unfolding ended
 alike-ended c f = refl
 
 alike-resume : (c : Control) (f : Flags) → unflaggedControl (resume (setFlags c f)) ≡ unflaggedControl (resume c)
-unfolding resume endedUnsupplied
+unfolding resume endedIfUnsupplied
 alike-resume c f = go (runs (c .activity .running)) (c .supply)
   where
     go : (b t : Bool) → unflaggedControl (cond b (setFlags c f) (cond t (awake (setFlags c f)) (ended (awake (setFlags c f))))) ≡ unflaggedControl (cond b c (cond t (awake c) (ended (awake c))))

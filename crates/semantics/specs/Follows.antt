@@ -39,7 +39,7 @@ use Rattle.semantics.specs.State as state
 use Rattle.semantics.specs.State.{activity, withBuffer, runs, programSuspended, eraseSuspended, emptyBuffer}
 use Rattle.semantics.specs.Buffer.{wordsIn, words-length, words-word, words-first, words-later}
 use Rattle.semantics.specs.View.{placeOf, viewAt, withView, withControl, withActivity}
-use Rattle.semantics.specs.Supply.{ended, endedUnsupplied}
+use Rattle.semantics.specs.Supply.{ended, endedIfUnsupplied}
 use Rattle.semantics.specs.Supplied.{isResume, only-resume, first-holds}
 use Rattle.semantics.specs.WellFormed.{erasing}
 use Rattle.semantics.specs.Writing as writing
@@ -357,7 +357,7 @@ module _ (g : Geometry) where
         (at x setup.Nothing r q e) (withControl x (resume (at x setup.Nothing r q e .control))) (heldAfter q (resume (at x setup.Nothing r q e .control) .activity) (s .buffer))
 
     follows-resume : (x : View) (t : Bool) → x .control .supply ≡ t → (r : Running) (q : SuspendedProgram) (e : SuspendedErase) → Together r q e → Resumes x t r q e
-    unfolding resume endedUnsupplied ended heldAfter keptIf
+    unfolding resume endedIfUnsupplied ended heldAfter keptIf
     follows-resume x true h running.Idle (program.Program l w) e m = rw h (refl, refl, λ m. refl)
     follows-resume x true h running.Idle (program.Buffer l n d) e m = rw h (refl, refl, λ m. refl)
     follows-resume x true h running.Idle program.Nothing erase.Nothing m = rw h (refl, refl, λ m. refl)

@@ -32,7 +32,7 @@ use Rattle.semantics.specs.declared.Next.{Next}
 use Rattle.semantics.specs.declared.Place.{Place}
 use Rattle.semantics.specs.declared.View.{View}
 use Rattle.semantics.specs.State.{geometry, setActivity, withRunning, withSupply, withBuffer, powerUp, runs}
-use Rattle.semantics.specs.Supply.{ended, endedUnsupplied, switched}
+use Rattle.semantics.specs.Supply.{ended, endedIfUnsupplied, switched}
 use Rattle.semantics.specs.Supplied.{of-switched, switched-supplied, cycle-supplied, idle-supplied, on-supplied, unsupplied-idle}
 use Rattle.semantics.specs.View.{placeOf, viewAt, withView}
 use Rattle.semantics.specs.Register.{reservedZero}
@@ -196,7 +196,7 @@ module _ (s : State) (xs : List ℕ) (good : stateRefusal s (length xs) ≡ 0) (
       )
 
   follows-switched : (on : Bool) → Follows (geometry s) (supplied on) s (switchedTo s on)
-  unfolding switchedTo switched endedUnsupplied ended
+  unfolding switchedTo switched endedIfUnsupplied ended
   follows-switched true = rw (buffer-on (s .control .activity .running) (s .buffer)) (refl, refl, λ m. refl)
   follows-switched false = (
     ap (λ (c : recorder.Setup). record { supply = false; unprotected = conditions s .unprotected; setup = c })
@@ -216,7 +216,7 @@ module _ (s : State) (xs : List ℕ) (good : stateRefusal s (length xs) ≡ 0) (
 
   -- and leaves no word in a place of the buffer that is not in use
   spared-accepted : (x : Step) → Spared (s .control .activity) (s .buffer) → Spared (accepted s xs x .state .control .activity) (accepted s xs x .state .buffer)
-  unfolding accepted switchedTo switched endedUnsupplied ended written workedOn worked powerUp
+  unfolding accepted switchedTo switched endedIfUnsupplied ended written workedOn worked powerUp
   spared-accepted (Read a) h = h
   spared-accepted (Write a w) h = spared-written s (fit .alone) (fit .ready) (placeOf (geometry s) a) w h
   spared-accepted (Work n) h =

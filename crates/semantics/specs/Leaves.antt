@@ -20,7 +20,7 @@ use Rattle.semantics.specs.declared.View.{View}
 use Rattle.protection.specs.Words.{spareZero}
 use Rattle.semantics.specs.State.{geometry, runs, withProtection, withSupply}
 use Rattle.semantics.specs.View as view
-use Rattle.semantics.specs.Supply.{endFlags, ended, endedUnsupplied, switched}
+use Rattle.semantics.specs.Supply.{endFlags, ended, endedIfUnsupplied, switched}
 use Rattle.semantics.specs.Supplied.{unsupplied-idle}
 use Rattle.semantics.specs.Register.{reservedZero}
 use Rattle.semantics.specs.WellFormed.{activityFormed, placesUsed, zeroFrom, wellFormed}
@@ -77,7 +77,7 @@ resume-ignores-protection v p u = refl
 
 -- supply on ends and resumes nothing: it is noted
 pub supply-on-noted : (s : State) → switchedTo s true ≡ withSupply s true
-unfolding switchedTo switched endedUnsupplied
+unfolding switchedTo switched endedIfUnsupplied
 supply-on-noted s = rw (buffer-on (s .control .activity .running) (s .buffer))
 
 -- "Suspended ones stay", and so do a set-up that is pending, the modes, protection and the configuration register
@@ -85,7 +85,7 @@ pub supply-leaves : (s : State) (on : Bool)
     → (switchedTo s on .control .activity .setup ≡ s .control .activity .setup) × (switchedTo s on .control .activity .program ≡ s .control .activity .program)
     × (switchedTo s on .control .activity .erase ≡ s .control .activity .erase) × (switchedTo s on .banks ≡ s .banks) × (switchedTo s on .unprotected ≡ s .unprotected)
     × (switchedTo s on .control .configuration ≡ s .control .configuration)
-unfolding switchedTo switched endedUnsupplied ended
+unfolding switchedTo switched endedIfUnsupplied ended
 supply-leaves s true = (refl, refl, refl, refl, refl, refl)
 supply-leaves s false = (refl, refl, refl, refl, refl, refl)
 
@@ -105,7 +105,7 @@ unsupplied s w h =
 
 -- so supply off when it is off already ends nothing
 pub supply-off-again : (s : State) → wellFormed s ≡ true → s .control .supply ≡ false → switchedTo s false ≡ s
-unfolding switchedTo switched endedUnsupplied ended endFlags bufferAfter
+unfolding switchedTo switched endedIfUnsupplied ended endFlags bufferAfter
 supply-off-again s w h = let e = unsupplied s w h in
     rw (e, h, or-false (s .control .flags .sr5), or-false (s .control .flags .sr4), or-false (s .control .flags .sr3), or-false (s .control .flags .sr1))
 

@@ -22,6 +22,7 @@ pub mod BufferCases
 pub mod StatusCases
 pub mod RegisterCases
 pub mod SupplyCases
+pub mod SupplyStates
 pub mod FurtherCases
 pub mod Encoding
 pub mod Entries

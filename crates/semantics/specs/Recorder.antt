@@ -219,21 +219,31 @@ conditions-after (setup-is s) d = record { supply = d .supply; unprotected = d .
 conditions-after (unprotected-is b v) d = record { supply = d .supply; unprotected = λ c. cond (eqb c b) v (d .unprotected c); setup = no-setup }
 conditions-after (accept k) d = record { supply = d .supply; unprotected = d .unprotected; setup = no-setup }
 
+-- all that is under way is broken off; what runs; and what is suspended and is p
+abbrev pub allBroken : Entry Operation → Entry Operation
+allBroken = brokenOff true isAny
+
+abbrev pub runningBroken : Entry Operation → Entry Operation
+runningBroken = brokenOff true isNone
+
+abbrev pub suspendedBroken : (Operation → Bool) → Entry Operation → Entry Operation
+suspendedBroken p = brokenOff false p
+
 module _ (g : Geometry) where
   -- what an event makes of the journal. Reset: "what runs or is suspended is broken off". "Work n: the running entry, if any, gets the lesser of n
   -- and the units it lacks of 1 (program) or of its block's words (erase). Lacking none, it is finished." Document 02, item 5: "When supply goes off, a running operation ends then
-  -- and there .. Suspended ones stay .. Demand 3 counts such an entry as unfinished"
+  -- and there .. Suspended ones stay .. Demand 3 counts such an entry as unfinished": read as broken off, of the four phases
   abbrev pub journal-after : Event → List (Entry Operation) → List (Entry Operation)
   journal-after nothing j = j
   journal-after (supplied true) j = j
-  journal-after (supplied false) j = map (brokenOff true isNone) j
-  journal-after was-reset j = map (brokenOff true isAny) j
+  journal-after (supplied false) j = map runningBroken j
+  journal-after was-reset j = map allBroken j
   journal-after (units n) j = map (worked (kinds g) n) j
   journal-after suspend j = map paused j
   journal-after resume-program j = map (resumed isProgram) j
   journal-after resume-erase j = map (resumed isErase) j
-  journal-after end-program j = map (brokenOff false isProgram) j
-  journal-after end-erase j = map (brokenOff false isErase) j
+  journal-after end-program j = map (suspendedBroken isProgram) j
+  journal-after end-erase j = map (suspendedBroken isErase) j
   journal-after (setup-is s) j = j
   journal-after (unprotected-is b v) j = j
   journal-after (accept k) j = entry k 0 running ∷ j

@@ -30,7 +30,7 @@ use Rattle.semantics.specs.Tabulate.{length-tabulate}
 use Rattle.semantics.specs.State as state
 use Rattle.semantics.specs.State.{activity, runs, programSuspended, emptyBuffer, noFlags}
 use Rattle.semantics.specs.View.{viewAt, withControl, withActivity, withFlags}
-use Rattle.semantics.specs.Supply.{ended, endedUnsupplied}
+use Rattle.semantics.specs.Supply.{ended, endedIfUnsupplied}
 use Rattle.semantics.specs.Supplied.{isResume, only-resume, first-holds}
 use Rattle.semantics.specs.WellFormed.{erasing, setupPlaces, runningPlaces, programPlaces, placesUsed, zeroFrom}
 use Rattle.semantics.specs.Writing.{commandOf, suspended, resume, pend, setUp, accepts, clearStatus, firstCycle, programRuns, programCycle, eraseCycle, lockCommandOf, lockCycle, settle, loads, countRight, firstRight, laterRight, confirmRight, confirmCycle, wordsCycle, cycle, keptIf, firstLoaded, wordsLoaded, heldAfter, loaded, writtenAt}
@@ -123,7 +123,7 @@ same-suspend x (running.Buffer l n d) (program.Buffer k v i) e m = absurd m
 -- D0h: where it ends a buffer program, no place is in use, and the buffer is empty
 spared-resume : (x : View) (bs : List ℕ) (t : Bool) → x .control .supply ≡ t → (r : Running) (q : SuspendedProgram) (e : SuspendedErase) → Together r q e → Spared (activity setup.Nothing r q e) bs
     → Spared (resume (at x setup.Nothing r q e .control) .activity) (heldAfter q (resume (at x setup.Nothing r q e .control) .activity) bs)
-unfolding resume endedUnsupplied ended heldAfter keptIf placesUsed setupPlaces runningPlaces programPlaces
+unfolding resume endedIfUnsupplied ended heldAfter keptIf placesUsed setupPlaces runningPlaces programPlaces
 spared-resume x bs true z running.Idle (program.Program l w) e m h = rw z h
 spared-resume x bs true z running.Idle (program.Buffer l n d) e m h = rw z (ap (λ (k : ℕ). zeroFrom k bs) (omega arith) ∙ h)
 spared-resume x bs true z running.Idle program.Nothing erase.Nothing m h = rw z h

@@ -1,4 +1,4 @@
--- The five steps whole, with their refusals, and a list of them played: document 01, "The five steps" and "Refusal card".
+-- The five steps whole, with their refusals, and a list of them played: document 01, "The five steps" and "Refusal card", and document 02, item 5, for the supply step.
 -- Assumes nothing.
 use Prim.Native.Nat.{ℕ}
 use mathlib.Core.Bool.{Bool, cond}

@@ -21,7 +21,7 @@ use Rattle.semantics.specs.declared.LockCommand.the-variants as lock
 use Rattle.semantics.specs.declared.Place.{Place}
 use Rattle.semantics.specs.declared.View.{View}
 use Rattle.semantics.specs.State.{setActivity, setSupply, runs, programSuspended}
-use Rattle.semantics.specs.Supply.{ended, endedUnsupplied, switched}
+use Rattle.semantics.specs.Supply.{ended, endedIfUnsupplied, switched}
 use Rattle.semantics.specs.WellFormed.{runsSupplied, erasing}
 use Rattle.semantics.specs.Writing.{commandOf, suspended, resumed, resume, accepts, setUp, clearStatus, firstCycle, programRuns, eraseCycle, lockCommandOf, lockCycle, settle, loads, countRight, firstRight, laterRight, confirmRight, confirmCycle, wordsCycle, cycle, keptIf, heldAfter}
 
@@ -38,7 +38,7 @@ awake c = setActivity c (resumed (c .activity) (c .activity .program))
 
 -- D0h leaves the control, resumes, or ends what it would have resumed
 pub of-resume : (P : Control → Type 0) (c : Control) → P c → P (awake c) → P (ended (awake c)) → P (resume c)
-unfolding resume endedUnsupplied
+unfolding resume endedIfUnsupplied
 of-resume P c h i j = of-cond P (runs (c .activity .running)) _ _ h (of-cond P (c .supply) _ _ i j)
 
 -- while something runs it does nothing; else it resumes with supply on, and ends with supply off
@@ -47,24 +47,24 @@ unfolding resume
 resume-running c h = rw h
 
 pub resume-supplied : (c : Control) → runs (c .activity .running) ≡ false → c .supply ≡ true → resume c ≡ awake c
-unfolding resume endedUnsupplied
+unfolding resume endedIfUnsupplied
 resume-supplied c h i = rw (h, i)
 
 pub resume-unsupplied : (c : Control) → runs (c .activity .running) ≡ false → c .supply ≡ false → resume c ≡ ended (awake c)
-unfolding resume endedUnsupplied
+unfolding resume endedIfUnsupplied
 resume-unsupplied c h i = rw (h, i)
 
 -- a supply step only notes the supply, or ends what runs
 pub switched-on : (c : Control) → switched c true ≡ setSupply c true
-unfolding switched endedUnsupplied
+unfolding switched endedIfUnsupplied
 switched-on c = refl
 
 pub switched-off : (c : Control) → switched c false ≡ ended (setSupply c false)
-unfolding switched endedUnsupplied
+unfolding switched endedIfUnsupplied
 switched-off c = refl
 
 pub of-switched : (P : Control → Type 0) (c : Control) (on : Bool) → P (setSupply c on) → P (ended (setSupply c on)) → P (switched c on)
-unfolding switched endedUnsupplied
+unfolding switched endedIfUnsupplied
 of-switched P c on h i = of-cond P on _ _ h i
 
 -- ---- something runs only with supply on

@@ -18,10 +18,11 @@ endFlags (running.Buffer l n d) = flagsOf false true true false
 unfoldable pub ended : Control → Control
 ended c = setFlags (setActivity c (withRunning (c .activity) running.Idle)) (joined (c .flags) (endFlags (c .activity .running)))
 
--- what runs ends where supply is off
-unfoldable pub endedUnsupplied : Control → Control
-endedUnsupplied c = cond (c .supply) c (ended c)
+-- what runs ends where supply is off; with supply on nothing changes
+unfoldable pub endedIfUnsupplied : Control → Control
+endedIfUnsupplied c = cond (c .supply) c (ended c)
 
--- "When supply goes off, a running operation ends then and there .. Suspended ones stay". A set-up that is pending stays, and supply on ends and resumes nothing
+-- "When supply goes off, a running operation ends then and there .. Suspended ones stay". A set-up that is pending stays, and supply on ends and resumes nothing. Where supply was off
+-- already nothing runs in a well-formed state, and nothing ends
 unfoldable pub switched : Control → Bool → Control
-switched c on = endedUnsupplied (setSupply c on)
+switched c on = endedIfUnsupplied (setSupply c on)

@@ -169,7 +169,7 @@ unfoldable pub runsSupplied : Control → Bool
 runsSupplied c = implies (runs (c .activity .running)) (c .supply)
 
 -- and "spare storage, if any, is zero": the protection words have more bits than there are blocks, and the buffer more places than are in use. Document 02, item 4, of the reserved bits of the
--- configuration register: "a well made state has them 0"
+-- configuration register: "a well made state has them 0"; and item 5, of the supply
 unfoldable pub wellFormed : State → Bool
 wellFormed s =
     activityFormed (geometry s) (s .control .activity)

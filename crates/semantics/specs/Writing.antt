@@ -28,7 +28,7 @@ use Rattle.semantics.specs.declared.Place.{Place}
 use Rattle.semantics.specs.declared.View.{View}
 use Rattle.semantics.specs.State.{geometry, activity, setActivity, withSetup, withRunning, withBuffer, runs, programSuspended, eraseSuspended, emptyBuffer, flagsOf, noFlags}
 use Rattle.semantics.specs.Register.{withoutReserved}
-use Rattle.semantics.specs.Supply.{endedUnsupplied}
+use Rattle.semantics.specs.Supply.{endedIfUnsupplied}
 use Rattle.semantics.specs.View.{placeOf, viewAt, withView, withControl, withActivity, withFlags, withConfiguration, withMode, withProtection, raise}
 use Rattle.semantics.specs.Numbers.{within}
 use Rattle.semantics.specs.Tabulate.{tabulate}
@@ -71,7 +71,7 @@ resumed a (program.Buffer l n d) = activity (a .setup) (running.Buffer l n d) pr
 
 -- "D0h, nothing running: resume ..". Document 02, item 5: "resumed without supply, they end with the same flags and no unit": the one that it would have resumed, and that alone
 unfoldable pub resume : Control → Control
-resume c = cond (runs (c .activity .running)) c (endedUnsupplied (setActivity c (resumed (c .activity) (c .activity .program))))
+resume c = cond (runs (c .activity .running)) c (endedIfUnsupplied (setActivity c (resumed (c .activity) (c .activity .program))))
 
 -- "nothing running, no program suspended"
 abbrev pub programFree : Activity → Bool
@@ -216,7 +216,8 @@ firstLoaded n w = tabulate 32 (λ i. cond (eqb i 0) w (cond (ltb i n) 0xFFFF 0))
 unfoldable pub wordsLoaded : ℕ → ℕ → ℕ → Place → ℕ → Running → List ℕ → List ℕ
 wordsLoaded l n due p w r bs = cond (eqb due 0) (keptIf (runs r) bs) (keptIf (laterRight l n p) (set bs (p .location - l) w))
 
--- the words of a buffer program that was suspended are in use after a first cycle, with a under way then, where it is still suspended or runs: D0h without supply ends it
+-- the words of a buffer program that was suspended are in use after a first cycle, with a under way then, where it is still suspended or runs: D0h without supply ends it. No other program comes in
+-- its place at a first cycle, so that any that is suspended, and anything that runs, is it
 unfoldable pub heldAfter : SuspendedProgram → Activity → List ℕ → List ℕ
 heldAfter program.Nothing a bs = bs
 heldAfter (program.Program l w) a bs = bs

@@ -27,7 +27,7 @@ use Rattle.semantics.specs.declared.State.{State}
 use Rattle.semantics.specs.declared.Place.{Place}
 use Rattle.semantics.specs.declared.View.{View}
 use Rattle.semantics.specs.State.{geometry, activity, setActivity, withControl, withBuffer, withSetup, withRunning, withActivity, runs, flagsOf, noFlags}
-use Rattle.semantics.specs.Supply.{ended, endedUnsupplied}
+use Rattle.semantics.specs.Supply.{ended, endedIfUnsupplied}
 use Rattle.semantics.specs.Supplied.{awake, resume-unsupplied, isResume, only-resume, first-holds}
 use Rattle.semantics.specs.View.{viewAt, withView, withMode, raise}
 use Rattle.semantics.specs.Modes.{view-back}
@@ -114,7 +114,7 @@ first-set-up v x = go (accepts (v .control .activity) x)
     go false = refl
 
 first-resume : (v : View) → firstBy v (resumeChange (v .control .activity) (v .control .supply)) ≡ view.withControl v (resume (v .control))
-unfolding resume endedUnsupplied
+unfolding resume endedIfUnsupplied
 first-resume v = go (runs (v .control .activity .running)) (v .control .supply)
   where
     go : (b t : Bool) → firstBy v (cond b (change.Activity (v .control .activity)) (cond t (change.Activity (awake (v .control) .activity)) (change.Ended (awake (v .control) .activity))))
