@@ -8,7 +8,7 @@ use Rattle.geometry.specs.declared.Part.{Part}
 use Rattle.geometry.specs.declared.Part.the-variants.{FullBottom, FullTop, BenchBottom, BenchTop}
 use Rattle.geometry.specs.Blocks.{geometryOf, mirror, blockFrom, blockOf, sizeOf, startFrom, startOf}
 use Rattle.semantics.specs.declared.Step.{Step}
-use Rattle.semantics.specs.declared.Step.the-variants.{Read, Write, Work, Supply, Reset}
+use Rattle.semantics.specs.declared.Step.the-variants.{Write, Work, Supply, Reset}
 use Rattle.semantics.specs.Entries.{Entry, entry, running, suspended, finished, broken-off}
 use Rattle.semantics.specs.Recorder.{Operation, program, erase, buffer, journalOf}
 

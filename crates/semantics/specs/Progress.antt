@@ -3,13 +3,13 @@
 -- Assumes nothing.
 use mathlib.Core.Path.{_≡_, refl, sym, ap, _∙_}
 use mathlib.Core.List.{List, [], _∷_}
-use mathlib.Core.Bool.{Bool, true, false, cond, not, _&&_, _||_, true≢false, false≢true}
+use mathlib.Core.Bool.{Bool, true, false, cond, not, _&&_, _||_, true≢false}
 use mathlib.Core.Logic.{_⊎_, inl, inr}
 use Prim.Native.Nat.{ℕ, _+_, _-_, _≤_, _<_, _%_, min}
 use native.Mathlib.Omega.{arith}
 use lib.Dec.{ltb, leb, eqb}
 use lib.ListN.{length}
-use borrow.Author.Tests.{ltb-true, ltb-false, lt-ltb, le-ltb, le-leb, lt-leb, eqb-true, eqb-false}
+use borrow.Author.Tests.{ltb-true, ltb-false, lt-ltb, le-ltb, le-leb, lt-leb, eqb-true}
 use Rattle.geometry.specs.declared.Part.{Part}
 use Rattle.geometry.specs.declared.Geometry.{Geometry}
 use Rattle.geometry.specs.Blocks.{geometryOf, words, location, blockOf, startOf, sizeOf}
@@ -20,7 +20,6 @@ use Rattle.semantics.specs.declared.SuspendedProgram.{SuspendedProgram}
 use Rattle.semantics.specs.declared.SuspendedProgram.the-variants as program
 use Rattle.semantics.specs.declared.SuspendedErase.{SuspendedErase}
 use Rattle.semantics.specs.declared.SuspendedErase.the-variants as erase
-use Rattle.semantics.specs.declared.Activity.{Activity}
 use Rattle.semantics.specs.declared.State.{State}
 use Rattle.semantics.specs.declared.Step.{Step}
 use Rattle.semantics.specs.declared.Step.the-variants.{Read, Write, Work, Supply, Reset}
@@ -30,18 +29,17 @@ use Rattle.semantics.specs.Numbers.{within}
 use Rattle.semantics.specs.State.{geometry, activity, programSuspended, eraseSuspended}
 use Rattle.semantics.specs.Buffer.{words-length}
 use Rattle.semantics.specs.WellFormed.{activityFormed, wellFormed}
-use Rattle.semantics.specs.Working.{unitsLeft, unitsDone, workedOn, worked}
-use Rattle.semantics.specs.Steps.{stepRefusal, stateRefusal, refusalOf, next, accepted, stepOf, arrayOf, Machine, after, afterAll, fresh}
+use Rattle.semantics.specs.Working.{unitsLeft, unitsDone}
+use Rattle.semantics.specs.Steps.{stepRefusal, stateRefusal, refusalOf, next, accepted, stepOf, Machine, after, afterAll, fresh}
 use Rattle.semantics.specs.Entries as entries
-use Rattle.semantics.specs.Entries.{Entry, Live, live, anyLive}
-use Rattle.semantics.specs.Recorder as recorder
+use Rattle.semantics.specs.Entries.{Live, live, anyLive}
 use Rattle.semantics.specs.Recorder.{Operation, Setup, Event, nothing, supplied, was-reset, units, suspend, resume-program, resume-erase, end-program, end-erase, setup-is, unprotected-is, accept}
-use Rattle.semantics.specs.Recorder.{Conditions, conditions-after, rule, len, kinds, isProgram, isErase, isAny, first-cycle, goes-on, confirm-cycle, cycle, acceptable, Command, commandOf, suspend-command, resume-command, program-command, lock-command, erase-command, buffer-command, other-command, no-setup, program-setup, erase-setup, lock-setup, count-setup, first-setup, words-setup}
+use Rattle.semantics.specs.Recorder.{Conditions, conditions-after, len, kinds, isProgram, isErase, isAny, first-cycle, cycle, acceptable, Command, commandOf, suspend-command, resume-command, program-command, lock-command, erase-command, buffer-command, other-command, no-setup, program-setup, erase-setup, lock-setup, count-setup, first-setup, words-setup}
 use Rattle.semantics.specs.Engine.{Engine, engine, busy, stack, held?, engine-after, engine-worked, Order, Sim, Ok, ok-nothing, ok-supplied, ok-was-reset, ok-units, ok-suspend, ok-resume-program, ok-resume-erase, ok-end-program, ok-end-erase, ok-setup, ok-unprotected, ok-program, ok-erase, rule-ok, and-true-l, or-false-l, or-false-r}
-use Rattle.semantics.specs.Follows.{conditions, addErase, addProgram, addRunning, underWay, underWayOf, underWayIn, eventOf, Together}
+use Rattle.semantics.specs.Follows.{conditions, addErase, addProgram, underWay, underWayOf, eventOf, Together}
 use Rattle.semantics.specs.Formed.{own, formed-own, together}
 use Rattle.semantics.specs.Supplied.{of-cond}
-use Rattle.semantics.specs.Invariant.{Steps, Fit, kept-step, agree-fit, steps, state-good, step-done, count-good, count-bad, step-refused, length-kept}
+use Rattle.semantics.specs.Invariant.{Steps, kept-step, agree-fit, steps, state-good, step-done, count-good, count-bad, step-refused, length-kept}
 use Rattle.semantics.specs.Theorem.{reached, reached-formed}
 use Rattle.semantics.specs.Kept.{keeps}
 use Rattle.semantics.specs.Flags.{toldBy}

@@ -29,7 +29,7 @@ use Rattle.semantics.specs.Numbers.{within-true}
 use Rattle.semantics.specs.Tabulate.{length-tabulate}
 use Rattle.semantics.specs.State as state
 use Rattle.semantics.specs.State.{activity, runs, programSuspended, emptyBuffer, noFlags}
-use Rattle.semantics.specs.View.{viewAt, withControl, withActivity, withFlags}
+use Rattle.semantics.specs.View.{viewAt, withActivity, withFlags}
 use Rattle.semantics.specs.Supply.{ended, endedIfUnsupplied}
 use Rattle.semantics.specs.Supplied.{isResume, only-resume, first-holds}
 use Rattle.semantics.specs.WellFormed.{erasing, setupPlaces, runningPlaces, programPlaces, placesUsed, zeroFrom}

@@ -1,6 +1,6 @@
 -- Laws of the supply: what D0h and a supply step come to, that something runs only with supply on, and which writes leave the words of a suspended buffer program.
 -- Assumes nothing.
-use mathlib.Core.Path.{_≡_, refl, sym, ap, _∙_}
+use mathlib.Core.Path.{_≡_, refl, sym}
 use mathlib.Core.List.{List}
 use mathlib.Core.Bool.{Bool, true, false, cond, not, _||_, true≢false, false≢true}
 use Prim.Native.Nat.{ℕ, _+_, _-_, _%_}

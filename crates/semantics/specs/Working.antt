@@ -48,7 +48,7 @@ wordAfter g bs (running.Buffer l n done) m L x = cond (within (l + done) m L) (b
 unfoldable pub arrayAfter : Geometry → List ℕ → Running → ℕ → List ℕ → List ℕ
 arrayAfter g bs r m xs = tabulate (length xs) (λ L. wordAfter g bs r m L (getD xs L 0))
 
--- the buffer after work on what ran, where r runs after it: a buffer program's words are in use as long as it runs
+-- the buffer after a step in which what ran may end, by work or by the supply, where r runs after it: a buffer program's words are in use as long as it runs
 unfoldable pub bufferAfter : Running → Running → List ℕ → List ℕ
 bufferAfter running.Idle r bs = bs
 bufferAfter (running.Program l w) r bs = bs
