@@ -162,6 +162,38 @@ journals =
     -- reset breaks off all that is under way, whatever the supply
     ∷ (ready ++ erases ++ work 10 ++ pause ++ programs ++ Reset ∷ [] ⟶ entry (program 0x80 0x1234) 0 broken-off ∷ entry (erase 4) 10 broken-off ∷ [])
     ∷ (ready ++ erases ++ work 10 ++ pause ++ off ++ Reset ∷ on ++ resume ⟶ entry (erase 4) 10 broken-off ∷ [])
+    -- it keeps the supply, on or off; every block is protected after it, and the set-up ends
+    ∷ (ready ++ Reset ∷ cycles 0x80 0x60 0xD0 ++ programs ⟶ entry (program 0x80 0x1234) 0 running ∷ [])
+    ∷ (ready ++ off ++ Reset ∷ cycles 0x80 0x60 0xD0 ++ programs ⟶ [])
+    ∷ (ready ++ Reset ∷ programs ⟶ [])
+    ∷ (ready ++ Write 0x80 0x40 ∷ Reset ∷ cycles 0x80 0x60 0xD0 ++ programs ⟶ entry (program 0x80 0x1234) 0 running ∷ [])
+    ∷ (ready ++ programs ++ pause ++ Reset ∷ resume ++ work 5 ⟶ entry (program 0x80 0x1234) 0 broken-off ∷ [])
+    -- D0h goes by no block: an erase of block 5, and of block 0; one whose block was protected meanwhile; and from any address
+    ∷ (ready ++ cycles 0x80 0x20 0xD0 ++ work 10 ++ pause ++ resume ⟶ entry (erase 5) 10 running ∷ [])
+    ∷ (ready ++ cycles 0x80 0x20 0xD0 ++ work 10 ++ pause ++ off ++ resume ⟶ entry (erase 5) 10 broken-off ∷ [])
+    ∷ (ready ++ cycles 0x0 0x60 0xD0 ++ cycles 0x0 0x20 0xD0 ++ work 10 ++ pause ++ resume ⟶ entry (erase 0) 10 running ∷ [])
+    ∷ (ready ++ erases ++ work 10 ++ pause ++ cycles 0x40 0x60 0x01 ++ resume ⟶ entry (erase 4) 10 running ∷ [])
+    ∷ (ready ++ programs ++ pause ++ Write 0x80 0xD0 ∷ [] ⟶ entry (program 0x80 0x1234) 0 running ∷ [])
+    -- and it leaves the other blocks' protection
+    ∷ (ready ++ cycles 0x80 0x20 0xD0 ++ pause ++ off ++ resume ++ on ++ cycles 0x40 0x40 0x1234 ⟶ entry (program 0x40 0x1234) 0 running ∷ entry (erase 5) 0 broken-off ∷ [])
+    ∷ (ready ++ cycles 0x0 0x60 0xD0 ++ cycles 0x0 0x20 0xD0 ++ pause ++ off ++ resume ++ on ++ programs ⟶ entry (program 0x80 0x1234) 0 running ∷ entry (erase 0) 0 broken-off ∷ [])
+    -- with nothing under way it is nothing, with supply or without
+    ∷ (ready ++ resume ++ programs ⟶ entry (program 0x80 0x1234) 0 running ∷ [])
+    ∷ (ready ++ off ++ resume ++ on ++ programs ⟶ entry (program 0x80 0x1234) 0 running ∷ [])
+    -- and revives nothing that was broken off
+    ∷ (ready ++ programs ++ off ++ on ++ programs ++ pause ++ resume ⟶ entry (program 0x80 0x1234) 0 running ∷ entry (program 0x80 0x1234) 0 broken-off ∷ [])
+    ∷ (ready ++ erases ++ off ++ on ++ erases ++ pause ++ resume ⟶ entry (erase 4) 0 running ∷ entry (erase 4) 0 broken-off ∷ [])
+    -- nor does a reset, or D0h without supply, make anything of it
+    ∷ (ready ++ erases ++ work 10 ++ off ++ Reset ∷ [] ⟶ entry (erase 4) 10 broken-off ∷ [])
+    ∷ (ready ++ programs ++ off ++ on ++ programs ++ pause ++ off ++ resume ⟶ entry (program 0x80 0x1234) 0 broken-off ∷ entry (program 0x80 0x1234) 0 broken-off ∷ [])
+    -- a set-up is taken without supply
+    ∷ (ready ++ off ++ Write 0x80 0x40 ∷ on ++ Write 0x80 0x1234 ∷ [] ⟶ entry (program 0x80 0x1234) 0 running ∷ [])
+    ∷ (ready ++ off ++ Write 0x40 0x20 ∷ on ++ Write 0x40 0xD0 ∷ [] ⟶ entry (erase 4) 0 running ∷ [])
+    -- a program in the block of the suspended erase is no entry
+    ∷ (ready ++ erases ++ pause ++ cycles 0x50 0x40 0x1234 ⟶ entry (erase 4) 0 suspended ∷ [])
+    -- 40h beside a suspended program, and 20h beside a suspended erase, are no set-up without supply either
+    ∷ (ready ++ programs ++ pause ++ off ++ Write 0x80 0x40 ∷ on ++ Write 0x80 0x5678 ∷ [] ⟶ entry (program 0x80 0x1234) 0 suspended ∷ [])
+    ∷ (ready ++ erases ++ work 10 ++ pause ++ off ++ Write 0x80 0x20 ∷ on ++ resume ⟶ entry (erase 4) 10 running ∷ [])
     ∷ []
 
 -- on the other parts alike: blocks at 0 and at 1000000h less one, an erase and a program there, whatever blocks these are
