@@ -519,7 +519,7 @@ module _ (g : Geometry) where
         FollowsTo s (placeOf g a)
         (cycle g (conditions (state.withActivity s (activity c r q e))) (runs r) (held? (underWayOf (s .buffer) r q e)) (setupOf (s .buffer) c) (location g a) (w % 256) w)
         (seenAs c r q e) (writing.cycle g (seenAs c r q e) c (placeOf g a) w)
-        (loaded g c q (placeOf g a) w (writing.cycle g (seenAs c r q e) c (placeOf g a) w .control .activity) (s .buffer))
+        (heldAfter q (writing.cycle g (seenAs c r q e) c (placeOf g a) w .control .activity) (loaded g c (placeOf g a) w (writing.cycle g (seenAs c r q e) c (placeOf g a) w .control .activity .running) (s .buffer)))
 
     abbrev ReadyAt : Setup → Running → SuspendedProgram → SuspendedErase → Type 0
     ReadyAt c r q e = Ready g (setupOf (s .buffer) c) (runs r) (held? (underWayOf (s .buffer) r q e))
@@ -535,7 +535,7 @@ module _ (g : Geometry) where
     lone c (running.Buffer l n d) q e i k f = absurd (true≢false i)
 
     goes-words : (l n due : ℕ) (e : SuspendedErase) → length (s .buffer) ≡ 32 → n ≤ 32 → Goes (setup.BufferWords l n due) running.Idle program.Nothing e
-    unfolding writing.cycle wordsCycle loaded wordsLoaded confirmRight
+    unfolding writing.cycle wordsCycle loaded wordsLoaded heldAfter confirmRight
     goes-words l n due e h k = rw (words-length (s .buffer) n) (go (eqb due 0))
       where
         go : (b : Bool) → FollowsTo s (placeOf g a)
@@ -554,15 +554,12 @@ module _ (g : Geometry) where
         go false = follows-later-word s (placeOf g a) (viewAt s (placeOf g a)) l n due e w h k
 
     follows-cycle : (c : Setup) (r : Running) (q : SuspendedProgram) (e : SuspendedErase) → Together r q e → ReadyAt c r q e → length (s .buffer) ≡ 32 → Goes c r q e
-    unfolding writing.cycle loaded countRight firstRight
+    unfolding writing.cycle loaded heldAfter countRight firstRight
     follows-cycle setup.Nothing r q e m y h =
         rw (commands-agree (w % 256)) (follows-first s (placeOf g a) (viewAt s (placeOf g a)) (conditions (state.withActivity s (activity setup.Nothing r q e))) r q e m refl (commandOf (w % 256)))
-    follows-cycle setup.Program running.Idle q e m y h =
-        rw (under-way-erasing g (s .buffer) running.Idle q e (blockOf g (location g a)))
-        (follows-program s (placeOf g a) (viewAt s (placeOf g a)) setup.Program q e w (s .control .supply) (isUnprotected (s .unprotected) (blockOf g (location g a))) (erasing e (blockOf g (location g a))) refl refl refl)
-    follows-cycle setup.Program (running.Program l v) q e m y h = absurd (true≢false (y .0))
-    follows-cycle setup.Program (running.Erase b n) q e m y h = absurd (true≢false (y .0))
-    follows-cycle setup.Program (running.Buffer l n d) q e m y h = absurd (true≢false (y .0))
+    follows-cycle setup.Program r q e m y h = lone setup.Program r q e (y .0) (y .1)
+        (rw (under-way-erasing g (s .buffer) running.Idle program.Nothing e (blockOf g (location g a)))
+        (follows-program s (placeOf g a) (viewAt s (placeOf g a)) setup.Program program.Nothing e w (s .control .supply) (isUnprotected (s .unprotected) (blockOf g (location g a))) (erasing e (blockOf g (location g a))) refl refl refl))
     follows-cycle setup.Erase running.Idle program.Nothing erase.Nothing m y h =
         follows-erase s (placeOf g a) (viewAt s (placeOf g a)) setup.Erase (w % 256) (eqb (w % 256) 0xD0) (s .control .supply) (isUnprotected (s .unprotected) (blockOf g (location g a))) refl refl refl
     follows-cycle setup.Erase running.Idle program.Nothing (erase.Erase b n) m y h = absurd (true≢false (y .1))
@@ -571,8 +568,8 @@ module _ (g : Geometry) where
     follows-cycle setup.Erase (running.Program l v) q e m y h = absurd (true≢false (y .0))
     follows-cycle setup.Erase (running.Erase b n) q e m y h = absurd (true≢false (y .0))
     follows-cycle setup.Erase (running.Buffer l n d) q e m y h = absurd (true≢false (y .0))
-    follows-cycle setup.Lock r q e m y h =
-        follows-lock s (placeOf g a) (viewAt s (placeOf g a)) setup.Lock r q e (w % 256) (eqb (w % 256) 0x01) (eqb (w % 256) 0xD0) (eqb (w % 256) 0x03) refl refl refl
+    follows-cycle setup.Lock r q e m y h = lone setup.Lock r q e (y .0) (y .1)
+        (follows-lock s (placeOf g a) (viewAt s (placeOf g a)) setup.Lock running.Idle program.Nothing e (w % 256) (eqb (w % 256) 0x01) (eqb (w % 256) 0xD0) (eqb (w % 256) 0x03) refl refl refl)
     follows-cycle (setup.BufferCount b) r q e m y h = lone (setup.BufferCount b) r q e (y .0) (y .1)
         (follows-loads s (placeOf g a) (viewAt s (placeOf g a)) (setup.BufferCount b) e (setup.BufferFirst b (w + 1)) (first-setup b (w + 1)) (λ o. s .buffer) (eqb (blockOf g (location g a)) b && leb w 31) (λ z. refl))
     follows-cycle (setup.BufferFirst b n) r q e m y h = lone (setup.BufferFirst b n) r q e (y .0) (y .1)

@@ -50,7 +50,7 @@ use Rattle.semantics.specs.Engine.{Engine, busy, stack, held?, engine-af
 use Rattle.semantics.specs.Follows.{conditions, underWay, underWayOf, setupOf, eventOf, Together, Lacking, Follows, follows-written, under-way-worked, under-way-off, words-under-way}
 use Rattle.semantics.specs.Formed.{together, lacking, formed}
 use Rattle.semantics.specs.Buffer.{zero-empty}
-use Rattle.semantics.specs.Spare.{Spared, length-empty, length-loaded, length-after, buffer-on, spared-written, spared-worked, spared-ended}
+use Rattle.semantics.specs.Spare.{Spared, length-empty, length-loaded, length-held, length-after, buffer-on, spared-written, spared-worked, spared-ended}
 
 -- ---- refusals
 
@@ -282,7 +282,8 @@ unfolding accepted switchedTo ended written writtenAt workedOn worked powerUp
 kept-accepted s xs (Read a) h = kept s s refl refl refl refl (λ z. z) (λ z. z)
 kept-accepted s xs (Write a w) h =
     kept-view s (placeOf (geometry s) a) (cycleAt s (placeOf (geometry s) a) w) (writtenAt s (placeOf (geometry s) a) w .buffer)
-    (length-loaded (geometry s) (s .control .activity .setup) (s .control .activity .program) (placeOf (geometry s) a) w (cycleAt s (placeOf (geometry s) a) w .control .activity) (s .buffer))
+    (λ z. length-held (s .control .activity .program) (cycleAt s (placeOf (geometry s) a) w .control .activity) _
+    (length-loaded (geometry s) (s .control .activity .setup) (placeOf (geometry s) a) w (cycleAt s (placeOf (geometry s) a) w .control .activity .running) (s .buffer) z))
     (cycle-zero (geometry s) (viewAt s (placeOf (geometry s) a)) (s .control .activity .setup) (placeOf (geometry s) a) w)
     (cycle-supplied (geometry s) (viewAt s (placeOf (geometry s) a)) (s .control .activity .setup) (placeOf (geometry s) a) w)
 kept-accepted s xs (Work n) h = kept s (worked s n) refl refl refl refl (length-after (s .control .activity .running) (worked s n .control .activity .running) (s .buffer))

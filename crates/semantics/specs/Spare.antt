@@ -55,28 +55,28 @@ unfolding keptIf
 length-kept-if true bs h = h
 length-kept-if false bs h = length-empty
 
-length-held : (q : SuspendedProgram) (a : Activity) (bs : List ℕ) → length bs ≡ 32 → length (heldAfter q a bs) ≡ 32
+pub length-held : (q : SuspendedProgram) (a : Activity) (bs : List ℕ) → length bs ≡ 32 → length (heldAfter q a bs) ≡ 32
 unfolding heldAfter
 length-held program.Nothing a bs h = h
 length-held (program.Program l w) a bs h = h
 length-held (program.Buffer l n d) a bs h = length-kept-if (programSuspended (a .program) || runs (a .running)) bs h
 
-pub length-loaded : (g : Geometry) (c : Setup) (q : SuspendedProgram) (p : Place) (w : ℕ) (a : Activity) (bs : List ℕ) → length bs ≡ 32 → length (loaded g c q p w a bs) ≡ 32
+pub length-loaded : (g : Geometry) (c : Setup) (p : Place) (w : ℕ) (r : Running) (bs : List ℕ) → length bs ≡ 32 → length (loaded g c p w r bs) ≡ 32
 unfolding loaded wordsLoaded firstLoaded
-length-loaded g setup.Nothing q p w a bs h = length-held q a bs h
-length-loaded g setup.Program q p w a bs h = h
-length-loaded g setup.Erase q p w a bs h = h
-length-loaded g setup.Lock q p w a bs h = h
-length-loaded g (setup.BufferCount b) q p w a bs h = h
-length-loaded g (setup.BufferFirst b n) q p w a bs h = go (firstRight g b n p)
+length-loaded g setup.Nothing p w r bs h = h
+length-loaded g setup.Program p w r bs h = h
+length-loaded g setup.Erase p w r bs h = h
+length-loaded g setup.Lock p w r bs h = h
+length-loaded g (setup.BufferCount b) p w r bs h = h
+length-loaded g (setup.BufferFirst b n) p w r bs h = go (firstRight g b n p)
   where
     go : (o : Bool) → length (cond o (firstLoaded n w) bs) ≡ 32
     go true = length-tabulate 32 _
     go false = h
-length-loaded g (setup.BufferWords l n due) q p w a bs h = go (eqb due 0)
+length-loaded g (setup.BufferWords l n due) p w r bs h = go (eqb due 0)
   where
-    go : (o : Bool) → length (cond o (keptIf (runs (a .running)) bs) (keptIf (laterRight l n p) (set bs (p .location - l) w))) ≡ 32
-    go true = length-kept-if (runs (a .running)) bs h
+    go : (o : Bool) → length (cond o (keptIf (runs r) bs) (keptIf (laterRight l n p) (set bs (p .location - l) w))) ≡ 32
+    go true = length-kept-if (runs r) bs h
     go false = length-kept-if (laterRight l n p) (set bs (p .location - l) w) (length-set bs (p .location - l) w ∙ h)
 
 pub length-after : (r t : Running) (bs : List ℕ) → length bs ≡ 32 → length (bufferAfter r t bs) ≡ 32
@@ -212,7 +212,7 @@ module _ (g : Geometry) (s : State) (p : Place) (w : ℕ) where
   seen c r q e = at (viewAt s p) c r q e
 
   abbrev After : Setup → Running → SuspendedProgram → SuspendedErase → Type 0
-  After c r q e = Spared (cycle g (seen c r q e) c p w .control .activity) (loaded g c q p w (cycle g (seen c r q e) c p w .control .activity) (s .buffer))
+  After c r q e = Spared (cycle g (seen c r q e) c p w .control .activity) (heldAfter q (cycle g (seen c r q e) c p w .control .activity) (loaded g c p w (cycle g (seen c r q e) c p w .control .activity .running) (s .buffer)))
 
   same-spared : (x y : View) → Same x y → Spared (x .control .activity) (s .buffer) → Spared (y .control .activity) (s .buffer)
   same-spared x y e h = ap (λ (n : ℕ). zeroFrom n (s .buffer)) e ∙ h
@@ -228,7 +228,7 @@ module _ (g : Geometry) (s : State) (p : Place) (w : ℕ) where
   lone c (running.Buffer l n d) q e i k f = absurd (true≢false i)
 
   spared-words : (l n due : ℕ) (e : SuspendedErase) → zeroFrom n (s .buffer) ≡ true → After (setup.BufferWords l n due) running.Idle program.Nothing e
-  unfolding cycle wordsCycle loaded wordsLoaded laterRight keptIf setupPlaces
+  unfolding cycle wordsCycle loaded wordsLoaded heldAfter laterRight keptIf setupPlaces
   spared-words l n due e h = go (eqb due 0)
     where
       go : (b : Bool)
@@ -255,19 +255,21 @@ module _ (g : Geometry) (s : State) (p : Place) (w : ℕ) where
 
   pub spared-cycle : (c : Setup) (r : Running) (q : SuspendedProgram) (e : SuspendedErase) → Together r q e → Ready g (setupOf (s .buffer) c) (runs r) (held? (underWayOf (s .buffer) r q e))
       → Spared (activity c r q e) (s .buffer) → After c r q e
-  unfolding cycle loaded placesUsed setupPlaces runningPlaces programPlaces
+  unfolding cycle loaded heldAfter placesUsed setupPlaces runningPlaces programPlaces
   spared-cycle setup.Nothing r q e m y h = spared-first r q e m (commandOf (w % 256)) h
-  spared-cycle setup.Program running.Idle q e m y h = same-spared (seen setup.Program running.Idle q e) (programCycle (settle (seen setup.Program running.Idle q e)) p w)
-      (same-program (viewAt s p) p w q e (s .control .supply) (viewAt s p .unprotected) (erasing e (p .block)) refl refl refl) h
-  spared-cycle setup.Program (running.Program l v) q e m y h = absurd (true≢false (y .0))
-  spared-cycle setup.Program (running.Erase b n) q e m y h = absurd (true≢false (y .0))
-  spared-cycle setup.Program (running.Buffer l n d) q e m y h = absurd (true≢false (y .0))
-  spared-cycle setup.Erase running.Idle q e m y h = same-spared (seen setup.Erase running.Idle q e) (eraseCycle (settle (seen setup.Erase running.Idle q e)) p (w % 256))
-      (same-erase (viewAt s p) p (w % 256) q e (eqb (w % 256) 0xD0) (s .control .supply) (viewAt s p .unprotected) refl refl refl) h
+  spared-cycle setup.Program r q e m y h =
+      lone setup.Program r q e (y .0) (y .1) (λ z. same-spared (seen setup.Program running.Idle program.Nothing e) (programCycle (settle (seen setup.Program running.Idle program.Nothing e)) p w)
+      (same-program (viewAt s p) p w program.Nothing e (s .control .supply) (viewAt s p .unprotected) (erasing e (p .block)) refl refl refl) z) h
+  spared-cycle setup.Erase running.Idle program.Nothing e m y h = same-spared (seen setup.Erase running.Idle program.Nothing e) (eraseCycle (settle (seen setup.Erase running.Idle program.Nothing e)) p (w % 256))
+      (same-erase (viewAt s p) p (w % 256) program.Nothing e (eqb (w % 256) 0xD0) (s .control .supply) (viewAt s p .unprotected) refl refl refl) h
+  spared-cycle setup.Erase running.Idle (program.Program l v) e m y h = absurd (true≢false (y .1))
+  spared-cycle setup.Erase running.Idle (program.Buffer l n d) e m y h = absurd (true≢false (y .1))
   spared-cycle setup.Erase (running.Program l v) q e m y h = absurd (true≢false (y .0))
   spared-cycle setup.Erase (running.Erase b n) q e m y h = absurd (true≢false (y .0))
   spared-cycle setup.Erase (running.Buffer l n d) q e m y h = absurd (true≢false (y .0))
-  spared-cycle setup.Lock r q e m y h = same-spared (seen setup.Lock r q e) (lockCycle (settle (seen setup.Lock r q e)) p (lockCommandOf (w % 256))) (same-lock (viewAt s p) p (lockCommandOf (w % 256)) r q e) h
+  spared-cycle setup.Lock r q e m y h =
+      lone setup.Lock r q e (y .0) (y .1) (λ z. same-spared (seen setup.Lock running.Idle program.Nothing e) (lockCycle (settle (seen setup.Lock running.Idle program.Nothing e)) p (lockCommandOf (w % 256)))
+      (same-lock (viewAt s p) p (lockCommandOf (w % 256)) running.Idle program.Nothing e) z) h
   spared-cycle (setup.BufferCount b) r q e m y h =
       lone (setup.BufferCount b) r q e (y .0) (y .1) (λ z. spared-loads (viewAt s p) (setup.BufferCount b) e (setup.BufferFirst b (w + 1)) (λ o. s .buffer) (countRight b p w) (λ i. z) (λ i. z)) h
   spared-cycle (setup.BufferFirst b n) r q e m y h =

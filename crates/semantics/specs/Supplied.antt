@@ -195,6 +195,10 @@ held-stays program.Nothing a bs h = refl
 held-stays (program.Program l w) a bs h = refl
 held-stays (program.Buffer l n d) a bs h = rw (h refl)
 
+-- a cycle that leaves what is suspended leaves them
+pub held-left : (q : SuspendedProgram) (a : Activity) (bs : List ℕ) → a .program ≡ q → heldAfter q a bs ≡ bs
+held-left q a bs e = held-stays q a bs (λ k. rw (e, k))
+
 -- the command is D0h
 abbrev pub isResume : Command → Bool
 isResume command.ReadArray = false

@@ -216,22 +216,22 @@ firstLoaded n w = tabulate 32 (λ i. cond (eqb i 0) w (cond (ltb i n) 0xFFFF 0))
 unfoldable pub wordsLoaded : ℕ → ℕ → ℕ → Place → ℕ → Running → List ℕ → List ℕ
 wordsLoaded l n due p w r bs = cond (eqb due 0) (keptIf (runs r) bs) (keptIf (laterRight l n p) (set bs (p .location - l) w))
 
--- the words of a buffer program that was suspended are in use after a first cycle, with a under way then, where it is still suspended or runs: D0h without supply ends it. No other program comes in
--- its place at a first cycle, so that any that is suspended, and anything that runs, is it
+-- what a cycle of a word w makes of the buffer, by the set-up that was pending: a load's data cycles put it in
+unfoldable pub loaded : Geometry → Setup → Place → ℕ → Running → List ℕ → List ℕ
+loaded g setup.Nothing p w r bs = bs
+loaded g setup.Program p w r bs = bs
+loaded g setup.Erase p w r bs = bs
+loaded g setup.Lock p w r bs = bs
+loaded g (setup.BufferCount b) p w r bs = bs
+loaded g (setup.BufferFirst b n) p w r bs = cond (firstRight g b n p) (firstLoaded n w) bs
+loaded g (setup.BufferWords l n due) p w r bs = wordsLoaded l n due p w r bs
+
+-- the words of a buffer program that was suspended are in use after a cycle, with a under way then, where it is still suspended or runs: D0h without supply ends it. No other program comes in its
+-- place at one cycle, so that any that is suspended, and anything that runs, is it
 unfoldable pub heldAfter : SuspendedProgram → Activity → List ℕ → List ℕ
 heldAfter program.Nothing a bs = bs
 heldAfter (program.Program l w) a bs = bs
 heldAfter (program.Buffer l n d) a bs = keptIf (programSuspended (a .program) || runs (a .running)) bs
-
--- what a cycle of a word w makes of the buffer, by the set-up that was pending and the program q that was suspended, with a under way after it: a load's data cycles put the word in
-unfoldable pub loaded : Geometry → Setup → SuspendedProgram → Place → ℕ → Activity → List ℕ → List ℕ
-loaded g setup.Nothing q p w a bs = heldAfter q a bs
-loaded g setup.Program q p w a bs = bs
-loaded g setup.Erase q p w a bs = bs
-loaded g setup.Lock q p w a bs = bs
-loaded g (setup.BufferCount b) q p w a bs = bs
-loaded g (setup.BufferFirst b n) q p w a bs = cond (firstRight g b n p) (firstLoaded n w) bs
-loaded g (setup.BufferWords l n due) q p w a bs = wordsLoaded l n due p w (a .running) bs
 
 -- ---- the state
 
@@ -241,7 +241,7 @@ cycleAt s p w = cycle (geometry s) (viewAt s p) (s .control .activity .setup) p 
 
 -- the buffer after it, with a under way after it
 abbrev pub loadedAt : State → Place → ℕ → Activity → List ℕ
-loadedAt s p w a = loaded (geometry s) (s .control .activity .setup) (s .control .activity .program) p w a (s .buffer)
+loadedAt s p w a = heldAfter (s .control .activity .program) a (loaded (geometry s) (s .control .activity .setup) p w (a .running) (s .buffer))
 
 -- the state after a write of the word w at a place, and to an address
 unfoldable pub writtenAt : State → Place → ℕ → State

@@ -28,7 +28,7 @@ use Rattle.semantics.specs.declared.Place.{Place}
 use Rattle.semantics.specs.declared.View.{View}
 use Rattle.semantics.specs.State.{geometry, activity, setActivity, withControl, withBuffer, withSetup, withRunning, withActivity, runs, flagsOf, noFlags}
 use Rattle.semantics.specs.Supply.{ended, endedIfUnsupplied}
-use Rattle.semantics.specs.Supplied.{awake, resume-unsupplied, isResume, only-resume, first-holds}
+use Rattle.semantics.specs.Supplied.{awake, resume-unsupplied, isResume, only-resume, first-holds, held-left}
 use Rattle.semantics.specs.View.{viewAt, withView, withMode, raise}
 use Rattle.semantics.specs.Modes.{view-back}
 use Rattle.semantics.specs.View as view
@@ -258,7 +258,7 @@ change-put s p w k e h = go (pending (s .control .activity .setup)) refl
         let b : bufferBy s k ≡ loadedAt s p w (cycleAt s p w .control .activity) =
         ap (bufferBy s) c ∙ buffer-is s p (commandOf (w % 256))
         ∙ ap (λ (v : View). heldAfter (a .program) (v .control .activity) (s .buffer)) (cycle-first (geometry s) (viewAt s p) (a .setup) p w q)
-        ∙ ap (λ (x : Setup). loaded (geometry s) x (a .program) p w (cycleAt s p w .control .activity) (s .buffer)) (sym n) in
+        ∙ ap (λ (x : Setup). heldAfter (a .program) (cycleAt s p w .control .activity) (loaded (geometry s) x p w (cycleAt s p w .control .activity .running) (s .buffer))) (sym n) in
         sym (put-view s p k h) ∙ rw (f, b)
 
 -- one that is told by its view is what that says
@@ -356,9 +356,15 @@ told-settled s p w =
     let z = sym (l .2) in
     λ j. record { activity = activity (v .control .activity .setup) (v .control .activity .running) (x j) (y j); flags = v .control .flags; configuration = v .control .configuration; supply = z j }
 
+-- and the words of a suspended buffer program
+told-held : (s : State) (p : Place) (w : ℕ) (bs : List ℕ) → heldAfter (s .control .activity .program) (toldAt s p w .control .activity) bs ≡ bs
+told-held s p w bs = held-left (s .control .activity .program) (toldAt s p w .control .activity) bs (told-left (geometry s) (viewAt s p) (s .control .activity .setup) p w .0)
+
 -- the state after a write that is told by its view v, with the protection words u and the buffer bs that it leaves
 pub told-put : (s : State) (p : Place) (w : ℕ) (v : View) (u bs : List ℕ) → change.View ≡ changeOf (s .control .activity) (s .control .supply) p w → v ≡ toldAt s p w
-    → u ≡ withUnprotected (s .unprotected) (p .block) (v .unprotected) → bs ≡ loadedAt s p w (v .control .activity)
+    → u ≡ withUnprotected (s .unprotected) (p .block) (v .unprotected) → bs ≡ loaded (geometry s) (s .control .activity .setup) p w (v .control .activity .running) (s .buffer)
     → _≡_ {A = State} (record { part = s .part; banks = set (s .banks) (p .bank) (record { mode = v .mode }); unprotected = u; control = settledIn (s .control) v; buffer = bs }) (writtenAt s p w)
 unfolding writtenAt
-told-put s p w v u bs e f h i = rw (i, h, f, told-settled s p w, change-told s p w e)
+told-put s p w v u bs e f h i =
+    let z : bs ≡ loadedAt s p w (v .control .activity) = i ∙ sym (rw f (told-held s p w _)) in
+    rw (z, h, f, told-settled s p w, change-told s p w e)

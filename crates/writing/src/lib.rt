@@ -445,7 +445,7 @@ fn load_words(
     }
 }
 
-// What a first cycle makes of the buffer: the words of a buffer program that was suspended are in use where it still is, or runs.
+// What becomes of the words of a buffer program that was suspended: they are in use where it still is, or runs. Only D0h without supply ends one.
 fn hold_buffer(p: SuspendedProgram, a: Activity, buffer: &mut [u16; 32])
     ensures { λ _. ⌜ now (buffer .exit) ≡ heldAfter p a (now (buffer .entry)) ⌝ }
 {
@@ -463,15 +463,14 @@ fn hold_buffer(p: SuspendedProgram, a: Activity, buffer: &mut [u16; 32])
 
 // What a cycle at a place makes of the buffer, from the control before it to the view after it. The buffer stands where it is: a cycle that is no load's does not copy it.
 pub fn load_buffer(part: Part, c: Control, p: Place, word: u16, v: View, buffer: &mut [u16; 32])
-    ensures { λ _. ⌜ now (buffer .exit) ≡ loaded (geometryOf part) (c .activity .setup) (c .activity .program) p word (v .control .activity) (now (buffer .entry)) ⌝ }
+    ensures { λ _. ⌜ now (buffer .exit) ≡ loaded (geometryOf part) (c .activity .setup) p word (v .control .activity .running) (now (buffer .entry)) ⌝ }
 {
     let before = c.activity;
     let after = v.control.activity;
     let setup = before.setup;
-    let program = before.program;
     let running = after.running;
     match setup {
-        Setup::Nothing => hold_buffer(program, after, buffer),
+        Setup::Nothing => {}
         Setup::Program => {}
         Setup::Erase => {}
         Setup::Lock => {}
@@ -495,7 +494,11 @@ pub fn written(s: State, address: u32, word: u16) -> State
     let c = s.control;
     let p = state::place_of(part, address);
     let v = view_after(s, p, word);
+    let before = c.activity;
+    let after = v.control.activity;
+    let program = before.program;
     let mut next = state::with_view(s, p, v);
     load_buffer(part, c, p, word, v, &mut next.buffer);
+    hold_buffer(program, after, &mut next.buffer);
     next
 }

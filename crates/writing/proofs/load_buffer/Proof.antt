@@ -6,7 +6,7 @@ use Rattle.writing.proofs.load_buffer.Tie as tie
 
 returns : tie.Need-returns
 unfolding loaded
-returns c = rw (c .before .before .enum-told .given .1) (c .hold-buffer .ensures)
+returns c = rw (c .enum-told .given .1)
 
 returns-2 : tie.Need-returns-2
 unfolding loaded
@@ -41,7 +41,6 @@ load-buffer-spec =
     tie.close
     (tie.spec
     (λ c. search needs)
-    (λ c κs. search needs)
     (λ c. search needs)
     (λ c. search needs)
     (λ c. search needs)
