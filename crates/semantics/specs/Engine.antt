@@ -318,43 +318,38 @@ module _ (g : Geometry) where
   match-unsupplied (engine true []) j m = absurd (entries.match-some (kinds g) m)
   match-unsupplied (engine true (live k u ∷ s)) j m = entries.match-broken (kinds g) true isNone refl (none-live s) m
 
-  match-resume-program : (e : Engine) (j : List (Entry Operation)) → busy e ≡ false → held? e isProgram ≡ true → Fit e j
-      → Matches (some? (stack e)) (stack e) (journal-after g resume-program j)
-  match-resume-program (engine true s) j x y f = absurd (true≢false x)
-  match-resume-program (engine false []) j x y f = absurd (false≢true y)
-  match-resume-program (engine false (live k u ∷ [])) j x y f = entries.match-resumed (kinds g) isProgram (or-lone _ y) tt (f .0)
-  match-resume-program (engine false (live k u ∷ (live i v ∷ []))) j x y f =
-      entries.match-resumed (kinds g) isProgram (rw (f .1 .0)) (rw (f .1 .1), tt) (f .0)
-  match-resume-program (engine false (live k u ∷ (live i v ∷ (l ∷ s)))) j x y f = absurd (f .1)
+  -- the newest of those under way is p, and no other is
+  abbrev Top : (Operation → Bool) → List (Live Operation) → Type 0
+  Top p [] = ⊥
+  Top p (live k u ∷ s) = (p k ≡ true) × None p s
 
-  -- where two are under way, one is a program
-  no-two : (k : Operation) (u : ℕ) (i : Operation) (v : ℕ) (s : List (Live Operation)) → Order (live k u ∷ (live i v ∷ s)) → anyLive isProgram (live k u ∷ (live i v ∷ s)) ≡ false → ⊥
-  no-two k u i v [] o n = true≢false (sym (ap not (o .0)) ∙ or-false-l (isProgram k) _ n)
-  no-two k u i v (x ∷ s) o n = o
+  -- where a program is suspended, it is that; and the erase is, where none is
+  program-top : (e : Engine) → busy e ≡ false → held? e isProgram ≡ true → Order (stack e) → Top isProgram (stack e)
+  program-top (engine true s) x y o = absurd (true≢false x)
+  program-top (engine false []) x y o = absurd (false≢true y)
+  program-top (engine false (live k u ∷ [])) x y o = (or-lone _ y, tt)
+  program-top (engine false (live k u ∷ (live i v ∷ []))) x y o = (rw (o .0), (rw (o .1), tt))
+  program-top (engine false (live k u ∷ (live i v ∷ (l ∷ s)))) x y o = absurd o
 
-  match-resume-erase : (e : Engine) (j : List (Entry Operation)) → busy e ≡ false → held? e isProgram ≡ false → held? e isErase ≡ true → Fit e j
-      → Matches (some? (stack e)) (stack e) (journal-after g resume-erase j)
-  match-resume-erase (engine true s) j x y z f = absurd (true≢false x)
-  match-resume-erase (engine false []) j x y z f = absurd (false≢true z)
-  match-resume-erase (engine false (live k u ∷ [])) j x y z f = entries.match-resumed (kinds g) isErase (or-lone _ z) tt (f .0)
-  match-resume-erase (engine false (live k u ∷ (live i v ∷ s))) j x y z f = absurd (no-two k u i v s (f .1) y)
+  erase-top : (e : Engine) → busy e ≡ false → held? e isProgram ≡ false → held? e isErase ≡ true → Order (stack e) → Top isErase (stack e)
+  erase-top (engine true s) x y z o = absurd (true≢false x)
+  erase-top (engine false []) x y z o = absurd (false≢true z)
+  erase-top (engine false (live k u ∷ [])) x y z o = (or-lone _ z, tt)
+  erase-top (engine false (live k u ∷ (live i v ∷ []))) x y z o = absurd (true≢false (sym (ap not (o .0)) ∙ or-false-l (isProgram k) _ y))
+  erase-top (engine false (live k u ∷ (live i v ∷ (l ∷ s)))) x y z o = absurd o
 
-  -- D0h without supply ends what it would have resumed
-  match-end-program : (e : Engine) (j : List (Entry Operation)) → busy e ≡ false → held? e isProgram ≡ true → Fit e j
-      → Matches false (resting true (stack e)) (journal-after g end-program j)
-  match-end-program (engine true s) j x y f = absurd (true≢false x)
-  match-end-program (engine false []) j x y f = absurd (false≢true y)
-  match-end-program (engine false (live k u ∷ [])) j x y f = entries.match-broken (kinds g) false isProgram (or-lone _ y) tt (f .0)
-  match-end-program (engine false (live k u ∷ (live i v ∷ []))) j x y f =
-      entries.match-broken (kinds g) false isProgram (rw (f .1 .0)) (rw (f .1 .1), tt) (f .0)
-  match-end-program (engine false (live k u ∷ (live i v ∷ (l ∷ s)))) j x y f = absurd (f .1)
+  -- D0h resumes it, and without supply ends it
+  match-resume : (p : Operation → Bool) (e : Engine) (j : List (Entry Operation)) → busy e ≡ false → Top p (stack e) → Matches (busy e) (stack e) j
+      → Matches (some? (stack e)) (stack e) (map (entries.resumed p) j)
+  match-resume p (engine true s) j x t m = absurd (true≢false x)
+  match-resume p (engine false []) j x t m = absurd t
+  match-resume p (engine false (live k u ∷ s)) j x t m = entries.match-resumed (kinds g) p (t .0) (t .1) m
 
-  match-end-erase : (e : Engine) (j : List (Entry Operation)) → busy e ≡ false → held? e isProgram ≡ false → held? e isErase ≡ true → Fit e j
-      → Matches false (resting true (stack e)) (journal-after g end-erase j)
-  match-end-erase (engine true s) j x y z f = absurd (true≢false x)
-  match-end-erase (engine false []) j x y z f = absurd (false≢true z)
-  match-end-erase (engine false (live k u ∷ [])) j x y z f = entries.match-broken (kinds g) false isErase (or-lone _ z) tt (f .0)
-  match-end-erase (engine false (live k u ∷ (live i v ∷ s))) j x y z f = absurd (no-two k u i v s (f .1) y)
+  match-end : (p : Operation → Bool) (e : Engine) (j : List (Entry Operation)) → busy e ≡ false → Top p (stack e) → Matches (busy e) (stack e) j
+      → Matches false (resting true (stack e)) (map (entries.brokenOff false p) j)
+  match-end p (engine true s) j x t m = absurd (true≢false x)
+  match-end p (engine false []) j x t m = absurd t
+  match-end p (engine false (live k u ∷ s)) j x t m = entries.match-broken (kinds g) false p (t .0) (t .1) m
 
   -- an erase covers words of its block alone
   erase-in : (sound : Sound g) (k : Operation) → isErase k ≡ true → (L : ℕ) → InK k L → blockOf g L ≡ blockIn g k
@@ -463,13 +458,13 @@ module _ (g : Geometry) where
       record { match = f .0; order = f .1; inside = inside-work n e (s .inside); lying = lying-map (entries.worked (kinds g) n) (lying-worked n) j (s .lying); ready = ready-work n (d .setup) e (s .ready) }
   sim-do sound d e j v (ok-suspend z) s = record { match = match-suspend e j (s .match); order = s .order; inside = s .inside; lying = lying-map entries.paused lying-paused j (s .lying); ready = ready-none _ _ _ z }
   sim-do sound d e j v (ok-resume-program z x y) s =
-      record { match = match-resume-program e j x y (s .match, s .order); order = s .order; inside = s .inside; lying = lying-map (entries.resumed isProgram) (lying-resumed isProgram) j (s .lying); ready = ready-none _ _ _ z }
+      record { match = match-resume isProgram e j x (program-top e x y (s .order)) (s .match); order = s .order; inside = s .inside; lying = lying-map (entries.resumed isProgram) (lying-resumed isProgram) j (s .lying); ready = ready-none _ _ _ z }
   sim-do sound d e j v (ok-resume-erase z x y w) s =
-      record { match = match-resume-erase e j x y w (s .match, s .order); order = s .order; inside = s .inside; lying = lying-map (entries.resumed isErase) (lying-resumed isErase) j (s .lying); ready = ready-none _ _ _ z }
+      record { match = match-resume isErase e j x (erase-top e x y w (s .order)) (s .match); order = s .order; inside = s .inside; lying = lying-map (entries.resumed isErase) (lying-resumed isErase) j (s .lying); ready = ready-none _ _ _ z }
   sim-do sound d e j v (ok-end-program z x y) s =
-      record { match = match-end-program e j x y (s .match, s .order); order = order-resting true (stack e) (s .order); inside = inside-resting true (stack e) (s .inside); lying = lying-map (entries.brokenOff false isProgram) (lying-broken false isProgram) j (s .lying); ready = ready-none _ _ _ z }
+      record { match = match-end isProgram e j x (program-top e x y (s .order)) (s .match); order = order-resting true (stack e) (s .order); inside = inside-resting true (stack e) (s .inside); lying = lying-map (entries.brokenOff false isProgram) (lying-broken false isProgram) j (s .lying); ready = ready-none _ _ _ z }
   sim-do sound d e j v (ok-end-erase z x y w) s =
-      record { match = match-end-erase e j x y w (s .match, s .order); order = order-resting true (stack e) (s .order); inside = inside-resting true (stack e) (s .inside); lying = lying-map (entries.brokenOff false isErase) (lying-broken false isErase) j (s .lying); ready = ready-none _ _ _ z }
+      record { match = match-end isErase e j x (erase-top e x y w (s .order)) (s .match); order = order-resting true (stack e) (s .order); inside = inside-resting true (stack e) (s .inside); lying = lying-map (entries.brokenOff false isErase) (lying-broken false isErase) j (s .lying); ready = ready-none _ _ _ z }
   sim-do sound d e j v (ok-setup t y) s = record { match = s .match; order = s .order; inside = s .inside; lying = s .lying; ready = y }
   sim-do sound d e j v (ok-unprotected b o) s = record { match = s .match; order = s .order; inside = s .inside; lying = s .lying; ready = tt }
   sim-do sound d e j v (ok-program k q a b c x y z) s =
