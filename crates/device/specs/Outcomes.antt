@@ -5,7 +5,8 @@ use Prim.Native.Nat.{ℕ}
 use Rattle.semantics.specs.declared.State.{State}
 use Rattle.semantics.specs.declared.Step.{Step}
 use Rattle.semantics.specs.declared.Next.{Next}
-use Rattle.semantics.specs.Steps.{stepOf, arrayOf}
+use Rattle.wear.specs.Counts.{Counts}
+use Rattle.wear.specs.Steps.{stepWith, arrayWith, countsWith}
 use Rattle.device.specs.declared.Device.{Device}
 use Rattle.device.specs.declared.Outcome.{Outcome}
 
@@ -15,9 +16,12 @@ holding s = record { state = s }
 abbrev pub outcomeOf : Next → Outcome
 outcomeOf n = record { device = holding (n .state); answer = n .answer }
 
--- the outcome of a step, and the array after it
-abbrev pub outcome : Device → List ℕ → Step → Outcome
-outcome d xs x = outcomeOf (stepOf (d .state) xs x)
+-- the outcome of a step of a device with its counts, and the array and the counts after it
+abbrev pub outcome : Device → Counts → List ℕ → Step → Outcome
+outcome d k xs x = outcomeOf (stepWith (d .state) k xs x)
 
-abbrev pub arrayOut : Device → List ℕ → Step → List ℕ
-arrayOut d xs x = arrayOf (d .state) xs x
+abbrev pub arrayOut : Device → Counts → List ℕ → Step → List ℕ
+arrayOut d k xs x = arrayWith (d .state) k xs x
+
+abbrev pub countsOut : Device → Counts → List ℕ → Step → Counts
+countsOut d k xs x = countsWith (d .state) k xs x

@@ -9,25 +9,35 @@ use Rattle.semantics.specs.declared.State.{State}
 use Rattle.semantics.specs.declared.Step.{Step}
 use Rattle.semantics.specs.declared.Answer.the-variants.{Refused}
 use Rattle.semantics.specs.State.{geometry}
-use Rattle.semantics.specs.Steps.{stateRefusal, stepRefusal, firstRefusal, refusalOf, next, accepted, acceptedArray, stepOf, arrayOf}
+use Rattle.semantics.specs.Steps.{stepRefusal, firstRefusal, next, accepted, acceptedArray}
+use Rattle.wear.specs.Counts.{Counts}
+use Rattle.wear.specs.Steps.{deviceRefusal, refusalWith, stepWith, arrayWith, countsWith, acceptedCounts}
 
-module _ (s : State) (xs : List ℕ) (x : Step) (e a b : ℕ) (state : a ≡ stateRefusal s (length xs)) (own : b ≡ stepRefusal (geometry s) x) (found : e ≡ firstRefusal a b) where
-  refusal-is : refusalOf s (length xs) x ≡ e
-  unfolding refusalOf
-  refusal-is = rw (← state, ← own, ← found)
+module _ (s : State) (k : Counts) (xs : List ℕ) (x : Step) (e a b : ℕ) (device : a ≡ deviceRefusal s k (length xs)) (own : b ≡ stepRefusal (geometry s) x) (found : e ≡ firstRefusal a b) where
+  refusal-is : refusalWith s k (length xs) x ≡ e
+  unfolding refusalWith
+  refusal-is = rw (← device, ← own, ← found)
 
-  pub step-accepted : e ≡ 0 → stepOf s xs x ≡ accepted s xs x
-  unfolding stepOf
+  pub step-accepted : e ≡ 0 → stepWith s k xs x ≡ accepted s xs x
+  unfolding stepWith
   step-accepted h = rw (refusal-is, eq-eqb e 0 h)
 
-  pub step-refused : (e ≡ 0 → ⊥) → stepOf s xs x ≡ next s (Refused e)
-  unfolding stepOf
+  pub step-refused : (e ≡ 0 → ⊥) → stepWith s k xs x ≡ next s (Refused e)
+  unfolding stepWith
   step-refused h = rw (refusal-is, ne-eqb e 0 h)
 
-  pub array-accepted : e ≡ 0 → arrayOf s xs x ≡ acceptedArray s xs x
-  unfolding arrayOf
+  pub array-accepted : e ≡ 0 → arrayWith s k xs x ≡ acceptedArray s xs x
+  unfolding arrayWith
   array-accepted h = rw (refusal-is, eq-eqb e 0 h)
 
-  pub array-refused : (e ≡ 0 → ⊥) → arrayOf s xs x ≡ xs
-  unfolding arrayOf
+  pub array-refused : (e ≡ 0 → ⊥) → arrayWith s k xs x ≡ xs
+  unfolding arrayWith
   array-refused h = rw (refusal-is, ne-eqb e 0 h)
+
+  pub counts-accepted : e ≡ 0 → countsWith s k xs x ≡ acceptedCounts s k x
+  unfolding countsWith
+  counts-accepted h = rw (refusal-is, eq-eqb e 0 h)
+
+  pub counts-refused : (e ≡ 0 → ⊥) → countsWith s k xs x ≡ k
+  unfolding countsWith
+  counts-refused h = rw (refusal-is, ne-eqb e 0 h)

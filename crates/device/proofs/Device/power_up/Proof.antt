@@ -5,11 +5,13 @@ use borrow.Author.Needs.{needs}
 use Rattle.device.proofs.Device.power_up.Statement.{statement}
 use Rattle.device.proofs.Device.power_up.Tie as tie
 
-power-up-requires : tie.Need-power-up-requires
-power-up-requires c κs = search needs
-
 returns : tie.Need-returns
-returns c = ap holding (c .power-up .ensures)
+returns c = (ap holding (c .power-up .ensures), c .before .clear .ensures)
 
 pub power-up-spec : {M : Type 1} → statement M
-power-up-spec = tie.close (tie.spec power-up-requires returns)
+power-up-spec =
+    tie.close
+    (tie.spec
+    (λ c κs. search needs)
+    (λ c κs. search needs)
+    returns)

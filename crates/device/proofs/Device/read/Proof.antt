@@ -8,33 +8,22 @@ use borrow.Author.Needs.{needs}
 use Rattle.device.proofs.Device.read.Statement.{statement}
 use Rattle.device.proofs.Device.read.Tie as tie
 
-state-refusal-requires : tie.Need-state-refusal-requires
-state-refusal-requires c κs = search needs
-
-address-refusal-requires : tie.Need-address-refusal-requires
-address-refusal-requires c κs = search needs
-
-first-refusal-requires : tie.Need-first-refusal-requires
-first-refusal-requires c κs = search needs
-
-read-word-requires : tie.Need-read-word-requires
-read-word-requires c κs = search needs
-
 returns : tie.Need-returns
 unfolding accepted stepRefusal
-returns c = rw (c .read-word .ensures) (sym (ap outcomeOf (step-accepted _ _ (Read _) _ _ _ (c .before .before .before .before .state-refusal .ensures) (c .before .before .before .address-refusal .ensures) (c .before .before .first-refusal .ensures) (c .before .if1 .taken))))
+returns c = rw (c .read-word .ensures)
+    (sym (ap outcomeOf (step-accepted _ _ _ (Read _) _ _ _ (c .before .before .before .before .refusal-of .ensures _) (c .before .before .before .address-refusal .ensures) (c .before .before .first-refusal .ensures) (c .before .if1 .taken))))
 
 returns-2 : tie.Need-returns-2
 unfolding stepRefusal
-returns-2 c = sym (ap outcomeOf (step-refused _ _ (Read _) _ _ _ (c .before .before .before .state-refusal .ensures) (c .before .before .address-refusal .ensures) (c .before .first-refusal .ensures) (c .if1 .left)))
+returns-2 c = sym (ap outcomeOf (step-refused _ _ _ (Read _) _ _ _ (c .before .before .before .refusal-of .ensures _) (c .before .before .address-refusal .ensures) (c .before .first-refusal .ensures) (c .if1 .left)))
 
 pub read-spec : {M : Type 1} → statement M
 read-spec =
     tie.close
     (tie.spec
-    state-refusal-requires
-    address-refusal-requires
-    first-refusal-requires
-    read-word-requires
+    (λ c κs. search needs)
+    (λ c κs. search needs)
+    (λ c κs. search needs)
+    (λ c κs. search needs)
     returns
     returns-2)

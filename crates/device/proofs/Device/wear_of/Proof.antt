@@ -1,0 +1,23 @@
+-- `Device::wear_of` meets its contract, by its one test. Assumes nothing.
+use Rattle.wear.specs.Steps.{wornWith}
+use borrow.Author.Needs.{needs}
+use Rattle.device.proofs.Device.wear_of.Statement.{statement}
+use Rattle.device.proofs.Device.wear_of.Tie as tie
+
+returns : tie.Need-returns
+unfolding wornWith
+returns c = rw (← c .before .before .formed-with .ensures _, c .before .if1 .taken, c .count-of .ensures)
+
+returns-2 : tie.Need-returns-2
+unfolding wornWith
+returns-2 c = rw (← c .before .formed-with .ensures _, c .if1 .left)
+
+pub wear-of-spec : {M : Type 1} → statement M
+wear-of-spec =
+    tie.close
+    (tie.spec
+    (λ c κs. search needs)
+    (λ c κs. search needs)
+    (λ c. search needs)
+    returns
+    returns-2)

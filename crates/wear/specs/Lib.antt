@@ -1,0 +1,5 @@
+pub mod Counts
+pub mod Steps
+pub mod Places
+pub mod Most
+pub mod Refused
