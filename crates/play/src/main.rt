@@ -94,8 +94,11 @@ fn main() {
     warn(&text[..n]);
     // The bench part's words, all FFFFh at the start.
     let mut array = [0xffffu16; 16384];
+    // The erase counts, which power-up sets to 0. No line of a script asks for them.
+    let mut main = [[0u16; 16]; 16];
+    let mut small = [0u16; 4];
     // Room for every transcript, as its type asks.
     let mut room = [0u8; 262154];
-    let end = script::play_text(&text[..n], &mut array, &mut room);
+    let end = script::play_text(&text[..n], &mut main, &mut small, &mut array, &mut room);
     print(&room, end);
 }

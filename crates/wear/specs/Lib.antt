@@ -3,3 +3,5 @@ pub mod Steps
 pub mod Places
 pub mod Most
 pub mod Refused
+pub mod Claim
+pub mod Theorem

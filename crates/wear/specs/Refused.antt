@@ -1,24 +1,30 @@
 -- Where the shared place is 0, the counts are only looked on: a step is the step of the device alone, in what it answers and in what it makes of the state and the array; and a list
 -- of steps is. Where it is not 0, every step is refused 1 or 2, and so are the reports.
 -- Assumes nothing.
-use Prim.Native.Nat.{ℕ}
+use Prim.Native.Nat.{ℕ, zero, suc, _+_, _≤_, min}
 use mathlib.Core.Bool.{Bool, true, false, cond, _&&_}
 use mathlib.Core.List.{List, [], _∷_}
 use mathlib.Core.Path.{_≡_, refl, sym, ap, _∙_}
-use lib.Dec.{eqb}
-use lib.ListN.{length}
-use borrow.Author.Tests.{eq-eqb}
+use native.Mathlib.Omega.{arith}
+use lib.Dec.{eqb, ltb}
+use lib.ListN.{length, getD, set}
+use lib.Seq.{getD-set-other}
+use borrow.Author.Tests.{ltb-false}
 use Rattle.geometry.specs.Blocks.{words}
 use Rattle.protection.specs.Words.{reportOf}
 use Rattle.semantics.specs.declared.State.{State}
 use Rattle.semantics.specs.declared.Step.{Step}
+use Rattle.semantics.specs.declared.Step.the-variants.{Read, Write, Work, Supply, Reset}
+use Rattle.semantics.specs.declared.Running.{Running}
+use Rattle.semantics.specs.declared.Running.the-variants as running
 use Rattle.semantics.specs.declared.Answer.{Answer}
+use Rattle.semantics.specs.declared.Answer.the-variants.{Refused}
 use Rattle.semantics.specs.declared.Reported.{Reported}
-use Rattle.semantics.specs.State.{geometry}
+use Rattle.semantics.specs.State.{geometry, runs}
 use Rattle.semantics.specs.WellFormed.{wellFormed}
-use Rattle.semantics.specs.Steps.{stepRefusal, stateRefusal, firstRefusal, refusalOf, next, acceptedArray, stepOf, arrayOf, reportedOf, Machine, after, afterAll, answersOf}
-use Rattle.wear.specs.Counts.{Counts, sharedZero}
-use Rattle.wear.specs.Steps.{formedWith, deviceRefusal, refusalWith, stepWith, arrayWith, countsWith, acceptedCounts, reportedWith, Counted, beside, afterWith, afterAllWith, answersWith}
+use Rattle.semantics.specs.Steps.{stepRefusal, stateRefusal, firstRefusal, refusalOf, next, accepted, acceptedArray, stepOf, arrayOf, reportedOf, Machine, after, afterAll, answersOf}
+use Rattle.wear.specs.Counts.{Counts, lent, rowOf, placeIn, countAt, countOf, sharedZero, noCounts, putAt, withCount, oneMore, countsAfter}
+use Rattle.wear.specs.Steps.{formedWith, deviceRefusal, refusalWith, stepWith, arrayWith, countsWith, acceptedCounts, reportedWith, mostWornWith, Counted, afterWith, afterAllWith, answersWith}
 
 -- ---- the report of unprotected blocks, by the one rule
 
@@ -52,3 +58,143 @@ array-still s k xs x e = cond-still (eqb (refusalWith s k (length xs) x) 0) (acc
 pub counts-still : (s : State) (k : Counts) (xs : List ℕ) (x : Step) → acceptedCounts s k x ≡ k → countsWith s k xs x ≡ k
 unfolding countsWith
 counts-still s k xs x e = cond-still (eqb (refusalWith s k (length xs) x) 0) (acceptedCounts s k x) k e
+
+-- ---- the shared place
+
+-- no step changes the shared place: it is no block's
+put-elsewhere : (m : List (List ℕ)) (i j x : ℕ) → (i ≡ 0 → j ≡ 0 → ⊥) → countAt (putAt m i j x) 0 0 ≡ countAt m 0 0
+unfolding countAt putAt
+put-elsewhere m (suc i) j x n = ap (λ (r : List ℕ). getD r 0 0) (getD-set-other m (suc i) 0 (set (getD m (suc i) []) j x) [] (λ e. omega arith))
+put-elsewhere [] zero j x n = refl
+put-elsewhere (r ∷ m) zero j x n = getD-set-other r j 0 x 0 (λ e. n refl (sym e))
+
+-- the places of the blocks from 4 on do not include it
+not-shared : (b : ℕ) → 4 ≤ b → rowOf b ≡ 0 → placeIn b ≡ 0 → ⊥
+unfolding rowOf placeIn
+not-shared b h i j = omega arith
+
+pub shared-with : (k : Counts) (b x : ℕ) → sharedZero (withCount k b x .main) ≡ sharedZero (k .main)
+unfolding sharedZero withCount
+shared-with k b x = go (ltb b 4) refl (ltb b 259)
+  where
+    go : (t : Bool) → ltb b 4 ≡ t → (u : Bool)
+        → eqb (countAt (cond t (lent (k .main) (set (k .small) b x)) (cond u (lent (putAt (k .main) (rowOf b) (placeIn b) x) (k .small)) k) .main) 0 0) 0 ≡ eqb (countAt (k .main) 0 0) 0
+    go true e u = refl
+    go false e true = ap (λ (n : ℕ). eqb n 0) (put-elsewhere (k .main) (rowOf b) (placeIn b) x (not-shared b (ltb-false b 4 e)))
+    go false e false = refl
+
+shared-after : (r t : Running) (k : Counts) → sharedZero (countsAfter r t k .main) ≡ sharedZero (k .main)
+unfolding countsAfter oneMore
+shared-after running.Idle t k = refl
+shared-after (running.Program l w) t k = refl
+shared-after (running.Erase b done) t k = go (runs t)
+  where
+    go : (v : Bool) → sharedZero (cond v k (withCount k b (min 65535 (countOf k b + 1))) .main) ≡ sharedZero (k .main)
+    go true = refl
+    go false = shared-with k b (min 65535 (countOf k b + 1))
+shared-after (running.Buffer l n done) t k = refl
+
+shared-accepted : (s : State) (k : Counts) (x : Step) → sharedZero (acceptedCounts s k x .main) ≡ sharedZero (k .main)
+unfolding acceptedCounts
+shared-accepted s k (Read address) = refl
+shared-accepted s k (Write address w) = refl
+shared-accepted s k (Work n) = shared-after (s .control .activity .running) _ k
+shared-accepted s k (Supply on) = refl
+shared-accepted s k Reset = refl
+
+pub shared-kept : (s : State) (k : Counts) (xs : List ℕ) (x : Step) → sharedZero (countsWith s k xs x .main) ≡ sharedZero (k .main)
+unfolding countsWith
+shared-kept s k xs x = go (eqb (refusalWith s k (length xs) x) 0)
+  where
+    go : (t : Bool) → sharedZero (cond t (acceptedCounts s k x) k .main) ≡ sharedZero (k .main)
+    go true = shared-accepted s k x
+    go false = refl
+
+pub shared-all : (c : Counted) (l : List Step) → sharedZero (afterAllWith c l .counts .main) ≡ sharedZero (c .counts .main)
+shared-all c [] = refl
+shared-all c (x ∷ l) = shared-all (afterWith c x) l ∙ shared-kept (c .machine .state) (c .counts) (c .machine .array) x
+
+pub fresh-shared : sharedZero (noCounts .main) ≡ true
+unfolding sharedZero countAt noCounts
+fresh-shared = refl
+
+-- ---- where it is 0
+
+module _ (s : State) (k : Counts) (zero : sharedZero (k .main) ≡ true) where
+  pub formed-alone : formedWith s k ≡ wellFormed s
+  unfolding formedWith
+  formed-alone = rw zero (go (wellFormed s))
+    where
+      go : (b : Bool) → (b && true) ≡ b
+      go true = refl
+      go false = refl
+
+  pub device-alone : (n : ℕ) → deviceRefusal s k n ≡ stateRefusal s n
+  unfolding deviceRefusal stateRefusal
+  device-alone n = rw formed-alone
+
+  refusal-alone : (n : ℕ) (x : Step) → refusalWith s k n x ≡ refusalOf s n x
+  unfolding refusalWith refusalOf
+  refusal-alone n x = rw (device-alone n)
+
+  -- a step is the step of the device alone
+  pub step-alone : (xs : List ℕ) (x : Step) → stepWith s k xs x ≡ stepOf s xs x
+  unfolding stepWith stepOf
+  step-alone xs x = rw (refusal-alone (length xs) x)
+
+  pub array-alone : (xs : List ℕ) (x : Step) → arrayWith s k xs x ≡ arrayOf s xs x
+  unfolding arrayWith arrayOf
+  array-alone xs x = rw (refusal-alone (length xs) x)
+
+  pub report-alone : reportedWith s k ≡ reportedOf s
+  unfolding reportedWith
+  report-alone = rw zero
+
+pub after-alone : (c : Counted) (x : Step) → sharedZero (c .counts .main) ≡ true → afterWith c x .machine ≡ after (c .machine) x
+after-alone c x z = λ j. record {
+  state = (step-alone (c .machine .state) (c .counts) z (c .machine .array) x j) .state;
+  array = array-alone (c .machine .state) (c .counts) z (c .machine .array) x j;
+}
+
+-- and so is a list of them, with its answers: what is proved of the device alone holds of the device with its counts
+pub all-alone : (c : Counted) (l : List Step) → sharedZero (c .counts .main) ≡ true → afterAllWith c l .machine ≡ afterAll (c .machine) l
+all-alone c [] z = refl
+all-alone c (x ∷ l) z =
+    all-alone (afterWith c x) l (shared-kept (c .machine .state) (c .counts) (c .machine .array) x ∙ z) ∙ ap (λ (m : Machine). afterAll m l) (after-alone c x z)
+
+pub answers-alone : (c : Counted) (l : List Step) → sharedZero (c .counts .main) ≡ true → answersWith c l ≡ answersOf (c .machine) l
+answers-alone c [] z = refl
+answers-alone c (x ∷ l) z =
+    (λ j. (step-alone (c .machine .state) (c .counts) z (c .machine .array) x j) .answer
+    ∷ (answers-alone (afterWith c x) l (shared-kept (c .machine .state) (c .counts) (c .machine .array) x ∙ z) ∙ ap (λ (m : Machine). answersOf m l) (after-alone c x z)) j)
+
+-- ---- where it is not 0
+
+module _ (s : State) (k : Counts) (bad : sharedZero (k .main) ≡ false) where
+  formed-bad : formedWith s k ≡ false
+  unfolding formedWith
+  formed-bad = rw bad (go (wellFormed s))
+    where
+      go : (b : Bool) → (b && false) ≡ false
+      go true = refl
+      go false = refl
+
+  -- every step is refused, 1 for the array's length or else 2, and changes nothing
+  pub bad-refused : (xs : List ℕ) (x : Step) → stepWith s k xs x ≡ next s (Refused (cond (eqb (length xs) (words (geometry s))) 2 1))
+  unfolding stepWith refusalWith deviceRefusal firstRefusal
+  bad-refused xs x = rw formed-bad (go (eqb (length xs) (words (geometry s))))
+    where
+      r : ℕ
+      r = stepRefusal (geometry s) x
+
+      go : (t : Bool) → cond (eqb (cond (eqb (cond t 2 1) 0) r (cond t 2 1)) 0) (accepted s xs x) (next s (Refused (cond (eqb (cond t 2 1) 0) r (cond t 2 1)))) ≡ next s (Refused (cond t 2 1))
+      go true = refl
+      go false = refl
+
+  pub bad-reported : reportedWith s k ≡ record { refusal = 2; count = 0; lowest = 0 }
+  unfolding reportedWith
+  bad-reported = rw bad
+
+  pub bad-most-worn : mostWornWith s k ≡ record { refusal = 2; block = 0; count = 0 }
+  unfolding mostWornWith
+  bad-most-worn = rw formed-bad
