@@ -11,9 +11,12 @@ use Rattle.semantics.specs.declared.Step.{Step}
 use Rattle.semantics.specs.declared.Answer.{Answer}
 use Rattle.semantics.specs.declared.Decoded.{Decoded}
 use Rattle.semantics.specs.declared.Decoded.the-variants.{Valid, Invalid}
-use Rattle.semantics.specs.Steps.{numberOf, valueOf, Machine, afterAll, answersOf, fresh}
+use Rattle.semantics.specs.Steps.{numberOf, valueOf}
 use Rattle.semantics.specs.Encoding.{decode}
 use Rattle.semantics.specs.Demand.{Demand3}
+use Rattle.wear.specs.Counts.{Counts}
+use Rattle.wear.specs.Steps.{Counted, beside, afterAllWith, answersWith, freshWith}
+use Rattle.wear.specs.Claim.{CountsStand}
 use Rattle.device.specs.declared.Device.{Device}
 use Rattle.playback.specs.declared.RunEnd.{RunEnd}
 
@@ -36,23 +39,32 @@ answerCode a = numberOf a * 4294967296 + valueOf a
 unfoldable pub roomAfter : List ℕ → List Answer → List ℕ
 roomAfter room l = map answerCode l ++ drop (length l) room
 
-abbrev pub machineOf : Device → List ℕ → Machine
-machineOf d xs = record { state = d .state; array = xs }
+-- a device with its counts on an array
+abbrev pub machineOf : Device → Counts → List ℕ → Counted
+machineOf d k xs = beside (d .state) xs k
 
--- DEMAND 3, of a list that is played in pieces: wherever the device and the array are what steps l₀ made of power-up and an array xs₀ of the part's length,
+-- DEMAND 3, of a list that is played in pieces: wherever the device, its counts and the array are what steps l₀ made of power-up and an array xs₀ of the part's length,
 -- demand 3 holds whole of the steps l₀ and l together: the length, every word, and every entry of their journal. With l₀ empty it is demand 3 from power-up.
-unfoldable pub Journaled : Machine → List Step → List ℕ → Type 0
+unfoldable pub Journaled : Counted → List Step → List ℕ → Type 0
 Journaled m l ys =
-    (p : Part) (xs₀ : List ℕ) (l₀ : List Step) → length xs₀ ≡ words (geometryOf p) → afterAll (fresh p xs₀) l₀ ≡ m → Demand3 p (l₀ ++ l) xs₀ ys
+    (p : Part) (xs₀ : List ℕ) (l₀ : List Step) → length xs₀ ≡ words (geometryOf p) → afterAllWith (freshWith p xs₀) l₀ ≡ m → Demand3 p (l₀ ++ l) xs₀ ys
 
--- what holds after the numbers `codes` were played on a device and an array, with a room for the answers
-pub record Played (d : Device) (codes room xs : List ℕ) (r : RunEnd) (answers array : List ℕ) : Type 0 where
+-- and so the counts are those of that journal
+unfoldable pub Worn : Counted → List Step → Counts → Type 0
+Worn m l k =
+    (p : Part) (xs₀ : List ℕ) (l₀ : List Step) → length xs₀ ≡ words (geometryOf p) → afterAllWith (freshWith p xs₀) l₀ ≡ m → CountsStand p (l₀ ++ l) k
+
+-- what holds after the numbers `codes` were played on a device with its counts and an array, with a room for the answers
+pub record Played (d : Device) (k : Counts) (codes room xs : List ℕ) (r : RunEnd) (counts : Counts) (answers array : List ℕ) : Type 0 where
   -- how many steps were played
   pub count : r .played ≡ length (playable codes (length room))
-  -- the device and the array are those after these steps
-  pub device : r .device .state ≡ afterAll (machineOf d xs) (playable codes (length room)) .state
-  pub array-is : array ≡ afterAll (machineOf d xs) (playable codes (length room)) .array
+  -- the device, the array and the counts are those after these steps
+  pub device : r .device .state ≡ afterAllWith (machineOf d k xs) (playable codes (length room)) .machine .state
+  pub array-is : array ≡ afterAllWith (machineOf d k xs) (playable codes (length room)) .machine .array
+  pub counts-are : counts ≡ afterAllWith (machineOf d k xs) (playable codes (length room)) .counts
   -- each answer is written, and the rest of the room stays
-  pub answers-are : answers ≡ roomAfter room (answersOf (machineOf d xs) (playable codes (length room)))
-  -- and demand 3 holds
-  pub journal : Journaled (machineOf d xs) (playable codes (length room)) array
+  pub answers-are : answers ≡ roomAfter room (answersWith (machineOf d k xs) (playable codes (length room)))
+  -- demand 3 holds
+  pub journal : Journaled (machineOf d k xs) (playable codes (length room)) array
+  -- and the counts are the journal's
+  pub wear : Worn (machineOf d k xs) (playable codes (length room)) counts

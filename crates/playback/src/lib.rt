@@ -1,4 +1,5 @@
-// A list of encoded steps played on a device and a borrowed array, with the answers written into borrowed room. Demand 3 stands in its contract.
+// A list of encoded steps played on a device, its borrowed erase counts and a borrowed array, with the answers written into borrowed room. Demand 3 stands in its contract, and the
+// counts' theorem beside it.
 use device::Device;
 use geometry::Part;
 use semantics::Activity;
@@ -19,6 +20,7 @@ ghost use Rattle.geometry.specs.Blocks.{geometryOf};
 ghost use Rattle.semantics.specs.State.{setActivity, withSetup, withRunning};
 ghost use Rattle.semantics.specs.Encoding.{decode};
 ghost use Rattle.writing.specs.Changes.{settledIn};
+ghost use Rattle.wear.specs.Counts.{lent};
 ghost use Rattle.playback.specs.Playback.{answerCode, Played};
 ghost use Rattle.playback.specs.Tasks.{allowed, taskOf};
 
@@ -201,11 +203,22 @@ fn ended(played: usize, state: State) -> RunEnd
 // Plays the steps that the numbers encode, one after the other, and writes the answer of each into its place of the room; stops at the first number that
 // encodes no step, and where the room ends. A list goes on with the device that is given back. What is refused whatever the step is, is tested once; the
 // state stands once, and is changed where it stands, no more of it than the step changes.
-pub fn run(device: Device, steps: &[u64], answers: &mut [u64], array: &mut [u16]) -> RunEnd
-    ensures { λ r. ⌜ Played device (now (steps .entry)) (now (answers .entry)) (now (array .entry)) r (now (answers .exit)) (now (array .exit)) ⌝ }
+pub fn run(
+    device: Device,
+    main: &mut [[u16; 16]; 16],
+    small: &mut [u16; 4],
+    steps: &[u64],
+    answers: &mut [u64],
+    array: &mut [u16],
+) -> RunEnd
+    ensures { λ r. ⌜ Played device (lent (now (main .entry)) (now (small .entry))) (now (steps .entry)) (now (answers .entry)) (now (array .entry)) r (lent (now (main .exit)) (now (small .exit))) (now (answers .exit)) (now (array .exit)) ⌝ }
 {
     let mut s = device.state;
-    let refused = state::refusal_beside(s.part, state::well_formed(s), array.len());
+    let refused = state::refusal_beside(
+        s.part,
+        state::well_formed(s) & wear::shared_zero(main),
+        array.len(),
+    );
     let n = working::least(steps.len(), answers.len());
     for i in 0..n {
         let part = s.part;
@@ -237,7 +250,10 @@ pub fn run(device: Device, steps: &[u64], answers: &mut [u64], array: &mut [u16]
                 }
             }
             Task::Work(count) => {
-                let o = working::advance(part, running_in(s.control), &mut s.buffer, array, count);
+                let was = running_in(s.control);
+                let o = working::advance(part, was, &mut s.buffer, array, count);
+                let left = o.running;
+                wear::count_finished(main, small, was, left);
                 // by a local copy: a control that a function gives back was slower by half here
                 let mut c = s.control;
                 c.activity = advanced(s.control, o);

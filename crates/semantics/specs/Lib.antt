@@ -39,7 +39,6 @@ pub mod Invariant
 pub mod Theorem
 pub mod Standing
 pub mod Kept
-pub mod Held
 pub mod Refusals
 pub mod Leaves
 pub mod Modes
