@@ -10,7 +10,9 @@ use Rattle.geometry.specs.Blocks.{partNumbered}
 use Rattle.semantics.specs.declared.State.{State}
 use Rattle.semantics.specs.declared.Reported.{Reported}
 use Rattle.semantics.specs.State.{powerUp}
-use Rattle.semantics.specs.Steps.{afterAll}
+use Rattle.wear.specs.declared.Worn.{Worn}
+use Rattle.wear.specs.Counts.{Counts, noCounts}
+use Rattle.wear.specs.Steps.{afterAllWith}
 use Rattle.device.specs.Outcomes.{holding}
 use Rattle.playback.specs.Playback.{playable, machineOf, Played}
 use Rattle.hex.specs.Records.{verdict, arrayRead}
@@ -24,22 +26,33 @@ powersUp part room = leb part 3 && eqb (length room) 25
 unfoldable pub poweredUp : ℕ → List ℕ → List ℕ
 poweredUp part room = cond (powersUp part room) (savedOf (powerUp (partNumbered part))) room
 
+-- and its counts are 0: document 02, item 6, "power-up starts them at 0"
+unfoldable pub unworn : ℕ → List ℕ → Counts → Counts
+unworn part room k = cond (powersUp part room) noCounts k
+
 -- the report in one number: the refusal from bit 32, the count from bit 16, the lowest block from bit 0
 abbrev pub reportCode : Reported → ℕ
 reportCode r = r .refusal * 4294967296 + r .count * 65536 + r .lowest
 
--- the state after the numbers `codes` were played on the state of the words and an array, with a room for the answers
-unfoldable pub stateAfter : List ℕ → List ℕ → List ℕ → List ℕ → State
-stateAfter ws codes room xs = afterAll (machineOf (holding (stateOf ws)) xs) (playable codes (length room)) .state
+-- the most worn block in one number likewise: its count from bit 16, the block from bit 0; and the count of a block that is asked for, from bit 0
+abbrev pub wornCode : Worn → ℕ
+wornCode r = r .refusal * 4294967296 + r .count * 65536 + r .block
+
+abbrev pub countCode : Worn → ℕ
+countCode r = r .refusal * 4294967296 + r .count
+
+-- the state after the numbers `codes` were played on the state of the words, its counts and an array, with a room for the answers
+unfoldable pub stateAfter : List ℕ → Counts → List ℕ → List ℕ → List ℕ → State
+stateAfter ws k codes room xs = afterAllWith (machineOf (holding (stateOf ws)) k xs) (playable codes (length room)) .machine .state
 
 -- what holds after n of the numbers were played
-pub record Ran (ws codes room xs : List ℕ) (n : ℕ) (after answers array : List ℕ) : Type 0 where
-  -- the steps, the answers and the array are those of the state of the words, demand 3 among it
-  pub played : Played (holding (stateOf ws)) codes room xs (record { played = n; device = holding (stateAfter ws codes room xs) }) answers array
+pub record Ran (ws : List ℕ) (k : Counts) (codes room xs : List ℕ) (n : ℕ) (after : List ℕ) (counts : Counts) (answers array : List ℕ) : Type 0 where
+  -- the steps, the answers, the array and the counts are those of the state of the words, demand 3 and the counts' theorem among it
+  pub played : Played (holding (stateOf ws)) k codes room xs (record { played = n; device = holding (stateAfter ws k codes room xs) }) counts answers array
   -- the state after them is saved; words that are no saved state stay
-  pub kept : after ≡ cond (isSaved ws) (savedOf (stateAfter ws codes room xs)) ws
+  pub kept : after ≡ cond (isSaved ws) (savedOf (stateAfter ws k codes room xs)) ws
   -- so that the next call goes on with it
-  pub goes-on : isSaved ws ≡ true → (isSaved after ≡ true) × (stateOf after ≡ stateAfter ws codes room xs)
+  pub goes-on : isSaved ws ≡ true → (isSaved after ≡ true) × (stateOf after ≡ stateAfter ws k codes room xs)
 
 -- ---- Intel HEX
 

@@ -14,19 +14,22 @@ use Rattle.semantics.specs.declared.Reported.{Reported}
 use Rattle.semantics.specs.State.{powerUp}
 use Rattle.semantics.specs.WellFormed.{wellFormed}
 use Rattle.semantics.specs.Steps.{reportedOf}
+use Rattle.wear.specs.declared.Worn.{Worn}
+use Rattle.wear.specs.Counts.{Counts, countOf, sharedZero, noCounts, mostWorn}
+use Rattle.wear.specs.Steps.{formedWith, reportedWith, mostWornWith}
 use Rattle.device.specs.Outcomes.{holding}
 use Rattle.playback.specs.declared.RunEnd.{RunEnd}
 use Rattle.playback.specs.Playback.{Played}
 use Rattle.saved.specs.Saved.{savedOf, isSaved, stateOf, putInto}
 use Rattle.saved.specs.Laws.{Fitting, saved-length, saved-is, state-back, power-up-fitting}
-use Rattle.m58.specs.Calls.{powersUp, poweredUp, stateAfter, Ran}
+use Rattle.m58.specs.Calls.{powersUp, poweredUp, unworn, stateAfter, Ran}
 
 -- ---- power-up
 
--- the words that power-up writes are a saved state, of power-up
-pub powered-up : (part : ℕ) (room : List ℕ) → powersUp part room ≡ true → (isSaved (poweredUp part room) ≡ true) × (stateOf (poweredUp part room) ≡ powerUp (partNumbered part))
-unfolding poweredUp
-powered-up part room h = let f = power-up-fitting (partNumbered part) in (rw h (saved-is _ f), rw h (state-back _ f))
+-- the words that power-up writes are a saved state, of power-up, and its counts are 0
+pub powered-up : (part : ℕ) (room : List ℕ) (k : Counts) → powersUp part room ≡ true → (isSaved (poweredUp part room) ≡ true) × (stateOf (poweredUp part room) ≡ powerUp (partNumbered part)) × (unworn part room k ≡ noCounts)
+unfolding poweredUp unworn
+powered-up part room k h = let f = power-up-fitting (partNumbered part) in (rw h (saved-is _ f), rw h (state-back _ f), rw h)
 
 -- ---- the report's numbers are small
 
@@ -43,39 +46,60 @@ report-bits : (ws : List ℕ) (b : ℕ) → bitAt ws b ≤ 1
 unfolding bitAt bit
 report-bits ws b = omega arith
 
-pub report-small : (s : State) → Small (reportedOf s)
-unfolding reportedOf reportOf unprotectedCount
-report-small s = go (wellFormed s)
+pub report-small : (s : State) (k : Counts) → Small (reportedWith s k)
+unfolding reportedWith reportedOf reportOf unprotectedCount
+report-small s k = all (sharedZero (k .main))
   where
     go : (t : Bool) → Small (cond t (record { refusal = 0; count = reportOf (s .unprotected) .count; lowest = reportOf (s .unprotected) .lowest }) (record { refusal = 2; count = 0; lowest = 0 }))
     go true = record { count = count-le 259 (bitAt (s .unprotected)) (report-bits (s .unprotected)); lowest = lowest-least (s .unprotected) .within }
     go false = record { count = omega arith; lowest = omega arith }
 
+    all : (t : Bool) → Small (cond t (reportedOf s) (record { refusal = 2; count = 0; lowest = 0 }))
+    all true = go (wellFormed s)
+    all false = record { count = omega arith; lowest = omega arith }
+
+-- and the refusal of the most worn block is
+pub worn-small : (s : State) (k : Counts) → mostWornWith s k .refusal ≤ 2
+unfolding mostWornWith
+worn-small s k = go (formedWith s k)
+  where
+    go : (t : Bool) → cond {A = Worn} t (record { refusal = 0; block = mostWorn k; count = countOf k (mostWorn k) }) (record { refusal = 2; block = 0; count = 0 }) .refusal ≤ 2
+    go true = omega arith
+    go false = omega arith
+
 -- ---- a run
 
-module _ (ws : List ℕ) {codes room xs : List ℕ} {s : State} {r : RunEnd} {answers array : List ℕ} (same : s ≡ stateOf ws) (p : Played (holding s) codes room xs r answers array) where
-  on-words : Played (holding (stateOf ws)) codes room xs r answers array
-  on-words = subst (λ (t : State). Played (holding t) codes room xs r answers array) same p
+module _ (ws : List ℕ) {k : Counts} {codes room xs : List ℕ} {s : State} {r : RunEnd} {counts : Counts} {answers array : List ℕ} (same : s ≡ stateOf ws) (p : Played (holding s) k codes room xs r counts answers array) where
+  on-words : Played (holding (stateOf ws)) k codes room xs r counts answers array
+  on-words = subst (λ (t : State). Played (holding t) k codes room xs r counts answers array) same p
 
-  state-is : r .device .state ≡ stateAfter ws codes room xs
+  state-is : r .device .state ≡ stateAfter ws k codes room xs
   unfolding stateAfter
   state-is = on-words .device
 
-  played-as : Played (holding (stateOf ws)) codes room xs (record { played = r .played; device = holding (stateAfter ws codes room xs) }) answers array
+  played-as : Played (holding (stateOf ws)) k codes room xs (record { played = r .played; device = holding (stateAfter ws k codes room xs) }) counts answers array
   unfolding stateAfter
-  played-as = record { count = on-words .count; device = refl; array-is = on-words .array-is; answers-are = on-words .answers-are; journal = on-words .journal }
+  played-as = record {
+    count = on-words .count;
+    device = refl;
+    array-is = on-words .array-is;
+    counts-are = on-words .counts-are;
+    answers-are = on-words .answers-are;
+    journal = on-words .journal;
+    wear = on-words .wear;
+  }
 
   -- the words were no saved state
-  pub ran-unsaved : isSaved ws ≡ false → Ran ws codes room xs (r .played) ws answers array
+  pub ran-unsaved : isSaved ws ≡ false → Ran ws k codes room xs (r .played) ws counts answers array
   ran-unsaved h = record { played = played-as; kept = rw h; goes-on = λ e. let z : _≡_ {A = ℕ} 0 1 = cc in absurd (omega arith) }
 
   -- they were one, and the state after the run is saved in their place
-  pub ran-saved : {after : List ℕ} → isSaved ws ≡ true → Fitting (r .device .state) → after ≡ putInto ws (savedOf (r .device .state)) → Ran ws codes room xs (r .played) after answers array
+  pub ran-saved : {after : List ℕ} → isSaved ws ≡ true → Fitting (r .device .state) → after ≡ putInto ws (savedOf (r .device .state)) → Ran ws k codes room xs (r .played) after counts answers array
   unfolding putInto
   ran-saved {after} h f e =
-      let k : after ≡ savedOf (r .device .state) = e ∙ rw (eq-eqb (length ws) 25 (saved-length ws h)) in
+      let e′ : after ≡ savedOf (r .device .state) = e ∙ rw (eq-eqb (length ws) 25 (saved-length ws h)) in
       record {
         played = played-as;
-        kept = rw h (k ∙ ap savedOf state-is);
-        goes-on = λ q. (ap isSaved k ∙ saved-is (r .device .state) f, ap stateOf k ∙ state-back (r .device .state) f ∙ state-is);
+        kept = rw h (e′ ∙ ap savedOf state-is);
+        goes-on = λ q. (ap isSaved e′ ∙ saved-is (r .device .state) f, ap stateOf e′ ∙ state-back (r .device .state) f ∙ state-is);
       }

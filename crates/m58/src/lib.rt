@@ -1,12 +1,14 @@
 // What C programs call. Each function takes every number and every slice, which C hands over as a pointer and a length.
-// A device is kept as the 25 words of the crate saved; a step, and an answer, is a number of 64 bits (crate playback).
+// A device is kept as the 25 words of the crate saved, and beside them its erase counts, which C hands over as two pointers: sixteen rows of sixteen, and four. A call copies none of
+// them. A step, and an answer, is a number of 64 bits (crate playback).
 use device::Device;
 ghost use mathlib.Core.Path.{_≡_};
 ghost use Rattle.geometry.specs.Blocks.{lookupOf};
 ghost use Rattle.semantics.specs.Reading.{bitIf};
-ghost use Rattle.semantics.specs.Steps.{reportedOf};
+ghost use Rattle.wear.specs.Counts.{lent};
+ghost use Rattle.wear.specs.Steps.{reportedWith, mostWornWith, wornWith};
 ghost use Rattle.saved.specs.Saved.{stateOf};
-ghost use Rattle.m58.specs.Calls.{powersUp, poweredUp, reportCode, Ran, hexCode, hexVerdict, hexArray, hexWritten, hexRoom};
+ghost use Rattle.m58.specs.Calls.{powersUp, poweredUp, unworn, reportCode, wornCode, countCode, Ran, hexCode, hexVerdict, hexArray, hexWritten, hexRoom};
 
 // ---- the lookup of an address of a part, by the part's number
 
@@ -39,11 +41,17 @@ pub extern "C" fn m58_lookup_bank(part: u32, address: u32) -> u32
 
 // ---- the device
 
-// Saves power-up of a part, by its number, and answers 1; writes nothing and answers 0 where there is no such part, or not room for just 25 words.
+// Saves power-up of a part, by its number, sets the counts to 0 and answers 1; writes nothing and answers 0 where there is no such part, or not room for just 25 words.
 #[no_mangle]
-pub extern "C" fn m58_power_up(part: u32, state: &mut [u64]) -> u32
+pub extern "C" fn m58_power_up(
+    part: u32,
+    state: &mut [u64],
+    main: &mut [[u16; 16]; 16],
+    small: &mut [u16; 4],
+) -> u32
     ensures { λ r. ⌜ r ≡ bitIf (powersUp part (now (state .entry))) 1 ⌝ }
     ensures state { λ r. ⌜ now (state .exit) ≡ poweredUp part (now (state .entry)) ⌝ }
+    ensures counts { λ r. ⌜ lent (now (main .exit)) (now (small .exit)) ≡ unworn part (now (state .entry)) (lent (now (main .entry)) (now (small .entry))) ⌝ }
 {
     if part > 3 {
         return 0;
@@ -51,28 +59,30 @@ pub extern "C" fn m58_power_up(part: u32, state: &mut [u64]) -> u32
     if state.len() != 25 {
         return 0;
     }
-    let d = Device::power_up(geometry::part_numbered(part));
+    let d = Device::power_up(geometry::part_numbered(part), main, small);
     let s = d.state;
     saved::save(s, state);
     1
 }
 
-// Plays steps on the saved state and the array, writes the answers, saves the state after them, and answers how many were played. Words that are no
+// Plays steps on the saved state, its counts and the array, writes the answers, saves the state after them, and answers how many were played. Words that are no
 // saved state are left: each step on them is refused.
 #[no_mangle]
 pub extern "C" fn m58_run(
     state: &mut [u64],
+    main: &mut [[u16; 16]; 16],
+    small: &mut [u16; 4],
     steps: &[u64],
     answers: &mut [u64],
     array: &mut [u16],
 ) -> usize
-    ensures { λ r. ⌜ Ran (now (state .entry)) (now (steps .entry)) (now (answers .entry)) (now (array .entry)) r (now (state .exit)) (now (answers .exit)) (now (array .exit)) ⌝ }
+    ensures { λ r. ⌜ Ran (now (state .entry)) (lent (now (main .entry)) (now (small .entry))) (now (steps .entry)) (now (answers .entry)) (now (array .entry)) r (now (state .exit)) (lent (now (main .exit)) (now (small .exit))) (now (answers .exit)) (now (array .exit)) ⌝ }
 {
     let found = saved::found_in(state);
     let good = found.saved;
     let before = found.state;
     let d = Device { state: before };
-    let end = playback::run(d, steps, answers, array);
+    let end = playback::run(d, main, small, steps, answers, array);
     let n = end.played;
     if good {
         let after = end.device;
@@ -84,14 +94,43 @@ pub extern "C" fn m58_run(
 
 // How many blocks are unprotected, and the lowest of them, in one number.
 #[no_mangle]
-pub extern "C" fn m58_report(state: &[u64]) -> u64
-    ensures { λ r. ⌜ r ≡ reportCode (reportedOf (stateOf (now (state .entry)))) ⌝ }
+pub extern "C" fn m58_report(state: &[u64], main: &[[u16; 16]; 16], small: &[u16; 4]) -> u64
+    ensures { λ r. ⌜ r ≡ reportCode (reportedWith (stateOf (now (state .entry))) (lent (now (main .entry)) (now (small .entry)))) ⌝ }
 {
     let found = saved::found_in(state);
     let s = found.state;
     let d = Device { state: s };
-    let told = d.report();
+    let told = d.report(main, small);
     (told.refusal as u64) * 4294967296 + (told.count as u64) * 65536 + told.lowest as u64
+}
+
+// The most worn block, the lowest of them on a tie, and its count, in one number.
+#[no_mangle]
+pub extern "C" fn m58_most_worn(state: &[u64], main: &[[u16; 16]; 16], small: &[u16; 4]) -> u64
+    ensures { λ r. ⌜ r ≡ wornCode (mostWornWith (stateOf (now (state .entry))) (lent (now (main .entry)) (now (small .entry)))) ⌝ }
+{
+    let found = saved::found_in(state);
+    let s = found.state;
+    let d = Device { state: s };
+    let told = d.most_worn(main, small);
+    (told.refusal as u64) * 4294967296 + (told.count as u64) * 65536 + told.block as u64
+}
+
+// The count of a block, in one number with the refusal.
+#[no_mangle]
+pub extern "C" fn m58_erase_count(
+    state: &[u64],
+    main: &[[u16; 16]; 16],
+    small: &[u16; 4],
+    block: u32,
+) -> u64
+    ensures { λ r. ⌜ r ≡ countCode (wornWith (stateOf (now (state .entry))) (lent (now (main .entry)) (now (small .entry))) block) ⌝ }
+{
+    let found = saved::found_in(state);
+    let s = found.state;
+    let d = Device { state: s };
+    let told = d.wear_of(main, small, block);
+    (told.refusal as u64) * 4294967296 + told.count as u64
 }
 
 // ---- Intel HEX

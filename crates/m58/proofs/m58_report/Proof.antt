@@ -2,7 +2,8 @@
 use mathlib.Core.Path.{sym, ap, _∙_, subst}
 use native.Mathlib.Omega.{arith}
 use borrow.Author.Needs.{needs}
-use Rattle.semantics.specs.Steps.{reportedOf}
+use Rattle.wear.specs.Counts.{lent}
+use Rattle.wear.specs.Steps.{reportedWith}
 use Rattle.saved.specs.declared.Found.{Found}
 use Rattle.m58.specs.Calls.{reportCode}
 use Rattle.m58.specs.Laws.{Small, report-small}
@@ -10,13 +11,15 @@ use Rattle.m58.proofs.m58_report.Statement.{statement}
 use Rattle.m58.proofs.m58_report.Tie as tie
 
 add-result : tie.Need-add-result
-add-result c = let m : Small (c .before .before .report .result) = subst Small (sym (c .before .before .report .ensures)) (report-small _) in omega (arith, m .count, m .lowest)
+add-result c = let m : Small (c .before .before .report .result) = subst Small (sym (c .before .before .report .ensures)) (report-small _ _) in omega (arith, m .count, m .lowest)
 
 add-result-2 : tie.Need-add-result-2
-add-result-2 c = let m : Small (c .before .before .before .report .result) = subst Small (sym (c .before .before .before .report .ensures)) (report-small _) in omega (arith, m .count, m .lowest)
+add-result-2 c = let m : Small (c .before .before .before .report .result) = subst Small (sym (c .before .before .before .report .ensures)) (report-small _ _) in omega (arith, m .count, m .lowest)
 
 returns : tie.Need-returns
-returns c = ap reportCode (c .before .before .before .report .ensures ∙ ap (λ (f : Found). reportedOf (f .state)) (c .before .before .before .before .before .found-in .ensures))
+returns c =
+    let a = c .before .before .before .before .before .before .before .args in
+    ap reportCode (c .before .before .before .report .ensures ∙ ap (λ (f : Found). reportedWith (f .state) (lent (a .main .now) (a .small .now))) (c .before .before .before .before .before .found-in .ensures))
 
 pub m58-report-spec : {M : Type 1} → statement M
 m58-report-spec =

@@ -8,14 +8,15 @@ use Rattle.m58.proofs.m58_run.Tie as tie
 
 returns : tie.Need-returns
 returns c =
-    ran-saved _ (ap (λ (f : Found). f .state) (c .before .before .before .before .before .before .before .before .before .before .before .before .before .before .before .found-in .ensures)) (c .before .before .before .before .before .before .before .before .before .before .before .run .ensures)
-    (sym (ap (λ (f : Found). f .saved) (c .before .before .before .before .before .before .before .before .before .before .before .before .before .before .before .found-in .ensures)) ∙ c .before .before .before .before .before .before .if1 .taken)
-    (c .before .before .save .ensures .1) (c .before .before .save .ensures .0)
+    let run = c .before .before .before .before .before .before .before .before .before .before .before in
+    let found = run .before .before .before .before .before .before .found-in .ensures in
+    ran-saved _ (ap (λ (f : Found). f .state) found) (run .run .ensures) (sym (ap (λ (f : Found). f .saved) found) ∙ c .before .before .before .before .before .before .if1 .taken) (c .before .before .save .ensures .1) (c .before .before .save .ensures .0)
 
 returns-2 : tie.Need-returns-2
 returns-2 c =
-    ran-unsaved _ (ap (λ (f : Found). f .state) (c .before .before .before .before .before .before .before .before .before .found-in .ensures)) (c .before .before .before .before .before .run .ensures)
-    (sym (ap (λ (f : Found). f .saved) (c .before .before .before .before .before .before .before .before .before .found-in .ensures)) ∙ c .if1 .left)
+    let run = c .before .before .before .before .before in
+    let found = run .before .before .before .before .before .before .found-in .ensures in
+    ran-unsaved _ (ap (λ (f : Found). f .state) found) (run .run .ensures) (sym (ap (λ (f : Found). f .saved) found) ∙ c .if1 .left)
 
 pub m58-run-spec : {M : Type 1} → statement M
 m58-run-spec =
