@@ -263,7 +263,7 @@ impl Device {
     }
 
     // The count of a block, 0 of a number that is no block; refused 2 as the reports above.
-    pub fn wear_of(self, main: &[[u16; 16]; 16], small: &[u16; 4], block: u32) -> Worn
+    pub fn erase_count(self, main: &[[u16; 16]; 16], small: &[u16; 4], block: u32) -> Worn
         ensures { λ r. ⌜ r ≡ wornWith (self .state) (lent (now (main .entry)) (now (small .entry))) block ⌝ }
     {
         let s = self.state;

@@ -129,7 +129,7 @@ pub extern "C" fn m58_erase_count(
     let found = saved::found_in(state);
     let s = found.state;
     let d = Device { state: s };
-    let told = d.wear_of(main, small, block);
+    let told = d.erase_count(main, small, block);
     (told.refusal as u64) * 4294967296 + told.count as u64
 }
 

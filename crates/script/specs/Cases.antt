@@ -21,7 +21,7 @@ use Rattle.semantics.specs.Steps.{locationRefusal, addressRefusal, countRefusal
 use Rattle.wear.specs.Counts.{rowOf, placeIn, countAt, countOf, sharedZero, noCounts, putAt, withCount, oneMore, countsAfter}
 use Rattle.wear.specs.Steps.{formedWith, deviceRefusal, refusalWith, acceptedCounts, stepWith, arrayWith, countsWith}
 use Rattle.lines.specs.Lines.{lines}
-use Rattle.script.specs.Script.{scriptOf, lineRefusal, transcriptOf}
+use Rattle.script.specs.Script.{scriptOf, lineRefusal, machineAtEnd, transcriptOf}
 
 infix 20 _⟶_
 -- a text, and its lines
@@ -93,8 +93,39 @@ plays =
     ∷ play (replicate 16384 0xFFFF)
     "V 1\nW 000040 0060\nW 000040 00D0\nW 000040 00E8\nW 000040 0001\nW 000040 AAAA\nW 000041 BBBB\nV 0\nV 1\nW 000040 00D0\nK 1\nV 0\nR 000040\nW 000040 00FF\nR 000040\nR 000041\n"
     "1 ok\n2 ok\n3 ok\n4 ok\n5 ok\n6 ok\n7 ok\n8 ok\n9 ok\n10 ok\n11 1\n12 ok\n13 0098\n14 ok\n15 AAAA\n16 FFFF\nend 16\n"
+    -- document 02, item 6: erases of blocks 0 and 4, one of them suspended before its last word, and one broken off by a reset
+    ∷ play (replicate 16384 0xFFFF)
+    "V 1\nW 000000 0060\nW 000000 00D0\nW 000040 0060\nW 000040 00D0\nW 000000 0020\nW 000000 00D0\nK 16\nW 000040 0020\nW 000040 00D0\nK 63\nW 000040 00B0\nW 000040 00D0\nK 1\nW 000040 0020\nW 000040 00D0\nK 64\nZ\nW 000040 0060\nW 000040 00D0\nW 000040 0020\nW 000040 00D0\nK 10\nZ\n"
+    "1 ok\n2 ok\n3 ok\n4 ok\n5 ok\n6 ok\n7 ok\n8 16\n9 ok\n10 ok\n11 63\n12 ok\n13 ok\n14 1\n15 ok\n16 ok\n17 64\n18 ok\n19 ok\n20 ok\n21 ok\n22 ok\n23 10\n24 ok\nend 24\n"
+    -- erases of blocks 19 and 1, and one of 19 that the supply cuts
+    ∷ play (replicate 16384 0xFFFF)
+    "V 1\nW 000400 0060\nW 000400 00D0\nW 000010 0060\nW 000010 00D0\nW 000400 0020\nW 000400 00D0\nK 64\nW 000010 0020\nW 000010 00D0\nK 16\nW 000400 0020\nW 000400 00D0\nK 30\nV 0\nK 34\n"
+    "1 ok\n2 ok\n3 ok\n4 ok\n5 ok\n6 ok\n7 ok\n8 64\n9 ok\n10 ok\n11 16\n12 ok\n13 ok\n14 30\n15 ok\n16 0\nend 16\n"
     ∷ []
 
 pub plays-hold : map printed plays ≡ map output plays
 unfolding scriptOf lines lineRefusal transcriptOf digitOf digits decimal hex4 answerText lineText endText hexValue lineDigits number begins isRead isWrite isWork isSupply isReset stepOfLine mirror blockFrom blockOf bankOf sizeOf startFrom startOf bankStart blockOffset bankOffset bankOfBlock lookupOf bit bitAt isUnprotected withUnprotected spareZero allProtected emptyBuffer powerUp runningAlone programAlone eraseAlone eraseFits wordsFit bufferFits setupFits runningFits programFits suspendedEraseFits allFit runningApart programApart apart activityFormed setupPlaces runningPlaces programPlaces placesUsed zeroFrom reservedZero runsSupplied wellFormed runsIn statusWord signatureWord queryWord shown showsBy readIn readWord commandOf endFlags ended endedIfUnsupplied resume accepts setUp clearStatus firstCycle programRuns eraseCycle lockCommandOf withoutReserved lockCycle settle loads countRight firstRight laterRight confirmRight confirmCycle wordsCycle cycle keptIf firstLoaded wordsLoaded heldAfter loaded writtenAt written unitsLeft unitsDone runningAfter wordAfter tabulate arrayAfter bufferAfter workedOn worked workedArray locationRefusal addressRefusal countRefusal stepRefusal firstRefusal switched switchedTo accepted acceptedArray rowOf placeIn countAt countOf sharedZero noCounts putAt withCount oneMore countsAfter formedWith deviceRefusal refusalWith acceptedCounts stepWith arrayWith countsWith
 plays-hold = refl
+
+-- ---- the counts after a script, which no line of it shows
+
+-- a script on 16,384 words of FFFFh, and the counts of blocks 0, 1, 4 and 19 after it
+pub data Wear : Type 0 where
+  wears : String → List ℕ → Wear
+
+abbrev pub counted : Wear → List ℕ
+counted (wears t ns) = map (countOf (machineAtEnd (replicate 16384 0xFFFF) (text t) .counts)) (0 ∷ 1 ∷ 4 ∷ 19 ∷ [])
+
+abbrev pub counts : Wear → List ℕ
+counts (wears t ns) = ns
+
+-- document 02, item 6: the two scripts above
+abbrev pub worn : List Wear
+worn =
+    wears "V 1\nW 000000 0060\nW 000000 00D0\nW 000040 0060\nW 000040 00D0\nW 000000 0020\nW 000000 00D0\nK 16\nW 000040 0020\nW 000040 00D0\nK 63\nW 000040 00B0\nW 000040 00D0\nK 1\nW 000040 0020\nW 000040 00D0\nK 64\nZ\nW 000040 0060\nW 000040 00D0\nW 000040 0020\nW 000040 00D0\nK 10\nZ\n" (1 ∷ 0 ∷ 2 ∷ 0 ∷ [])
+    ∷ wears "V 1\nW 000400 0060\nW 000400 00D0\nW 000010 0060\nW 000010 00D0\nW 000400 0020\nW 000400 00D0\nK 64\nW 000010 0020\nW 000010 00D0\nK 16\nW 000400 0020\nW 000400 00D0\nK 30\nV 0\nK 34\n" (0 ∷ 1 ∷ 0 ∷ 1 ∷ [])
+    ∷ []
+
+pub worn-hold : map counted worn ≡ map counts worn
+unfolding scriptOf lines lineRefusal transcriptOf machineAtEnd digitOf digits decimal hex4 answerText lineText endText hexValue lineDigits number begins isRead isWrite isWork isSupply isReset stepOfLine mirror blockFrom blockOf bankOf sizeOf startFrom startOf bankStart blockOffset bankOffset bankOfBlock lookupOf bit bitAt isUnprotected withUnprotected spareZero allProtected emptyBuffer powerUp runningAlone programAlone eraseAlone eraseFits wordsFit bufferFits setupFits runningFits programFits suspendedEraseFits allFit runningApart programApart apart activityFormed setupPlaces runningPlaces programPlaces placesUsed zeroFrom reservedZero runsSupplied wellFormed runsIn statusWord signatureWord queryWord shown showsBy readIn readWord commandOf endFlags ended endedIfUnsupplied resume accepts setUp clearStatus firstCycle programRuns eraseCycle lockCommandOf withoutReserved lockCycle settle loads countRight firstRight laterRight confirmRight confirmCycle wordsCycle cycle keptIf firstLoaded wordsLoaded heldAfter loaded writtenAt written unitsLeft unitsDone runningAfter wordAfter tabulate arrayAfter bufferAfter workedOn worked workedArray locationRefusal addressRefusal countRefusal stepRefusal firstRefusal switched switchedTo accepted acceptedArray rowOf placeIn countAt countOf sharedZero noCounts putAt withCount oneMore countsAfter formedWith deviceRefusal refusalWith acceptedCounts stepWith arrayWith countsWith
+worn-hold = refl

@@ -25,7 +25,7 @@ ghost use Rattle.semantics.specs.Register.{withoutReserved, reservedZero};
 ghost use Rattle.semantics.specs.Supply.{endFlags, ended, switched};
 ghost use Rattle.semantics.specs.WellFormed.{runsSupplied, wellFormed};
 ghost use Rattle.semantics.specs.Working.{bufferAfter};
-ghost use Rattle.semantics.specs.Steps.{stateRefusal, addressRefusal, countRefusal, stepRefusal, firstRefusal};
+ghost use Rattle.semantics.specs.Steps.{addressRefusal, countRefusal, stepRefusal, firstRefusal};
 
 // ---- one field changed
 
@@ -282,14 +282,6 @@ pub fn refusal_beside(part: Part, formed: bool, n: usize) -> u32
         return 0;
     }
     2
-}
-
-// The same of a state.
-pub fn state_refusal(s: State, n: usize) -> u32
-    ensures { λ r. ⌜ r ≡ stateRefusal s n ⌝ }
-{
-    let part = s.part;
-    refusal_beside(part, well_formed(s), n)
 }
 
 // The refusal of an address, 0 where there is none. It is 3 where the address is too large; 5, its location in no block, is not tested, since every location

@@ -1,8 +1,8 @@
--- `Device::wear_of` meets its contract, by its one test. Assumes nothing.
+-- `Device::erase_count` meets its contract, by its one test. Assumes nothing.
 use Rattle.wear.specs.Steps.{wornWith}
 use borrow.Author.Needs.{needs}
-use Rattle.device.proofs.Device.wear_of.Statement.{statement}
-use Rattle.device.proofs.Device.wear_of.Tie as tie
+use Rattle.device.proofs.Device.erase_count.Statement.{statement}
+use Rattle.device.proofs.Device.erase_count.Tie as tie
 
 returns : tie.Need-returns
 unfolding wornWith
@@ -12,8 +12,8 @@ returns-2 : tie.Need-returns-2
 unfolding wornWith
 returns-2 c = rw (← c .before .formed-with .ensures _, c .if1 .left)
 
-pub wear-of-spec : {M : Type 1} → statement M
-wear-of-spec =
+pub erase-count-spec : {M : Type 1} → statement M
+erase-count-spec =
     tie.close
     (tie.spec
     (λ c κs. search needs)
