@@ -41,7 +41,7 @@ use Rattle.device.specs.declared.Outcome.{Outcome}
 use Rattle.device.specs.Outcomes.{holding, outcomeOf, outcome, arrayOut, countsOut}
 use Rattle.playback.specs.declared.Task.the-variants as task
 use Rattle.playback.specs.Tasks.{Means}
-use Rattle.playback.specs.Playback.{goOn, playable, answerCode, roomAfter, machineOf, Journaled, Worn, Played}
+use Rattle.playback.specs.Playback.{goOn, playable, answerCode, roomAfter, machineOf, Journaled, CountsJournaled, Played}
 
 -- ---- lists of steps
 
@@ -153,8 +153,8 @@ journaled m l p xs₀ l₀ h e =
     (sym (all-alone (freshWith p xs₀) (l₀ ++ l) fresh-shared) ∙ ap (λ (y : Counted). y .machine) (as-one m l p xs₀ l₀ e)) (demand-3-whole p (l₀ ++ l) xs₀ h)
 
 -- and the counts are the journal's
-pub worn : (m : Counted) (l : List Step) → Worn m l (afterAllWith m l .counts)
-unfolding Worn
+pub worn : (m : Counted) (l : List Step) → CountsJournaled m l (afterAllWith m l .counts)
+unfolding CountsJournaled
 worn m l p xs₀ l₀ h e = subst (λ (y : Counted). CountsStand p (l₀ ++ l) (y .counts)) (as-one m l p xs₀ l₀ e) (counts-stand p (l₀ ++ l) xs₀ h)
 
 -- nothing more is played: the end
@@ -175,7 +175,7 @@ sofar-end d₀ k₀ codes room xs i d k answers array s e =
       counts-are = w;
       answers-are = s .written ∙ ap (λ (y : List Step). roomAfter room (answersWith m₀ y)) t;
       journal = subst (λ (ys : List ℕ). Journaled m₀ l ys) (sym a) (journaled m₀ l);
-      wear = subst (λ (y : Counts). Worn m₀ l y) (sym w) (worn m₀ l);
+      wear = subst (λ (y : Counts). CountsJournaled m₀ l y) (sym w) (worn m₀ l);
     }
 
 -- ---- the loop, with the one test of the state and the array

@@ -50,8 +50,8 @@ Journaled m l ys =
     (p : Part) (xs₀ : List ℕ) (l₀ : List Step) → length xs₀ ≡ words (geometryOf p) → afterAllWith (freshWith p xs₀) l₀ ≡ m → Demand3 p (l₀ ++ l) xs₀ ys
 
 -- and so the counts are those of that journal
-unfoldable pub Worn : Counted → List Step → Counts → Type 0
-Worn m l k =
+unfoldable pub CountsJournaled : Counted → List Step → Counts → Type 0
+CountsJournaled m l k =
     (p : Part) (xs₀ : List ℕ) (l₀ : List Step) → length xs₀ ≡ words (geometryOf p) → afterAllWith (freshWith p xs₀) l₀ ≡ m → CountsStand p (l₀ ++ l) k
 
 -- what holds after the numbers `codes` were played on a device with its counts and an array, with a room for the answers
@@ -67,4 +67,4 @@ pub record Played (d : Device) (k : Counts) (codes room xs : List ℕ) (r : RunE
   -- demand 3 holds
   pub journal : Journaled (machineOf d k xs) (playable codes (length room)) array
   -- and the counts are the journal's
-  pub wear : Worn (machineOf d k xs) (playable codes (length room)) counts
+  pub wear : CountsJournaled (machineOf d k xs) (playable codes (length room)) counts
