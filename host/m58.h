@@ -1,7 +1,7 @@
 /*
  * The M58LT256K flash model, for C programs: the lookup of blocks and
- * banks, lists of steps played on a part, and arrays read from Intel HEX text
- * and written to it.
+ * banks, lists of steps played on a part, counts of its erases, and arrays read
+ * from Intel HEX text and written to it.
  *
  * THE LOOKUP is three pure functions on plain numbers. Any uint32_t may be passed for
  * either argument. They keep no state, touch no memory of the caller and
@@ -60,34 +60,37 @@ uint32_t m58_lookup_block(uint32_t part, uint32_t address);
 uint32_t m58_lookup_bank(uint32_t part, uint32_t address);
 
 /*
- * PLAYING. The caller keeps the device as M58_STATE_WORDS words, which
- * m58_power_up fills, and the array as words: M58_FULL_WORDS or
- * M58_BENCH_WORDS of them, by the part. m58_run plays a list of steps and
- * writes one answer for each. A long list may be played in pieces: the next
- * call goes on with the same state words and the same array.
+ * PLAYING. The caller keeps the device as M58_STATE_WORDS words with its erase
+ * counts beside them, both of which m58_power_up fills, and the array as words:
+ * M58_FULL_WORDS or M58_BENCH_WORDS of them, by the part. m58_run plays a list of
+ * steps and writes one answer for each. A long list may be played in pieces: the
+ * next call goes on with the same state words, the same counts and the same array.
  *
  * A step is one uint64_t, made by the macros below. An answer is one
  * uint64_t: the refusal's number in the upper half, the value in the lower
  * (the word that was read, the units of work that were done, else 0). A
- * refused step changes neither the state nor the array.
+ * refused step changes neither the state nor the counts nor the array.
  *
  * What the state words mean is the library's own matter, and may change from
  * version to version: keep them only between calls of one library, and copy
  * them as a whole.
  *
  * MEMORY. Each pointer is aligned as its type is (8 bytes for uint64_t, 2 for
- * uint16_t, 1 for uint8_t). Each count is a number of elements, not of bytes.
- * State, steps, answers, array and text may not overlap. A null pointer is good
- * where its count is 0. What a call only writes need not hold anything before
- * it: the answers, the state words of m58_power_up and the text of
- * m58_hex_write. The state words of m58_run and m58_report, the steps, the text
- * of m58_hex_read and every array are read.
+ * uint16_t and m58_row, 1 for uint8_t). Each count argument is a number of
+ * elements, not of bytes. The erase counts have no such argument: `main` points to
+ * M58_ROWS rows and `small` to M58_SMALL_BLOCKS words, and neither may be null. Any
+ * other null pointer is good where its count is 0. State, main, small, steps,
+ * answers, array and text may not overlap. What a call only writes need not hold
+ * anything before it: the answers, the state words and the erase counts of
+ * m58_power_up and the text of m58_hex_write. The state words and the erase counts
+ * of m58_run and of the reports, the steps, the text of m58_hex_read and every array
+ * are read.
  *
  * THREADS. The functions keep no state of their own: calls on different
- * memory may run at once. A call has its state, answers, array and text to
- * itself, except for what it only reads: any number of calls at once may read
- * the same state words (m58_report), steps (m58_run), text (m58_hex_read) or
- * array (m58_hex_write).
+ * memory may run at once. A call has its state, erase counts, answers, array and
+ * text to itself, except for what it only reads: any number of calls at once may
+ * read the same state words and erase counts (m58_report, m58_most_worn and
+ * m58_erase_count), steps (m58_run), text (m58_hex_read) or array (m58_hex_write).
  */
 #define M58_STATE_WORDS 25 /* other versions have other counts: build anew with this header */
 
@@ -105,7 +108,7 @@ uint32_t m58_lookup_bank(uint32_t part, uint32_t address);
  * without a flag. It is BFCFh after power-up and after a reset, and is read at
  * offset 5 of a bank in signature mode (90h). State words that have a reserved
  * bit set, such as those of older libraries, whose default was FFFFh, are not
- * those of a well-formed device: every step and m58_report refuse them.
+ * those of a well-formed device: every step and every report refuse them.
  */
 
 /*
@@ -117,8 +120,52 @@ uint32_t m58_lookup_bank(uint32_t part, uint32_t address);
  * no unit. A set-up or a load stays too, and its last cycle looks at the supply.
  * Switching supply on resumes nothing. State words in which something runs without
  * supply, which older libraries may have left, are not those of a well-formed device:
- * every step and m58_report refuse them.
+ * every step and every report refuse them.
  */
+
+/*
+ * ERASE COUNTS. The chip keeps no count of its erases; the model does, for each block.
+ * The caller keeps the counts beside the state words, as one m58_counts or as rows and
+ * words of its own. No call copies them.
+ *
+ *   block 0 to 3    counts.small[block]
+ *   block 4 to 258  counts.main[(block - 3) / 16].place[(block - 3) % 16]
+ *
+ * A row is a bank. The block's number alone decides, so top and bottom parts are alike.
+ * counts.main[0].place[0], the place that the small blocks share, is no block's and
+ * stays 0.
+ *
+ * An erase counts once, when it is finished: in the work step that does its last word,
+ * however often it was suspended. One that ends before that word does not count, be it
+ * by a reset, by supply that goes off or by D0h without supply. A count stops at
+ * M58_COUNT_LIMIT. m58_power_up sets all counts to 0, a reset keeps them. So after any
+ * steps from power-up a count is the number of finished erases of its block, or
+ * M58_COUNT_LIMIT where there were more.
+ *
+ * Save and copy the counts together with the state words. Their layout is the one above
+ * in later versions too, and a program may read and change them: any counts go with any
+ * state words, but the shared place has to be 0. Where it is not, every step and every
+ * report are refused M58_REFUSED_STATE and change nothing.
+ *
+ * Programs for an older header pass two more arguments to m58_power_up, m58_run and
+ * m58_report, main and small, behind the state words:
+ *
+ *   m58_counts counts;
+ *   m58_power_up(part, state, M58_STATE_WORDS, counts.main, counts.small)
+ */
+#define M58_ROWS         16    /* one a bank */
+#define M58_PLACES       16    /* main-size places of a row */
+#define M58_SMALL_BLOCKS 4     /* blocks 0 to 3 */
+#define M58_COUNT_LIMIT  65535 /* where a count stops */
+
+typedef struct m58_row {
+    uint16_t place[M58_PLACES];
+} m58_row;
+
+typedef struct m58_counts {
+    m58_row main[M58_ROWS];
+    uint16_t small[M58_SMALL_BLOCKS];
+} m58_counts;
 
 /*
  * The steps, as constant expressions where the arguments are. An address or a
@@ -140,17 +187,18 @@ uint32_t m58_lookup_bank(uint32_t part, uint32_t address);
 #define M58_ANSWER_REFUSAL(answer) ((uint32_t)((answer) >> 32))
 #define M58_ANSWER_VALUE(answer)   ((uint32_t)(answer))
 
-/* More refusals, of steps. */
+/* More refusals, of steps. The lowest number is given. */
 #define M58_REFUSED_ARRAY UINT32_C(1) /* array length is not the part's */
-#define M58_REFUSED_STATE UINT32_C(2) /* state words are no well-formed device */
+#define M58_REFUSED_STATE UINT32_C(2) /* state words are no well-formed device, or the shared place is not 0 */
 #define M58_REFUSED_COUNT UINT32_C(4) /* work count above 65,535 */
 
 /*
- * Writes the power-up state of a part into `state` and returns 1. Returns 0,
- * and writes nothing, when the part is above M58_BENCH_TOP or state_count is
- * not M58_STATE_WORDS.
+ * Writes the power-up state of a part into `state`, sets all erase counts to 0 and
+ * returns 1. Returns 0, and writes nothing, the counts included, when the part is above
+ * M58_BENCH_TOP or state_count is not M58_STATE_WORDS.
  */
-uint32_t m58_power_up(uint32_t part, uint64_t *state, size_t state_count);
+uint32_t m58_power_up(uint32_t part, uint64_t *state, size_t state_count,
+                      m58_row *main, uint16_t *small);
 
 /*
  * Plays `steps` in order and writes the answer of step i to answers[i].
@@ -160,22 +208,50 @@ uint32_t m58_power_up(uint32_t part, uint64_t *state, size_t state_count);
  * were.
  *
  * Where the state words are not those of a device (also where state_count is
- * not M58_STATE_WORDS), every step is refused and the state stays as it was.
+ * not M58_STATE_WORDS), every step is refused and the state, the counts and the
+ * array stay as they were.
  * The refusal is 1 where array_count is not the length of the part that
  * state[0] names, else 2. A state[0] that names no part, above M58_BENCH_TOP,
  * counts as M58_BENCH_TOP here; where state_count is 0, the part is
  * M58_FULL_BOTTOM.
  */
-size_t m58_run(uint64_t *state, size_t state_count, const uint64_t *steps,
-               size_t step_count, uint64_t *answers, size_t answer_count,
+size_t m58_run(uint64_t *state, size_t state_count, m58_row *main, uint16_t *small,
+               const uint64_t *steps, size_t step_count,
+               uint64_t *answers, size_t answer_count,
                uint16_t *array, size_t array_count);
 
 /*
- * The report of unprotected blocks: refusal << 32 | count << 16 | lowest.
- * lowest is M58_BLOCKS when none is unprotected; count and lowest are 0 beside
- * refusal M58_REFUSED_STATE.
+ * THE REPORTS change nothing. They are refused M58_REFUSED_STATE where a step would be:
+ * where the state words are those of no well-formed device (also where state_count is
+ * not M58_STATE_WORDS) and where the shared place is not 0. All else is 0 beside that
+ * refusal.
  */
-uint64_t m58_report(const uint64_t *state, size_t state_count);
+
+/*
+ * The report of unprotected blocks: refusal << 32 | count << 16 | lowest.
+ * lowest is M58_BLOCKS when none is unprotected.
+ */
+uint64_t m58_report(const uint64_t *state, size_t state_count,
+                    const m58_row *main, const uint16_t *small);
+
+/*
+ * The most worn block and its count: refusal << 32 | count << 16 | block. It is the
+ * lowest of those with the highest count, and so block 0 where all counts are 0.
+ */
+uint64_t m58_most_worn(const uint64_t *state, size_t state_count,
+                       const m58_row *main, const uint16_t *small);
+#define M58_WORN_REFUSAL(result) ((uint32_t)((result) >> 32))
+#define M58_WORN_COUNT(result)   ((uint32_t)((result) >> 16 & 0xFFFF))
+#define M58_WORN_BLOCK(result)   ((uint32_t)((result) & 0xFFFF))
+
+/*
+ * The finished erases of one block: refusal << 32 | count. The count of a number that
+ * is no block, M58_BLOCKS or more, is 0 and not refused.
+ */
+uint64_t m58_erase_count(const uint64_t *state, size_t state_count,
+                         const m58_row *main, const uint16_t *small, uint32_t block);
+#define M58_ERASES_REFUSAL(result) ((uint32_t)((result) >> 32))
+#define M58_ERASES_COUNT(result)   ((uint32_t)(result))
 
 /*
  * INTEL HEX. Text is the bytes of a file, without a 0 byte at its end; the array
