@@ -21,16 +21,23 @@ static const uint64_t steps[] = {
 enum { STEPS = sizeof steps / sizeof steps[0] };
 
 static uint64_t state[M58_STATE_WORDS], answers[STEPS];
+static m58_counts counts;
 static uint16_t array[M58_BENCH_WORDS];
 
 int main(void)
 {
     for (size_t i = 0; i < M58_BENCH_WORDS; i++)
         array[i] = 0xFFFF;
-    if (!m58_power_up(M58_BENCH_BOTTOM, state, M58_STATE_WORDS))
+    if (!m58_power_up(M58_BENCH_BOTTOM, state, M58_STATE_WORDS, counts.main, counts.small)) {
+        fputs("run_example: no power-up\n", stderr);
         return 1;
-    size_t played = m58_run(state, M58_STATE_WORDS, steps, STEPS, answers, STEPS,
-                            array, M58_BENCH_WORDS);
+    }
+    size_t played = m58_run(state, M58_STATE_WORDS, counts.main, counts.small, steps, STEPS,
+                            answers, STEPS, array, M58_BENCH_WORDS);
+    if (played != STEPS) {
+        fprintf(stderr, "run_example: %zu of %d steps played\n", played, (int)STEPS);
+        return 1;
+    }
     for (size_t i = 0; i < played; i++) {
         uint32_t refusal = M58_ANSWER_REFUSAL(answers[i]);
         uint32_t value = M58_ANSWER_VALUE(answers[i]);
