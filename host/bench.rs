@@ -16,7 +16,7 @@ mod second {
 }
 
 use plain::Plain;
-use second::model::{Device, Part, BANKS, BLOCKS};
+use second::model::{Device, EraseCounts, Part, BANKS, BLOCKS};
 use second::steps::Step;
 use std::hint::black_box;
 use std::mem::size_of;
@@ -66,7 +66,10 @@ fn main() -> ExitCode {
     let mut bench = Bench::new(rounds);
     for workload in workloads() {
         if workload.loads && !bench.other_takes_loads() {
-            println!("{}: left out, the other library is an older one", workload.name);
+            println!(
+                "{}: left out, the other library is an older one",
+                workload.name
+            );
             continue;
         }
         for &a_call in &workload.calls {
@@ -74,9 +77,10 @@ fn main() -> ExitCode {
         }
     }
     println!(
-        "\nstate handed over: {} words, {} bytes",
+        "\nstate handed over: {} words, {} bytes; erase counts beside it: {} bytes",
         library::STATE_WORDS,
-        library::STATE_WORDS * size_of::<u64>()
+        library::STATE_WORDS * size_of::<u64>(),
+        size_of::<library::Rows>() + size_of::<library::Small>()
     );
     ExitCode::SUCCESS
 }
@@ -119,10 +123,10 @@ fn workloads() -> Vec<Workload> {
         },
         burned("burn by words", burn_by_words(BLOCK), &[ALL, 3]),
         list("mixed list", mixed(), &[ALL, 1]),
-        list("erase by single units", slow_erase(), &[ALL]),
+        list("erase by single units", slow_erase(), &[ALL, 1]),
         Workload {
             fill: Some(block),
-            ..list("erase of a main block", erase(BLOCK), &[ALL])
+            ..list("erase of a main block", erase(BLOCK), &[ALL, 1])
         },
         Workload {
             fill: Some(0..PART.array_length()),
@@ -267,10 +271,10 @@ fn mixed() -> Vec<Step> {
 
 /// A model with what it holds of a device; or a fill, which holds none.
 enum Player {
-    Library([u64; library::STATE_WORDS]),
+    Library([u64; library::STATE_WORDS], EraseCounts),
     Second(Device),
     Plain(Plain),
-    Other(Vec<u64>),
+    Other(Vec<u64>, EraseCounts),
     Fill,
 }
 
@@ -285,25 +289,39 @@ impl Player {
     ];
 
     fn all() -> [Player; 5] {
+        let part = PART.number();
         let mut state = [0; library::STATE_WORDS];
-        library::power_up(PART.number(), &mut state);
+        let mut counts = EraseCounts::none();
+        library::power_up(part, &mut state, &mut counts.main, &mut counts.small);
         [
-            Player::Library(state),
-            Player::Second(Device::power_up(PART.number())),
-            Player::Plain(Plain::power_up(PART.number())),
-            Player::Other(other_power_up()),
+            Player::Library(state, counts),
+            Player::Second(Device::power_up(part)),
+            Player::Plain(Plain::power_up(part)),
+            other_power_up(part),
             Player::Fill,
         ]
+    }
+
+    /// The erase counts, of those that have some.
+    fn counts(&self) -> Option<&EraseCounts> {
+        match self {
+            Player::Library(_, counts) => Some(counts),
+            Player::Second(device) => Some(&device.counts),
+            Player::Other(_, counts) if other::COUNTS => Some(counts),
+            _ => None,
+        }
     }
 }
 
 /// The other library's power-up: another version may have another number of
 /// state words, and takes no other.
-fn other_power_up() -> Vec<u64> {
-    (1..=1024)
-        .map(|count| vec![0; count])
-        .find_map(|mut state| (other::power_up(PART.number(), &mut state) == 1).then_some(state))
-        .expect("the other library powers up")
+fn other_power_up(part: u32) -> Player {
+    let mut counts = EraseCounts::none();
+    let mut powered = |mut state: Vec<u64>| {
+        (other::power_up(part, &mut state, &mut counts) == 1).then_some(state)
+    };
+    let state = (1..=1024).find_map(|count| powered(vec![0; count]));
+    Player::Other(state.expect("the other library powers up"), counts)
 }
 
 /// A list as the players take it: the second model the steps, the others their
@@ -352,11 +370,13 @@ impl Side {
             answers,
         } = self;
         match player {
-            Player::Library(state) => {
-                list.calls(answers, |n, a| library::run(state, n, a, array));
+            Player::Library(state, EraseCounts { main, small }) => {
+                list.calls(answers, |n, a| {
+                    library::run(state, (main, small), n, a, array)
+                });
             }
-            Player::Other(state) => {
-                list.calls(answers, |n, a| other::run(state, n, a, array));
+            Player::Other(state, counts) => {
+                list.calls(answers, |n, a| other::run(state, counts, n, a, array));
             }
             Player::Plain(device) => list.calls(answers, |n, a| device.run(n, a, array)),
             Player::Second(device) => {
@@ -398,7 +418,7 @@ impl Bench {
     fn other_takes_loads(&self) -> bool {
         self.sides
             .iter()
-            .any(|side| matches!(&side.player, Player::Other(state) if state.len() != 38))
+            .any(|side| matches!(&side.player, Player::Other(state, _) if state.len() != 38))
     }
 
     /// Plays a workload on all sides and prints the row of its ratios. The sides
@@ -454,6 +474,9 @@ impl Bench {
                 assert!(same, "{name}: the answers are not the {player}'s");
                 let same = side.array == library.array;
                 assert!(same, "{name}: the array is not the {player}'s");
+                let counts = side.player.counts().or(library.player.counts());
+                let same = counts == library.player.counts();
+                assert!(same, "{name}: the erase counts are not the {player}'s");
             }
         }
     }
