@@ -1,6 +1,6 @@
 //! The recorder of document 01, "The journal" (there: the clerk), with the entries of document 02,
-//! item 1, and its supply drops, item 5. It is told the part and the steps "but no device, array or
-//! answer"; nothing here comes from the model.
+//! item 1, and its supply drops, item 5; it tells the finished erases of item 6. It is told the part
+//! and the steps "but no device, array or answer"; nothing here comes from the model.
 
 #![allow(dead_code)] // a program that takes this module in need not use all of it
 
@@ -106,6 +106,14 @@ impl Recorder {
     /// "entries in order of acceptance".
     pub fn entries(&self) -> &[Entry] {
         &self.entries
+    }
+
+    /// "the number of finished erases of that block in the journal" (document 02,
+    /// item 6), which no bound stops.
+    pub fn finished_erases(&self, block: u32) -> u64 {
+        let own = Kind::Erase { block };
+        let finished = |entry: &&Entry| entry.is_finished() && entry.kind == own;
+        self.entries.iter().filter(finished).count() as u64
     }
 
     pub fn supply(&self) -> bool {

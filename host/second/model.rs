@@ -1,5 +1,6 @@
 //! A second model of the flash chip, written from document 01 and document 02, items 1 (the write
-//! buffer), 4 (the reserved bits of the configuration register) and 5 (supply drops) alone.
+//! buffer), 4 (the reserved bits of the configuration register), 5 (supply drops) and 6 (wear
+//! counts) alone.
 
 #![allow(dead_code)] // a program that takes this module in need not use all of it
 
@@ -113,8 +114,69 @@ pub struct UnprotectedReport {
     pub refusal: u8,
 }
 
-/// The fields of "What a device holds", and the buffer. Spare storage is what
-/// of the buffer holds no word of a load or of a buffer program.
+/// "the finished erases of each block, held as sixteen rows of sixteen main-size
+/// places, the four small blocks being counted one by one apart, since they share
+/// one place" (document 02, item 6): row 0, place 0, which belongs to no block.
+#[derive(Clone, Copy, PartialEq, Eq, Debug)]
+pub struct EraseCounts {
+    pub main: [[u16; 16]; 16],
+    pub small: [u16; 4],
+}
+
+impl EraseCounts {
+    /// "power-up starts them at 0".
+    pub fn none() -> EraseCounts {
+        EraseCounts {
+            main: [[0; 16]; 16],
+            small: [0; 4],
+        }
+    }
+
+    /// The finished erases of a block; 0 where the number is no block.
+    pub fn of(&self, block: u32) -> u16 {
+        match block {
+            0..=3 => self.small[block as usize],
+            4..=258 => {
+                let (row, place) = main_place(block);
+                self.main[row][place]
+            }
+            _ => 0,
+        }
+    }
+
+    /// One more finished erase of a block: "the lesser of 65,535 and the number of
+    /// finished erases".
+    fn add(&mut self, block: u32) {
+        let count = match self.small.get_mut(block as usize) {
+            Some(count) => count,
+            None => {
+                let (row, place) = main_place(block);
+                &mut self.main[row][place]
+            }
+        };
+        *count = count.saturating_add(1);
+    }
+}
+
+/// Row and place of a main block, 4 to 258: the row is its bank. By the block's
+/// number, so alike on top and bottom parts.
+fn main_place(block: u32) -> (usize, usize) {
+    let place = block as usize - 3;
+    (place / 16, place % 16)
+}
+
+/// "It reports the most worn block" (document 02, item 6), or the block that was
+/// asked for, and the count of its finished erases. Both numbers are 0 when refused.
+#[derive(Clone, Copy, Debug, PartialEq, Eq)]
+pub struct WornReport {
+    pub refusal: u8,
+    pub block: u32,
+    pub count: u32,
+}
+
+/// The fields of "What a device holds", the buffer and, "Beside the device"
+/// (document 02, item 6), the counts. Spare storage is what of the buffer holds no
+/// word of a load or of a buffer program.
 #[derive(Clone, Debug, PartialEq, Eq)]
 pub struct Device {
     pub part: Part,
@@ -128,6 +190,7 @@ pub struct Device {
     pub configuration: u16,
     pub supply: bool,
     pub buffer: [u16; BUFFER_WORDS],
+    pub counts: EraseCounts,
 }
 
 /// Block and bank of an address: (refusal, block, bank). "lookup of an address
@@ -168,6 +231,7 @@ impl Device {
             configuration: DEFAULT_CONFIGURATION,
             supply: false,
             buffer: [0; BUFFER_WORDS],
+            counts: EraseCounts::none(),
         }
     }
 
@@ -206,6 +270,7 @@ impl Device {
             && self.load_well_formed()
             && self.spare_is_zero(program)
             && self.reserved_bits_are_zero()
+            && self.shared_place_is_zero()
     }
 
     /// "blocks are of the part, and an erase has done fewer words than its
@@ -269,6 +334,11 @@ impl Device {
             .all(|&bit| self.configuration >> bit & 1 == 0)
     }
 
+    /// "2 as before, also when the shared place is not 0" (document 02, item 6).
+    fn shared_place_is_zero(&self) -> bool {
+        self.counts.main[0][0] == 0
+    }
+
     /// The block in which so many words from a location on lie; none where they
     /// are no number for the buffer or lie in no block or in two.
     fn common_block(&self, start: u32, words: u32) -> Option<u32> {
@@ -323,6 +393,34 @@ impl Device {
             count: count as u32,
             lowest: lowest.unwrap_or(BLOCKS) as u32,
             refusal: 0,
+        }
+    }
+
+    /// "It reports the most worn block, the lowest number on a tie" (document 02,
+    /// item 6): so block 0 where all counts are 0.
+    pub fn most_worn(&self) -> WornReport {
+        let mut worn = 0;
+        for block in 1..BLOCKS as u32 {
+            if self.counts.of(block) > self.counts.of(worn) {
+                worn = block;
+            }
+        }
+        self.erase_count(worn)
+    }
+
+    /// The finished erases of one block; 0 for a number that is no block.
+    pub fn erase_count(&self, block: u32) -> WornReport {
+        if !self.well_formed() {
+            return WornReport {
+                refusal: 2,
+                block: 0,
+                count: 0,
+            };
+        }
+        WornReport {
+            refusal: 0,
+            block,
+            count: u32::from(self.counts.of(block)),
         }
     }
 
@@ -630,21 +728,26 @@ impl Device {
                 }
                 units as u16
             }
-            // "An erase's unit sets the lowest word not yet done to FFFFh."
-            Some(Operation::Erase(Erase { block, done })) => {
-                let Block { start, size, .. } = self.block(block);
-                let units = count.min(size - done);
-                let first = (start + done) as usize;
-                array[first..first + units as usize].fill(0xFFFF);
-                // "an erase [ends] at the size of its block, counted over all
-                // work steps"
-                let done = done + units;
-                if done < size {
-                    self.running = Some(Operation::Erase(Erase { block, done }));
-                }
-                units as u16
-            }
+            Some(Operation::Erase(erase)) => self.erase_words(array, erase, count),
         }
+    }
+
+    /// "An erase's unit sets the lowest word not yet done to FFFFh." The step that
+    /// does the last word has finished the erase, and counts it (document 02, item 6).
+    fn erase_words(&mut self, array: &mut [u16], erase: Erase, count: u32) -> u16 {
+        let Erase { block, done } = erase;
+        let Block { start, size, .. } = self.block(block);
+        let units = count.min(size - done);
+        let first = (start + done) as usize;
+        array[first..first + units as usize].fill(0xFFFF);
+        // "an erase [ends] at the size of its block, counted over all work steps"
+        let done = done + units;
+        if done < size {
+            self.running = Some(Operation::Erase(Erase { block, done }));
+        } else {
+            self.counts.add(block);
+        }
+        units as u16
     }
 
     /// "One unit puts in one word, from the lowest location up" (document 02,
@@ -681,10 +784,12 @@ impl Device {
         }
     }
 
-    /// "Reset gives the power-up state but keeps the supply; the array stays."
+    /// "Reset gives the power-up state but keeps the supply; the array stays." "Reset
+    /// keeps counts" (document 02, item 6).
     fn reset(&mut self) {
         *self = Device {
             supply: self.supply,
+            counts: self.counts,
             ..Device::fresh(self.part)
         };
     }

@@ -1,8 +1,9 @@
 //! Self-test of the second model: document 01's twelve proved cases, its
 //! worked script, the refusal card, the cases of the write buffer, of the
-//! configuration register and of supply drops, and random lists of steps whose
-//! array is compared with the recorder's reading. Prints one line; panics on a
-//! difference, and where the lists drop the supply too seldom.
+//! configuration register, of supply drops and of wear counts, and random lists of
+//! steps whose array and counts are compared with the recorder's reading. Prints one
+//! line; panics on a difference, and where the lists drop the supply or finish erases
+//! too seldom.
 //!
 //!     rustc -O --edition 2021 selftest.rs -o selftest
 //!     ./selftest [seed]
@@ -15,16 +16,20 @@ mod model;
 mod script;
 mod steps;
 mod supply_cases;
+mod wear_cases;
 
 use geometry::{Part, ADDRESSES, BANKS, BLOCKS};
 use journal::{Kind, Recorder, State};
-use model::{lookup, Answer, Device, Erase, Mode, Operation, Program, Setup, UnprotectedReport};
+use model::{
+    lookup, Answer, Device, Erase, Mode, Operation, Program, Setup, UnprotectedReport, WornReport,
+};
 use script::transcript;
 use steps::Step;
 
 const BENCH_LISTS: u32 = 10_000; // for each bench part
 const FULL_LISTS: u32 = 4; // for each full part
 const LEAST_DROPS: u64 = 200; // of each kind, by the supply
+const LEAST_WEAR: u64 = 200; // finished erases of each kind
 const DEFAULT_SEED: u64 = 0x5EED_F1A5_4C41_9001;
 
 fn main() {
@@ -39,30 +44,39 @@ fn main() {
     let loads = buffer_cases::check();
     let registers = configuration_cases::check();
     let drops = supply_cases::check();
+    let worn = wear_cases::check();
     let states = check_malformed_states();
     check_reads();
     check_modes_and_flags();
     check_refusals();
     let scripts = check_scripts();
+    let tally = check_lists(&mut random);
+    println!(
+        "selftest ok: seed {seed}, {cases} proved cases, {errors} errors that look right, \
+         {loads} buffer cases, {registers} configuration register cases, {drops} supply cases, \
+         {worn} wear cases, {states} malformed states, {scripts} scripts, {locations} locations, {}",
+        tally.text()
+    );
+}
 
+/// Random lists on all parts. Gives what they came to, which is enough of each kind.
+fn check_lists(random: &mut Random) -> Tally {
     let mut tally = Tally::default();
     for part in [2, 3] {
         for _ in 0..BENCH_LISTS {
-            check_list(&mut random, part, 400, &mut tally);
+            check_list(random, part, 400, &mut tally);
         }
     }
     for part in [0, 1] {
         for _ in 0..FULL_LISTS {
-            check_list(&mut random, part, 100_000, &mut tally);
+            check_list(random, part, 100_000, &mut tally);
         }
     }
     let rarest = tally.drops.rarest();
     assert!(rarest >= LEAST_DROPS, "{}", tally.drops.text());
-    println!(
-        "selftest ok: seed {seed}, {cases} proved cases, {errors} errors that look right, \
-         {loads} buffer cases, {registers} configuration register cases, {drops} supply cases, {states} malformed states, {scripts} scripts, {locations} locations, {}",
-        tally.text()
-    );
+    let rarest = tally.wear.rarest();
+    assert!(rarest >= LEAST_WEAR, "{}", tally.wear.text());
+    tally
 }
 
 /// Xorshift, 64 bits, shifts 13, 7, 17.
@@ -379,11 +393,12 @@ fn check_malformed_states() -> u32 {
         + buffer_cases::check_states()
         + configuration_cases::check_states()
         + supply_cases::check_states()
+        + wear_cases::check_states()
 }
 
-/// All five steps and the report of unprotected blocks refuse 2 in the first
-/// states, with supply on and off, and none in the others, with supply on and,
-/// where nothing runs, off. Gives the number of the first.
+/// All five steps and the reports refuse 2 in the first states, with supply on and
+/// off, and none in the others, with supply on and, where nothing runs, off. Gives
+/// the number of the first.
 fn check_states(ill: &[Change], well: &[Change]) -> u32 {
     for supply in [false, true] {
         let changed = |change: &Change| {
@@ -398,19 +413,19 @@ fn check_states(ill: &[Change], well: &[Change]) -> u32 {
         for device in well.iter().map(changed) {
             let good = supply || device.running.is_none();
             assert_eq!(device.well_formed(), good, "{device:?}");
-            let refusal = device.unprotected_report().refusal;
-            assert_eq!(refusal, if good { 0 } else { 2 }, "{device:?}");
+            let refusal = if good { 0 } else { 2 };
+            assert_eq!(device.unprotected_report().refusal, refusal, "{device:?}");
+            assert_eq!(device.most_worn().refusal, refusal, "{device:?}");
+            assert_eq!(device.erase_count(4).refusal, refusal, "{device:?}");
         }
     }
     ill.len() as u32
 }
 
-/// Each step, and the report, refuses the state by 2, or by 1 where the array is
-/// wrong too.
+/// Each step, and each report, refuses the state by 2; a step by 1 where the array
+/// is wrong too.
 fn check_malformed(device: &Device) {
-    assert!(!device.well_formed(), "{device:?}");
-    let report = device.unprotected_report();
-    assert_eq!((report.count, report.lowest, report.refusal), (0, 0, 2));
+    check_reports_refused(device);
     let words = device.part.array_length();
     for step in [
         Step::Read(0),
@@ -429,6 +444,22 @@ fn check_malformed(device: &Device) {
     ] {
         refused(device, words, step, 2);
         refused(device, words - 1, step, 1);
+    }
+}
+
+/// The reports refuse the state: "its number beside the answer 0".
+fn check_reports_refused(device: &Device) {
+    assert!(!device.well_formed(), "{device:?}");
+    let report = device.unprotected_report();
+    assert_eq!((report.count, report.lowest, report.refusal), (0, 0, 2));
+    let refused = WornReport {
+        refusal: 2,
+        block: 0,
+        count: 0,
+    };
+    assert_eq!(device.most_worn(), refused, "{device:?}");
+    for block in [0, 3, 4, 19, 258, 259, u32::MAX] {
+        assert_eq!(device.erase_count(block), refused, "{device:?}");
     }
 }
 
@@ -664,6 +695,7 @@ struct Tally {
     both_suspended: u64,
     changed_words: u64,
     drops: Drops,
+    wear: Wear,
 }
 
 /// What the supply ended in the random lists (document 02, item 5): programs,
@@ -728,9 +760,88 @@ impl Drops {
     }
 }
 
+/// What erases the random lists finished (document 02, item 6).
+#[derive(Default)]
+struct Wear {
+    small: u64,
+    main: u64,
+    /// In a step that had units to spare.
+    exceeded: u64,
+    /// Suspended before.
+    resumed: u64,
+    /// Of a block that had been erased before in the list.
+    again: u64,
+    /// Resets of a device with a count that was not 0.
+    kept: u64,
+    /// The erase that is under way has been suspended.
+    suspended: bool,
+}
+
+impl Wear {
+    /// Counts move by one, for one block, in a work step, where its erase ended.
+    fn note(&mut self, before: &Device, after: &Device, step: Step) {
+        if before.setup == Some(Setup::Erase) && after.running.is_some() {
+            self.suspended = false;
+        }
+        self.suspended |= after.suspended_erase.is_some();
+        match (step, before.running, after.running) {
+            (Step::Work(count), Some(Operation::Erase(erase)), None) => {
+                self.finished(before, after, erase, count);
+            }
+            _ => assert_eq!(before.counts, after.counts, "{step:?}"),
+        }
+        if step == Step::Reset && before.most_worn().count > 0 {
+            self.kept += 1;
+        }
+    }
+
+    fn finished(&mut self, before: &Device, after: &Device, erase: Erase, count: u32) {
+        for block in 0..BLOCKS as u32 {
+            let due = before.counts.of(block) + u16::from(block == erase.block);
+            assert_eq!(after.counts.of(block), due, "block {block}");
+        }
+        self.small += u64::from(erase.block < 4);
+        self.main += u64::from(erase.block >= 4);
+        let size = before.part.block(erase.block).unwrap().size;
+        self.exceeded += u64::from(count > size - erase.done);
+        self.resumed += u64::from(self.suspended);
+        self.again += u64::from(before.counts.of(erase.block) > 0);
+    }
+
+    fn rarest(&self) -> u64 {
+        let erases = [self.small, self.main, self.exceeded, self.resumed];
+        let kept = [self.again, self.kept];
+        erases.into_iter().chain(kept).min().unwrap_or(0)
+    }
+
+    fn text(&self) -> String {
+        format!(
+            "finished erases: {} of small blocks, {} of main blocks, {} with units to spare, {} \
+             after a suspend, {} of a block erased before; {} resets with counts",
+            self.small, self.main, self.exceeded, self.resumed, self.again, self.kept
+        )
+    }
+}
+
 impl Tally {
-    /// Counts the entries of a journal.
-    fn note(&mut self, recorder: &Recorder) {
+    /// Counts a step by what it found and what became of it.
+    fn note_step(&mut self, before: &Device, after: &Device, step: Step) {
+        self.drops.note(before, after, step);
+        self.wear.note(before, after, step);
+        if before.suspended_program.is_some() && before.suspended_erase.is_some() {
+            self.both_suspended += 1;
+        }
+        let lost = after.setup.is_none() && after.running.is_none();
+        if before.setup.is_some_and(Setup::is_load) && lost {
+            self.lost_loads += 1;
+        }
+        self.steps += 1;
+    }
+
+    /// Counts a list, its units and the entries of its journal.
+    fn note(&mut self, recorder: &Recorder, units: u64) {
+        self.lists += 1;
+        self.units += units;
         for entry in recorder.entries() {
             let counter = match (&entry.kind, entry.state) {
                 (Kind::Program { .. }, State::Finished) => &mut self.finished_programs,
@@ -748,7 +859,7 @@ impl Tally {
         format!(
             "{} random lists of {} steps ({} refused, {} with both suspended), {} units, \
              programs {} finished {} not, buffer programs {} finished {} not ({} loads came to \
-             none), erases {} finished {} not, {} words changed; {}",
+             none), erases {} finished {} not, {} words changed; {}; {}",
             self.lists,
             self.steps,
             self.refusals,
@@ -762,13 +873,14 @@ impl Tally {
             self.finished_erases,
             self.unfinished_erases,
             self.changed_words,
-            self.drops.text()
+            self.drops.text(),
+            self.wear.text()
         )
     }
 }
 
-/// Plays one random list on a random array; the array after it must be the
-/// recorder's reading of the journal.
+/// Plays one random list on a random array; the array and the counts after it must
+/// be the recorder's reading of the journal.
 fn check_list(random: &mut Random, part: u32, longest: u32, tally: &mut Tally) {
     let mut device = Device::power_up(part);
     let start: Vec<u16> = (0..device.part.array_length())
@@ -791,28 +903,19 @@ fn check_list(random: &mut Random, part: u32, longest: u32, tally: &mut Tally) {
         } else if matches!(step, Step::Work(_)) {
             units += u64::from(answer.value);
         }
-        tally.drops.note(&before, &device, step);
-        if before.suspended_program.is_some() && before.suspended_erase.is_some() {
-            tally.both_suspended += 1;
-        }
-        let lost = device.setup.is_none() && device.running.is_none();
-        if before.setup.is_some_and(Setup::is_load) && lost {
-            tally.lost_loads += 1;
-        }
-        tally.steps += 1;
+        tally.note_step(&before, &device, step);
     }
     assert!(
         array == recorder.apply(&start),
         "the array is not the journal"
     );
+    check_counts(&recorder, &device);
 
     // The answers of the work steps are the journal's units.
     let noted: u64 = recorder.entries().iter().map(|e| u64::from(e.units)).sum();
     assert_eq!(units, noted);
 
-    tally.lists += 1;
-    tally.units += units;
-    tally.note(&recorder);
+    tally.note(&recorder, units);
     let changed = start.iter().zip(&array).filter(|(old, new)| old != new);
     tally.changed_words += changed.count() as u64;
 }
@@ -830,6 +933,18 @@ fn check_recorder(recorder: &Recorder, device: &Device) {
     let (program, erase) = (&device.suspended_program, &device.suspended_erase);
     let suspended = (program.is_some(), erase.is_some());
     assert_eq!(suspended, recorder.suspended());
+}
+
+/// "each count is the lesser of 65,535 and the number of finished erases of that block
+/// in the journal" (document 02, item 6).
+fn check_counts(recorder: &Recorder, device: &Device) {
+    for block in 0..BLOCKS as u32 {
+        let due = recorder.finished_erases(block).min(65_535);
+        let report = device.erase_count(block);
+        assert_eq!((report.refusal, report.block), (0, block));
+        assert_eq!(u64::from(report.count), due, "block {block}");
+    }
+    assert_eq!(device.counts.main[0][0], 0);
 }
 
 /// The units that a running operation has had.
