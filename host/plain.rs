@@ -1,6 +1,8 @@
 //! The plain C model, called through the prototypes of plain/plain.h. Every
 //! pointer is made here, from a Rust slice.
 
+#![allow(dead_code)] // a program that takes this module in need not use all of it
+
 mod c {
     extern "C" {
         pub fn plain_size() -> usize;
@@ -13,6 +15,8 @@ mod c {
             array: *mut u16,
             count: usize,
         ) -> usize;
+        pub fn plain_erase_count(device: *const u64, block: u32) -> u16;
+        pub fn plain_most_worn(device: *const u64) -> u32;
     }
 }
 
@@ -47,5 +51,18 @@ impl Plain {
                 array.len(),
             )
         }
+    }
+
+    /// The finished erases of a block; 0 for a number that is no block.
+    pub fn erase_count(&self, block: u32) -> u16 {
+        // SAFETY: the device was filled by plain_power_up, and is only read; any
+        // number may be asked for.
+        unsafe { c::plain_erase_count(self.0.as_ptr(), block) }
+    }
+
+    /// The block with the most finished erases, the lowest number on a tie.
+    pub fn most_worn(&self) -> u32 {
+        // SAFETY: the device was filled by plain_power_up, and is only read.
+        unsafe { c::plain_most_worn(self.0.as_ptr()) }
     }
 }

@@ -1,7 +1,8 @@
 //! Compares the plain C model with the independent second model on random lists
-//! of steps, from power-up, on all four parts: every answer, and the whole array
-//! after each list. Counts what became of the steps, and fails too where the
-//! lists reach less than they did.
+//! of steps, from power-up, on all four parts: every answer, the counts of finished
+//! erases and the most worn block after each call, and the whole array after each
+//! list. Counts what became of the steps, and fails too where the lists reach less
+//! than they did.
 //!
 //!     plain_compare
 //!
@@ -12,6 +13,7 @@ mod author;
 mod library;
 mod outcome;
 mod plain;
+mod plain_wear;
 mod second {
     pub mod geometry;
     pub mod model;
@@ -20,12 +22,13 @@ mod second {
 
 use author::{Author, Dice};
 use plain::Plain;
+use plain_wear::Wear;
 use second::model::{
-    Answer, Device, Erase, Flags, Mode, Operation, Part, Place, Program, Setup, BANKS, BLOCKS,
-    BUFFER_WORDS, DEFAULT_CONFIGURATION,
+    Answer, Device, Erase, Flags, Mode, Operation, Part, Place, Program, Setup, ADDRESSES, BANKS,
+    BLOCKS, BUFFER_WORDS, DEFAULT_CONFIGURATION,
 };
 use second::steps::Step;
-use std::collections::BTreeMap;
+use std::collections::{BTreeMap, VecDeque};
 use std::process::ExitCode;
 
 /// Lists for each part.
@@ -33,10 +36,20 @@ const LISTS: [u64; 4] = [30, 30, 4_000, 4_000];
 
 /// How many different things become of a step. Fewer would mean that the lists
 /// try less than they seem to.
-const OUTCOMES: usize = 206;
+const OUTCOMES: usize = 218;
 
 /// How often each outcome of a supply step, and each end without supply, has to come.
 const LEAST_DROPS: u64 = 100;
+
+/// How often each kind of erase that is finished, or broken off before its last word,
+/// and each kind of most worn block has to come (document 02, item 6).
+const LEAST_WEAR: u64 = 1_000;
+const WEAR: [&str; 4] = [
+    "finished erase",
+    "erase broken off before its last word",
+    "most worn block",
+    "wear counts",
+];
 
 /// What lies in an answer before a call.
 const UNTOUCHED: u64 = 0xA5A5_5A5A_C3C3_3C3C;
@@ -63,21 +76,35 @@ fn compare() -> Result<String, String> {
         tally.add(pair.tally);
     }
     print!("{}", tally.table());
+    let beyond = beyond_the_most()?;
+    println!("erases beyond 65,535: {}", beyond.text());
     let reached = tally.outcomes.len();
     if reached != OUTCOMES {
         return Err(format!(
             "plain_compare: {reached} outcomes reached, and not {OUTCOMES}"
         ));
     }
-    if let Some(seldom) = tally.seldom_drop() {
-        return Err(format!(
-            "plain_compare: less than {LEAST_DROPS} times: {seldom}"
-        ));
+    if let Some(seldom) = tally.seldom() {
+        return Err(format!("plain_compare: too seldom: {seldom}"));
     }
     Ok(format!(
         "plain_compare: all equal: {}, {reached} outcomes",
         tally.text()
     ))
+}
+
+/// On the bench parts, a small and a main block are erased more often than a count
+/// holds; what becomes of these many steps is not counted with that of the lists.
+fn beyond_the_most() -> Result<Tally, String> {
+    let mut tally = Tally::default();
+    for part in [Part::BenchBottom, Part::BenchTop] {
+        let mut pair = Pair::new(part);
+        pair.beyond_the_most().map_err(|difference| {
+            format!("plain_compare: {part:?}, erases beyond 65,535: {difference}")
+        })?;
+        tally.add(pair.tally);
+    }
+    Ok(tally)
 }
 
 /// What was compared, and what became of the steps.
@@ -110,14 +137,20 @@ impl Tally {
         )
     }
 
-    /// What the lists do too seldom with the supply (document 02, item 5).
-    fn seldom_drop(&self) -> Option<String> {
+    /// What the lists do too seldom with the supply (document 02, item 5) and with the
+    /// counts (item 6).
+    fn seldom(&self) -> Option<String> {
         let drop = |asked: &str, became: &str| {
             asked.starts_with("supply") || asked == "write, D0h" && became.starts_with("ended")
         };
+        let least = |asked, became| match (WEAR.contains(&asked), drop(asked, became)) {
+            (true, _) => LEAST_WEAR,
+            (_, true) => LEAST_DROPS,
+            _ => 1,
+        };
         self.outcomes
             .iter()
-            .find(|&(&(asked, became), &times)| drop(asked, became) && times < LEAST_DROPS)
+            .find(|&(&(asked, became), &times)| times < least(asked, became))
             .map(|((asked, became), times)| format!("{asked}: {times} {became}"))
     }
 
@@ -146,6 +179,7 @@ struct Pair {
     history: Vec<u64>,
     /// The words that were given to the load so far, by the bits from the start on.
     given: u32,
+    wear: Wear,
     tally: Tally,
 }
 
@@ -159,6 +193,7 @@ impl Pair {
             model_array: vec![0; part.array_length()],
             history: Vec::new(),
             given: 0,
+            wear: Wear::default(),
             tally: Tally::default(),
         }
     }
@@ -168,11 +203,9 @@ impl Pair {
     fn list(&mut self, seed: u64) -> Result<(), String> {
         let mut dice = Dice::new(seed);
         let mut author = Author::new(self.part, dice.next());
-        self.plain = Plain::power_up(self.part.number());
-        self.device = Device::power_up(self.part.number());
-        self.history.clear();
-        fill(&mut self.array, &mut dice);
-        self.model_array.copy_from_slice(&self.array);
+        self.begin(&mut dice);
+        let blocks = plain_wear::blocks(&mut dice);
+        let mut scene = VecDeque::new();
 
         let words = self.array.len();
         let mut left = dice.index(if self.part.unit() > 64 { 6_000 } else { 600 });
@@ -182,13 +215,51 @@ impl Pair {
                 0 => dice.pick(&[words - 1, words / 2, 1, 0]),
                 _ => words,
             };
-            self.call(told, size, &mut |device| author.next(device))?;
+            if dice.percent(10) {
+                scene.extend(plain_wear::scene(&mut dice, self.part, &blocks));
+            }
+            self.call(told, size, &mut |device| match scene.pop_front() {
+                Some(step) => library::number(step),
+                None => author.next(device),
+            })?;
             left -= size;
         }
         let closing = closing(&self.device, dice.percent(50));
-        let mut numbers = closing.iter().copied().map(library::number);
+        self.steps(&closing)?;
+        self.same_arrays()?;
+        self.tally.lists += 1;
+        Ok(())
+    }
+
+    /// Power-up of both, and the same random words.
+    fn begin(&mut self, dice: &mut Dice) {
+        self.plain = Plain::power_up(self.part.number());
+        self.device = Device::power_up(self.part.number());
+        self.history.clear();
+        fill(&mut self.array, dice);
+        self.model_array.copy_from_slice(&self.array);
+    }
+
+    /// One call of these steps.
+    fn steps(&mut self, steps: &[Step]) -> Result<(), String> {
+        let mut numbers = steps.iter().copied().map(library::number);
         let mut next = |_: &Device| numbers.next().expect("as many as are asked for");
-        self.call(words, closing.len(), &mut next)?;
+        self.call(self.array.len(), steps.len(), &mut next)
+    }
+
+    /// The list of `plain_wear::beyond_the_most`, at whose end both counts have stopped.
+    fn beyond_the_most(&mut self) -> Result<(), String> {
+        let blocks = [3, 19];
+        self.begin(&mut Dice::new(u64::from(self.part.number())));
+        for steps in plain_wear::beyond_the_most(self.part, blocks).chunks(60) {
+            self.steps(steps)?;
+        }
+        for block in blocks {
+            let count = self.plain.erase_count(block);
+            if count != 65_535 {
+                return Err(format!("{count} erases of block {block} at the end"));
+            }
+        }
         self.same_arrays()?;
         self.tally.lists += 1;
         Ok(())
@@ -220,7 +291,7 @@ impl Pair {
             let what = format!("{got} steps played, and not {played}");
             return Err(self.message(first + played, &what));
         }
-        Ok(())
+        self.same_counts()
     }
 
     /// The second model's answers to so many numbers, which are kept in the
@@ -273,6 +344,9 @@ impl Pair {
         self.follow_load(&before, step);
         if answer.refusal == 0 {
             self.count_register(&before, step);
+            for (asked, became) in self.wear.facts(&before, &self.device, step) {
+                self.tally.count(asked, became, 1);
+            }
         }
         self.tally.steps += 1;
         library::answer(answer)
@@ -344,6 +418,26 @@ impl Pair {
             }
             _ => {}
         }
+    }
+
+    /// The counts of all blocks, and of numbers that are none, and the most worn block.
+    fn same_counts(&mut self) -> Result<(), String> {
+        let last = self.history.len() - 1;
+        for block in (0..BLOCKS as u32).chain([259, u32::MAX]) {
+            let (got, expected) = (self.plain.erase_count(block), self.device.counts.of(block));
+            if got != expected {
+                let what = format!("{got} erases of block {block}, and not {expected}");
+                return Err(self.message(last, &what));
+            }
+        }
+        let (got, expected) = (self.plain.most_worn(), self.device.most_worn());
+        if got != expected.block {
+            let what = format!("most worn block {got}, and not {}", expected.block);
+            return Err(self.message(last, &what));
+        }
+        let (asked, became) = plain_wear::lead(&self.device, expected);
+        self.tally.count(asked, became, 1);
+        Ok(())
     }
 
     fn same_arrays(&mut self) -> Result<(), String> {
@@ -426,7 +520,7 @@ fn asked(device: &Device, step: Step) -> &'static str {
             Mode::Array => "read, array mode",
             Mode::Status => "read, status mode",
             // Banks begin at multiples of their 16u words, so this is bank offset 5.
-            Mode::Signature if address % (16 * device.part.unit()) == 5 => {
+            Mode::Signature if address < ADDRESSES && address % (16 * device.part.unit()) == 5 => {
                 "read, configuration register"
             }
             Mode::Signature => "read, signature mode",

@@ -2,7 +2,7 @@
 
 #include <string.h>
 
-enum { ADDRESSES = 1 << 24, MOST_WORK = 65535 };
+enum { ADDRESSES = 1 << 24, MOST_WORK = 65535, MOST_ERASES = 65535 };
 enum { WRONG_LENGTH = 1, WRONG_ADDRESS = 3, WRONG_COUNT = 4 }; /* the numbers of the refusal card */
 enum { READ, WRITE, WORK, SUPPLY, RESET };                     /* the kind of a step: its number's upper 16 bits */
 /* The configuration register: bits 14, 5 and 4 are reserved, and its default has all others set (document 02, item 4). */
@@ -41,8 +41,9 @@ static uint32_t block_start(const struct plain *device, uint32_t block) {
 
 /* State */
 
-static void power_up(struct plain *device, unsigned unit_shift, bool top) {
-    memset(device, 0, sizeof *device);
+/* All of the power-up state but the counts of erases: "Reset keeps counts; power-up starts them at 0" (document 02, item 6). */
+static void begin(struct plain *device, unsigned unit_shift, bool top) {
+    memset(device, 0, offsetof(struct plain, erases));
     device->unit_shift = unit_shift;
     device->top = top;
     device->configuration = DEFAULT_CONFIGURATION;
@@ -50,13 +51,16 @@ static void power_up(struct plain *device, unsigned unit_shift, bool top) {
         device->protected[block] = true;
 }
 
-void plain_power_up(struct plain *device, uint32_t part) { power_up(device, part < 2 ? 16 : 6, part % 2 == 1); }
+void plain_power_up(struct plain *device, uint32_t part) {
+    begin(device, part < 2 ? 16 : 6, part % 2 == 1);
+    memset(device->erases, 0, sizeof device->erases);
+}
 
 size_t plain_size(void) { return sizeof(struct plain); }
 
 static void reset(struct plain *device) {
     bool supply = device->supply;
-    power_up(device, device->unit_shift, device->top);
+    begin(device, device->unit_shift, device->top);
     device->supply = supply;
 }
 
@@ -327,13 +331,21 @@ static uint32_t work_buffer(struct plain *device, uint32_t units, uint16_t *arra
     return now;
 }
 
+/* An erase is counted where its last word is done, and nowhere else (document 02, item 6). */
+static void count_erase(struct plain *device, uint32_t block) {
+    if (device->erases[block] < MOST_ERASES)
+        device->erases[block]++;
+}
+
 static uint32_t work_erase(struct plain *device, uint32_t units, uint16_t *array) {
     uint32_t left = block_words(device, device->erase.block) - device->erase.done;
     uint32_t now = units < left ? units : left;
     memset(array + block_start(device, device->erase.block) + device->erase.done, 0xFF, now * sizeof *array);
     device->erase.done += now;
-    if (now == left)
+    if (now == left) {
         device->running = PLAIN_NOTHING;
+        count_erase(device, device->erase.block);
+    }
     return now;
 }
 
@@ -346,6 +358,18 @@ static uint32_t work(struct plain *device, uint32_t units, uint16_t *array) {
     case PLAIN_ERASE: return work_erase(device, units, array);
     default: return 0;
     }
+}
+
+/* Wear */
+
+uint16_t plain_erase_count(const struct plain *device, uint32_t block) { return block < PLAIN_BLOCKS ? device->erases[block] : 0; }
+
+uint32_t plain_most_worn(const struct plain *device) {
+    uint32_t worn = 0;
+    for (uint32_t block = 1; block < PLAIN_BLOCKS; block++)
+        if (device->erases[block] > device->erases[worn])
+            worn = block;
+    return worn;
 }
 
 /* Supply: what is suspended and what is set up stay. */

@@ -55,6 +55,7 @@ struct plain {
         uint32_t done;
     } erase;
     bool protected[PLAIN_BLOCKS];
+    uint16_t erases[PLAIN_BLOCKS]; /* finished, by block number, at most 65,535; the last member, since a reset leaves it (document 02, item 6) */
 };
 
 /* Fills `device` with the power-up state of a part, 0 to 3 (full bottom, full top, bench bottom, bench top). */
@@ -63,6 +64,12 @@ void plain_power_up(struct plain *device, uint32_t part);
 /* Plays `n` steps in order and writes the answer of step i to answers[i]. Returns how many were played: all of them, or those
  * before the first number that is no step. `array` has `count` words; a count that is not the part's is refused by every step. */
 size_t plain_run(struct plain *device, const uint64_t *steps, size_t n, uint64_t *answers, uint16_t *array, size_t count);
+
+/* The finished erases of a block, at most 65,535; 0 for a number that is no block (document 02, item 6). */
+uint16_t plain_erase_count(const struct plain *device, uint32_t block);
+
+/* The block with the most finished erases, the lowest number on a tie. */
+uint32_t plain_most_worn(const struct plain *device);
 
 /* The bytes of a device, for a caller that does not see the struct. */
 size_t plain_size(void);
