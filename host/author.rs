@@ -1,12 +1,13 @@
 //! Writes the steps of random lists, and random states to begin from. All is
 //! drawn from a seed, with an eye on the second model's device, so that blocks
 //! are unprotected, loads come to their end, and programs and erases are accepted,
-//! suspended, nested and cut, by resets and by the supply, far more often than by
-//! chance.
+//! suspended, nested and cut, by resets and by the supply, and erases finished, far
+//! more often than by chance.
 
 mod drops;
 mod loads;
 pub mod states;
+pub mod wear;
 
 use crate::library;
 use crate::second::model::{
@@ -86,7 +87,7 @@ pub struct Author {
     no_steps: u64,
     /// In which order the words of the load come.
     order: Order,
-    /// The steps to come of a scene in which the supply drops.
+    /// The steps to come of a scene in which the supply drops, or a block is erased.
     scene: VecDeque<Step>,
 }
 
@@ -201,8 +202,11 @@ impl Author {
         if device.running.is_some() && self.dice.percent(60) {
             return Step::Work(self.count(lacking(device)));
         }
-        if idle(device) && self.dice.percent(4) {
-            return self.begin_scene();
+        if idle(device) && self.dice.percent(7) {
+            return match self.dice.below(7) {
+                0..=3 => self.begin_scene(),
+                _ => self.begin_wear_scene(),
+            };
         }
         self.fitting_command(device)
     }

@@ -1,16 +1,22 @@
 //! Checks that need no chance: power-up, states that are not well formed, each
 //! number of the state and each state word changed to many values, every
-//! configuration register, and memory of other counts.
+//! configuration register, and memory of other counts. Those of the erase counts are
+//! in checks/counts.rs.
+
+mod counts;
 
 use crate::author::states::CLAUSES;
 use crate::author::Author;
-use crate::library::{self, STATE_WORDS};
+use crate::library::{self, Asked, STATE_WORDS};
 use crate::pair::{Difference, Pair, Start};
 use crate::second::model::{
-    lookup, Device, Erase, Flags, Mode, Operation, Part, Program, Setup, ADDRESSES, BANKS, BLOCKS,
+    lookup, Device, Erase, EraseCounts, Flags, Mode, Operation, Part, Program, Setup, ADDRESSES,
+    BANKS, BLOCKS,
 };
 use crate::second::steps::Step;
 use crate::state::{self, Field, Words};
+use crate::wear::Lent;
+pub use counts::check_counts;
 use std::collections::BTreeSet;
 
 const UNTOUCHED: u64 = 0xDEAD_BEEF_DEAD_BEEF;
@@ -85,7 +91,9 @@ pub fn check_power_up() -> Checked {
             let check = format!("power-up of part {part} with {count} state words");
             // Room past the count shows a write outside.
             let mut state = [UNTOUCHED; 80];
-            let given = library::power_up(part, &mut state[8..8 + count]);
+            let mut lent = Lent::untouched();
+            let words = &mut state[8..8 + count];
+            let given = library::power_up(part, words, &mut lent.main, &mut lent.small);
             let mut expected = [UNTOUCHED; 80];
             let good = part < 4 && count == STATE_WORDS;
             if good {
@@ -93,14 +101,17 @@ pub fn check_power_up() -> Checked {
                 expected[8..8 + count].copy_from_slice(&words);
             }
             same(&check, "what it returns", u64::from(good), u64::from(given))?;
+            counts::same_lent(&check, good.then_some(&EraseCounts::none()), &lent)?;
             for (place, (&expected, &got)) in expected.iter().zip(&state).enumerate() {
                 let what = format!("word {place} less 8 of the memory");
                 same(&check, &what, expected, got)?;
             }
         }
         let check = format!("power-up of part {part} with a null pointer");
-        let given = library::power_up_of_nothing(part);
+        let mut lent = Lent::untouched();
+        let given = library::power_up_borrowed(part, None, &mut lent.main, &mut lent.small);
         same(&check, "what it returns", 0, u64::from(given))?;
+        counts::same_lent(&check, None, &lent)?;
     }
     Ok(())
 }
@@ -108,16 +119,19 @@ pub fn check_power_up() -> Checked {
 /// Null pointers with the count 0, one at a time and all together.
 pub fn check_null(pair: &mut Pair) -> Checked {
     let part = pair.part().number();
-    let device = Device::power_up(part);
+    let mut device = Device::power_up(part);
+    device.counts = counts::numbered();
     let steps = [library::number(Step::Supply(true)); 2];
     let mut array = vec![0x1234; pair.part().array_length()];
     for missing in 0..16 {
         let check = format!("null pointers of part {part}, choice {missing:04b}");
         let mut state = state::encode(&device);
+        let mut lent = Lent::of(&device.counts);
         let mut answers = [UNTOUCHED; 2];
         let borrowed = |bit: u32| missing >> bit & 1 == 0;
         let played = library::run_borrowed(
             borrowed(0).then_some(&mut state),
+            (&mut lent.main, &mut lent.small),
             borrowed(1).then_some(&steps),
             borrowed(2).then_some(&mut answers),
             borrowed(3).then_some(&mut array),
@@ -149,9 +163,18 @@ pub fn check_null(pair: &mut Pair) -> Checked {
             let what = format!("state word {place} ({})", state::name(place));
             same(&check, &what, expected, got)?;
         }
+        counts::same_lent(&check, Some(&device.counts), &lent)?;
     }
-    let got = library::report_of_nothing();
-    same("report of no state", "report", 2 << 32, got)
+    let lent = Lent::of(&device.counts);
+    let nothing = Asked {
+        state: None,
+        main: &lent.main,
+        small: &lent.small,
+    };
+    let check = "reports of no state";
+    same(check, "unprotected blocks", 2 << 32, nothing.report())?;
+    same(check, "most worn block", 2 << 32, nothing.most_worn())?;
+    same(check, "erases of block 4", 2 << 32, nothing.erase_count(4))
 }
 
 /// Steps of all five kinds, good and refused; tried on states.
@@ -220,20 +243,23 @@ fn rest_of_load(device: &Device) -> Option<Vec<u64>> {
     )
 }
 
+/// State words with the erase counts beside them.
+type Given<'a> = (&'a [u64], &'a EraseCounts);
+
 /// Plays the probes from some state words in one call.
-fn probe(pair: &mut Pair, words: &[u64], array: usize, whole: bool) -> Result<(), Difference> {
+fn probe(pair: &mut Pair, given: Given, array: usize, whole: bool) -> Result<(), Difference> {
     let numbers = probes(pair.part());
-    probe_with(pair, &numbers, words, array, whole)
+    probe_with(pair, &numbers, given, array, whole)
 }
 
 fn probe_with(
     pair: &mut Pair,
     numbers: &[u64],
-    words: &[u64],
+    (words, counts): Given,
     array: usize,
     whole: bool,
 ) -> Result<(), Difference> {
-    pair.begin_on_same_array(Start::Words(words.to_vec()))?;
+    pair.begin_on_same_array(Start::Words(words.to_vec(), *counts))?;
     let mut call = pair.call(numbers.len(), array);
     for &number in numbers {
         pair.add(&mut call, number);
@@ -247,16 +273,22 @@ fn probe_with(
 pub fn check_malformed(pair: &mut Pair) -> Result<usize, Failure> {
     let part = pair.part();
     let good = part.array_length();
-    let states = malformed(part);
-    for (name, words) in &states {
+    let mut states: Vec<(String, Words, EraseCounts)> = Vec::new();
+    for (place, (name, words)) in malformed(part).into_iter().enumerate() {
+        let counts = counts::VARIED[place % counts::VARIED.len()];
+        states.push((name, words, counts()));
+    }
+    states.extend(broken_clauses(part));
+    states.extend(counts::malformed(part));
+    for (name, words, counts) in &states {
         let check = format!("{name}, on part {}", part.number());
         let fail = |difference| Failure {
             check: check.clone(),
             difference,
         };
-        let device = state::decode(words);
+        let device = state::decode(words, counts);
         let (refused, steps) = (pair.counts.refused[2], pair.counts.steps);
-        probe(pair, words, good, true).map_err(fail)?;
+        probe(pair, (words, counts), good, true).map_err(fail)?;
         let refused = pair.counts.refused[2] - refused;
         let steps = pair.counts.steps - steps;
         same(
@@ -268,7 +300,7 @@ pub fn check_malformed(pair: &mut Pair) -> Result<usize, Failure> {
         // A wrong array as well: the lowest number is 1 where there is a part.
         for length in [good - 1, good + 1, 0] {
             let refused = pair.counts.refused[1];
-            probe(pair, words, length, false).map_err(fail)?;
+            probe(pair, (words, counts), length, false).map_err(fail)?;
             let refused = pair.counts.refused[1] - refused;
             let due = if device.is_some() { steps } else { 0 };
             same(&check, "steps refused 1 by the second model", due, refused)?;
@@ -470,7 +502,6 @@ fn malformed(part: Part) -> Vec<(String, Words)> {
     states.extend(malformed_buffer_words(&base));
     states.extend(malformed_registers(&base));
     states.extend(malformed_supply(&base));
-    states.extend(broken_clauses(part));
     states
 }
 
@@ -537,14 +568,15 @@ fn malformed_registers(base: &Device) -> Vec<(String, Words)> {
 }
 
 /// What the rule of well-formed states says of the write buffer, of the configuration
-/// register and of the supply, broken clause by clause.
-fn broken_clauses(part: Part) -> Vec<(String, Words)> {
+/// register, of the supply and of the erase counts, broken clause by clause.
+fn broken_clauses(part: Part) -> Vec<(String, Words, EraseCounts)> {
     let mut states = Vec::new();
     let seeds = BROKEN[usize::from(part.unit() == 64)];
     for (clause, name) in CLAUSES.iter().enumerate() {
         for seed in 0..seeds {
             let device = Author::new(part, seed).broken(clause);
-            states.push((format!("{name}, seed {seed}"), state::encode(&device)));
+            let name = format!("{name}, seed {seed}");
+            states.push((name, state::encode(&device), device.counts));
         }
     }
     states
@@ -698,6 +730,7 @@ pub fn check_each_number(pair: &mut Pair) -> Result<u64, Failure> {
     let part = pair.part();
     let length = part.array_length();
     let whole = !pair.is_full();
+    let counts = counts::VARIED.map(|counts| counts());
     let mut changed = 0;
     for (shape, device) in shapes(part).into_iter().enumerate() {
         // Else every changed state would be refused.
@@ -705,9 +738,11 @@ pub fn check_each_number(pair: &mut Pair) -> Result<u64, Failure> {
         same(&check, "well formed", 1, u64::from(device.well_formed()))?;
         let rest = rest_of_load(&device);
         for damaged in changed_words(part, &state::encode(&device)) {
-            let mut tried = probe(pair, &damaged, length, whole);
+            // The count of a block that is erased to its end goes to the limit, or stays there.
+            let counts = &counts[changed as usize % counts.len()];
+            let mut tried = probe(pair, (&damaged, counts), length, whole);
             if let (Ok(()), Some(rest)) = (&tried, &rest) {
-                tried = probe_with(pair, rest, &damaged, length, whole);
+                tried = probe_with(pair, rest, (&damaged, counts), length, whole);
             }
             tried.map_err(|difference| Failure {
                 check: format!(
@@ -741,13 +776,15 @@ pub fn check_registers(pair: &mut Pair) -> Result<u64, Failure> {
         shown.configuration = register;
         let reads = [library::number(Step::Read(5))];
         let words = state::encode(&shown);
-        probe_with(pair, &reads, &words, part.array_length(), false)
+        let given = (&words[..], &shown.counts);
+        probe_with(pair, &reads, given, part.array_length(), false)
             .map_err(|d| failed(&format!("register {register:04X}h handed in"), d))?;
     }
     let fresh = state::encode(&Device::power_up(part.number()));
+    let given = (&fresh[..], &shown.counts);
     for upper in 0..=0xFF {
         let numbers = stored_registers(part, upper);
-        probe_with(pair, &numbers, &fresh, part.array_length(), false)
+        probe_with(pair, &numbers, given, part.array_length(), false)
             .map_err(|d| failed("a register stored by 03h", d))?;
     }
     pair.finish()
@@ -813,13 +850,25 @@ fn values(part: Part, old: u64) -> Vec<u64> {
 /// State words of other counts than 25, those of older headers among them: every step is refused.
 pub fn check_state_counts(pair: &mut Pair) -> Checked {
     let part = pair.part();
-    for count in [0, 1, 17, STATE_WORDS - 1, STATE_WORDS + 1, 38, 2 * STATE_WORDS, 51] {
+    for count in [
+        0,
+        1,
+        17,
+        STATE_WORDS - 1,
+        STATE_WORDS + 1,
+        38,
+        2 * STATE_WORDS,
+        51,
+    ] {
         let mut words = state::encode(&Device::power_up(part.number())).to_vec();
         words.resize(count, 0);
-        probe(pair, &words, part.array_length(), true).map_err(|difference| Failure {
-            check: format!("{count} state words, on part {}", part.number()),
-            difference,
-        })?;
+        for counts in counts::VARIED {
+            let given = (&words[..], &counts());
+            probe(pair, given, part.array_length(), true).map_err(|difference| Failure {
+                check: format!("{count} state words, on part {}", part.number()),
+                difference,
+            })?;
+        }
     }
     Ok(())
 }

@@ -20,6 +20,7 @@ mod second {
     pub mod steps;
 }
 mod state;
+mod wear;
 
 use kinds::Reached;
 use pair::{Counts, Difference, Pair, Start};
@@ -118,9 +119,11 @@ fn fixed_checks() -> Result<Counts, String> {
             checks::check_each_number(&mut pair).map_err(|f| check_message(&f, Some(&pair)))?;
         let registers =
             checks::check_registers(&mut pair).map_err(|f| check_message(&f, Some(&pair)))?;
+        let counts_tried =
+            checks::check_counts(&mut pair).map_err(|f| check_message(&f, Some(&pair)))?;
         println!(
             "{}: {named} states that are not well formed, {changed} with one number or word changed, \
-             {registers} configuration registers",
+             {registers} configuration registers, {counts_tried} with other erase counts",
             name(part)
         );
         counts = counts.plus(pair.counts);
@@ -234,12 +237,12 @@ fn difference_text(difference: &Difference) -> String {
 fn steps_text(pair: &Pair, step: usize) -> String {
     let mut text = match pair.start() {
         Start::PowerUp => "begun at power-up".to_string(),
-        Start::Words(words) => {
+        Start::Words(words, counts) => {
             let mut text = format!("begun with {} state words, those not 0:", words.len());
             for (place, word) in words.iter().enumerate().filter(|(_, &word)| word != 0) {
                 text.push_str(&format!("\n  {place}: {word:X}h, {}", state::name(place)));
             }
-            text
+            text + &wear::text(counts)
         }
     };
     let history = pair.history();

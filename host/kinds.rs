@@ -1,16 +1,20 @@
 //! What the lists reach of the write buffer, of the configuration register, of supply
-//! drops and of the status word: each kind of step and of state, and each status word that is
-//! read, is counted, by the second model's device before and after the step.
+//! drops, of the erase counts and of the status word: each kind of step and of state, each
+//! block whose erase is finished and each status word that is read, is counted, by the second
+//! model's device before and after the step.
 
 mod drops;
+mod wear;
 
 use crate::author::states::CLAUSES;
 use crate::second::model::{
-    without_reserved_bits, Answer, Device, Erase, Flags, Mode, Operation, Program, Setup,
-    DEFAULT_CONFIGURATION, RESERVED_BITS,
+    without_reserved_bits, Answer, Device, Erase, EraseCounts, Flags, Mode, Operation, Program,
+    Setup, BLOCKS, DEFAULT_CONFIGURATION, RESERVED_BITS,
 };
 use crate::second::steps::Step;
 use drops::Drops;
+pub use wear::note_reports;
+use wear::Wear;
 
 /// The kinds, each with its text.
 macro_rules! kinds {
@@ -181,26 +185,76 @@ kinds! {
     GivenOffBufferErase, "state without supply, buffer program and erase suspended";
     GivenOffSetUp, "state without supply, set-up of two cycles pending";
     GivenOffLoad, "state without supply, load pending";
+
+    FinishedSmall, "erase finished, small block";
+    FinishedMain, "erase finished, main block";
+    FinishedBottom, "erase finished, bottom part";
+    FinishedTop, "erase finished, top part";
+    FinishedFull, "erase finished, full part";
+    FinishedSuspended, "erase finished that was suspended once";
+    FinishedSuspendedOften, "erase finished that was suspended several times";
+    FinishedAround, "erase finished, a program finished while it was suspended";
+    FinishedOneWord, "erase finished by one unit";
+    FinishedExact, "erase finished by just as many units as it lacked";
+    FinishedOver, "erase finished by more units than it lacked";
+    FinishedGiven, "erase finished that the list began with";
+    FinishedAgain, "erase finished of a block for a second or later time in a list";
+    CountToLimit, "erase finished, its count goes from 65,534 to 65,535";
+    CountAtLimit, "erase finished, its count stays 65,535";
+    CountProtected, "erase finished of a block that is protected meanwhile";
+
+    BrokenReset, "running erase broken off by a reset";
+    BrokenResetLast, "running erase broken off by a reset one word before its end";
+    BrokenSuspended, "suspended erase broken off by a reset";
+    BrokenSuspendedLast, "suspended erase broken off by a reset one word before its end";
+    BrokenOff, "running erase broken off by supply off";
+    BrokenOffLast, "running erase broken off by supply off one word before its end";
+    BrokenResume, "suspended erase broken off by D0h without supply";
+    BrokenResumeLast, "suspended erase broken off by D0h without supply one word before its end";
+    ResetCounts, "reset with erase counts that are not all 0";
+
+    WornNone, "most worn block, all counts 0";
+    WornTie, "most worn block, one of several with its count";
+    WornSmall, "most worn block, a small one";
+    WornMain, "most worn block, a main one";
+
+    SharedRead, "read refused, shared place not 0";
+    SharedWrite, "write refused, shared place not 0";
+    SharedWork, "work refused, shared place not 0";
+    SharedOff, "supply off refused, shared place not 0";
+    SharedOn, "supply on refused, shared place not 0";
+    SharedReset, "reset refused, shared place not 0";
+    SharedReports, "the three reports refused, shared place not 0";
+    SharedArray, "step refused 1, shared place not 0 too";
+
+    GivenCounts, "state with erase counts not all 0";
+    GivenLimit, "state with the running erase's count at 65,534 or 65,535";
+    GivenNoDevice, "words of no device with erase counts not all 0";
+    GivenNoDeviceShared, "words of no device, shared place not 0";
 }
 
 /// How often the lists of `quick` have to reach each kind, at the least: those of
-/// the register and of the supply come last, and a list has one state to begin with.
+/// the register, of the supply and of the erase counts come last, and a list has one state
+/// to begin with.
 fn least(kind: usize) -> u64 {
+    let given = (Kind::GivenOffProgram as usize..=Kind::GivenOffLoad as usize).contains(&kind)
+        || kind >= Kind::SharedRead as usize;
     if kind < Kind::Stored14 as usize {
         1
-    } else if kind < Kind::GivenOffProgram as usize {
-        200
-    } else {
+    } else if given {
         50
+    } else {
+        200
     }
 }
 
-/// How often each kind was reached, each clause of a well-formed state broken,
-/// and each status word read.
+/// How often each kind was reached, each clause of a well-formed state broken, each
+/// block's erase finished, and each status word read.
 #[derive(Clone, Copy)]
 pub struct Reached {
     kinds: [u64; NAMES.len()],
     clauses: [u64; CLAUSES.len()],
+    finished: [u64; BLOCKS],
     status: [u64; 256],
 }
 
@@ -219,6 +273,7 @@ impl Default for Reached {
         Reached {
             kinds: [0; NAMES.len()],
             clauses: [0; CLAUSES.len()],
+            finished: [0; BLOCKS],
             status: [0; 256],
         }
     }
@@ -244,6 +299,9 @@ impl Reached {
         for (all, more) in self.clauses.iter_mut().zip(other.clauses) {
             *all += more;
         }
+        for (all, more) in self.finished.iter_mut().zip(other.finished) {
+            *all += more;
+        }
         for (all, more) in self.status.iter_mut().zip(other.status) {
             *all += more;
         }
@@ -257,6 +315,7 @@ impl Reached {
         let bits = (0..8usize).rev().flat_map(|bit| [(bit, 0), (bit, 1)]);
         kinds
             .map(|(kind, (&count, name))| (count, least(kind), name.to_string()))
+            .chain(wear::named(&self.finished))
             .chain(clauses.map(|(&count, name)| (count, 1, format!("malformed state: {name}"))))
             .chain(bits.map(|(bit, value)| {
                 let name = format!("status word read with SR{bit} = {value}");
@@ -313,6 +372,8 @@ pub struct Glance {
     flags: Flags,
     configuration: u16,
     supply: bool,
+    /// The count of the block whose erase runs.
+    erases: u16,
 }
 
 impl Glance {
@@ -325,6 +386,10 @@ impl Glance {
             flags: device.flags,
             configuration: device.configuration,
             supply: device.supply,
+            erases: match device.running {
+                Some(Operation::Erase(erase)) => device.counts.of(erase.block),
+                _ => 0,
+            },
         }
     }
 
@@ -356,8 +421,8 @@ enum Register {
 }
 
 /// Watches the steps of a list; of a load it keeps which words were given, of the
-/// register where it comes from, and of the supply where it went off, which the
-/// device does not tell.
+/// register where it comes from, of the supply where it went off, and of an erase what
+/// came before, which the device does not tell.
 #[derive(Clone, Copy, Default)]
 pub struct Watch {
     /// Of a load whose first word was seen: a bit for each word given.
@@ -367,6 +432,7 @@ pub struct Watch {
     repeated: bool,
     register: Register,
     drops: Drops,
+    wear: Wear,
 }
 
 impl Watch {
@@ -385,6 +451,7 @@ impl Watch {
             if answer.refusal == 2 {
                 drops::note_refused(reached, step, after);
             }
+            wear::note_refused(reached, step, answer.refusal, after);
             return;
         }
         if let Step::Read(address) = step {
@@ -394,6 +461,7 @@ impl Watch {
         }
         self.register_step(reached, before, step, after);
         self.drops.step(reached, before, step, after);
+        self.wear.step(reached, before, step, after);
         match (step, before.load()) {
             (Step::Write(address, data), Some(load)) => {
                 let cycle = Cycle::new(after, address, data);
@@ -477,6 +545,7 @@ impl Watch {
                 upward: true,
                 register: self.register,
                 drops: self.drops,
+                wear: self.wear,
                 ..Watch::default()
             };
         } else if let Some(given) = self.given {
@@ -661,11 +730,12 @@ fn note_reset(reached: &mut Reached, before: &Glance, load: Option<Setup>) {
     }
 }
 
-/// Counts what a list begins with.
-pub fn note_state(reached: &mut Reached, device: &Device) {
-    if !device.well_formed() {
+/// Counts what a list begins with; no device where the state words are of none.
+pub fn note_state(reached: &mut Reached, device: Option<&Device>, counts: &EraseCounts) {
+    wear::note_state(reached, device, counts);
+    let Some(device) = device.filter(|device| device.well_formed()) else {
         return;
-    }
+    };
     drops::note_state(reached, device);
     let changed = device.configuration != DEFAULT_CONFIGURATION;
     reached.add_if(changed, Kind::GivenRegister);

@@ -1,7 +1,7 @@
 //! Random lists. A list is made by its part and its seed alone: the state and
 //! array it begins with, its steps, and the calls it is played in.
 
-use crate::author::states::{CLAUSES, SUPPLY_CLAUSES};
+use crate::author::states::{CLAUSES, SHARED_CLAUSE, SUPPLY_CLAUSES};
 use crate::author::{Author, Dice};
 use crate::library::STATE_WORDS;
 use crate::pair::{Difference, Fate, Pair, Start};
@@ -17,16 +17,24 @@ pub fn play(pair: &mut Pair, seed: u64) -> Result<(), Difference> {
     // Most lists begin at power-up, since only those have a journal.
     let start = match dice.below(20) {
         0..=11 => Start::PowerUp,
-        12..=16 => Start::Words(state::encode(&author.device()).to_vec()),
+        12..=16 => Start::of(&author.device()),
         17 => {
-            let clause = match dice.below(4) {
-                0 => SUPPLY_CLAUSES + dice.index(CLAUSES.len() - SUPPLY_CLAUSES),
+            let clause = match dice.below(5) {
+                0 => SUPPLY_CLAUSES + dice.index(SHARED_CLAUSE - SUPPLY_CLAUSES),
+                1 => SHARED_CLAUSE,
                 _ => dice.index(CLAUSES.len()),
             };
             pair.counts.reached.add_clause(clause);
-            Start::Words(state::encode(&author.broken(clause)).to_vec())
+            Start::of(&author.broken(clause))
         }
-        _ => Start::Words(damaged(&mut dice, state::encode(&author.device()))),
+        _ => {
+            let mut device = author.device();
+            // Beside words that are of no device, too.
+            if dice.percent(20) {
+                device.counts.main[0][0] = dice.pick(&[1, 65_535]);
+            }
+            Start::Words(damaged(&mut dice, state::encode(&device)), device.counts)
+        }
     };
     let mut left = length(&mut dice, pair.is_full());
     pair.begin(start, dice.next())?;

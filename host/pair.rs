@@ -1,14 +1,15 @@
 //! The library and the second model side by side, on one part. Both get the
-//! same state, the same array and the same numbers; after each call of m58_run
-//! everything that the call could have changed is compared.
+//! same state, the same erase counts, the same array and the same numbers; after each
+//! call of m58_run everything that the call could have changed is compared.
 
-use crate::author::Dice;
+use crate::author::{self, Dice};
 use crate::kinds::{self, Glance, Reached, Watch};
-use crate::library;
+use crate::library::{self, Asked};
 use crate::second::journal::Recorder;
-use crate::second::model::{Device, Operation, Part};
+use crate::second::model::{Device, EraseCounts, Operation, Part, BLOCKS};
 use crate::second::steps::Step;
 use crate::state;
+use crate::wear::{self, Lent, Wrong};
 
 /// Cells kept on both sides of borrowed memory, so that a write outside is seen.
 const MARGIN: usize = 16;
@@ -150,7 +151,14 @@ pub enum Fate {
 #[derive(Clone)]
 pub enum Start {
     PowerUp,
-    Words(Vec<u64>),
+    Words(Vec<u64>, EraseCounts),
+}
+
+impl Start {
+    /// The state words and the counts of a device.
+    pub fn of(device: &Device) -> Start {
+        Start::Words(state::encode(device).to_vec(), device.counts)
+    }
 }
 
 pub struct Pair {
@@ -162,6 +170,7 @@ pub struct Pair {
     /// The library's side.
     state: Borrowed<u64>,
     state_count: usize,
+    lent: Lent,
     array: Borrowed<u16>,
     /// The second model's side; no device where the state words are of none.
     device: Option<Device>,
@@ -171,6 +180,10 @@ pub struct Pair {
     /// the array that the library was told of.
     history: Vec<(u64, usize)>,
     watch: Watch,
+    /// Whether a list is played, and not a state tried.
+    in_list: bool,
+    /// The number whose erases are asked for after the next call.
+    asked: u32,
     pub counts: Counts,
 }
 
@@ -185,12 +198,15 @@ impl Pair {
             start_array: vec![0; words],
             state: Borrowed::new(0, UNTOUCHED),
             state_count: 0,
+            lent: Lent::untouched(),
             array: Borrowed::new(words, margin),
             device: None,
             model_array: Borrowed::new(words, margin),
             recorder: None,
             history: Vec::new(),
             watch: Watch::default(),
+            in_list: false,
+            asked: 0,
             counts: Counts::default(),
         }
     }
@@ -220,10 +236,9 @@ impl Pair {
     pub fn begin(&mut self, start: Start, array_seed: u64) -> Result<(), Difference> {
         self.array_seed = array_seed;
         fill(&mut self.start_array, array_seed);
-        if let Start::Words(words) = &start {
-            if let Some(device) = state::decode(words) {
-                kinds::note_state(&mut self.counts.reached, &device);
-            }
+        if let Start::Words(words, counts) = &start {
+            let device = state::decode(words, counts);
+            kinds::note_state(&mut self.counts.reached, device.as_ref(), counts);
         }
         let words = self.start_array.len();
         self.model_array
@@ -231,6 +246,7 @@ impl Pair {
             .copy_from_slice(&self.start_array);
         self.array.first(words).copy_from_slice(&self.start_array);
         self.counts.lists += 1;
+        self.in_list = true;
         self.begin_again(start)
     }
 
@@ -238,6 +254,7 @@ impl Pair {
     /// would need a copy of that array.
     pub fn begin_on_same_array(&mut self, start: Start) -> Result<(), Difference> {
         self.counts.states += 1;
+        self.in_list = false;
         let begun = self.begin_again(start);
         self.recorder = None;
         begun
@@ -254,11 +271,15 @@ impl Pair {
                 self.recorder = Some(Recorder::new(part));
                 self.state_count = library::STATE_WORDS;
                 self.state = Borrowed::new(self.state_count, UNTOUCHED);
-                let given = library::power_up(part, self.state.first(self.state_count));
+                self.lent = Lent::untouched();
+                let state = self.state.first(self.state_count);
+                let given =
+                    library::power_up(part, state, &mut self.lent.main, &mut self.lent.small);
                 same("what m58_power_up returns", 0, 1, u64::from(given))?;
             }
-            Start::Words(words) => {
-                self.device = state::decode(words);
+            Start::Words(words, counts) => {
+                self.device = state::decode(words, counts);
+                self.lent = Lent::of(counts);
                 self.recorder = None;
                 self.state_count = words.len();
                 self.state = Borrowed::new(words.len(), UNTOUCHED);
@@ -326,6 +347,7 @@ impl Pair {
         let numbers = call.numbers.clone();
         let played = library::run(
             self.state.first(self.state_count),
+            (&mut self.lent.main, &mut self.lent.small),
             &numbers,
             answers.first(call.room),
             self.array.first(call.length),
@@ -381,9 +403,11 @@ impl Pair {
     pub fn finish(&mut self) -> Result<(), Difference> {
         let last = self.history.len().max(1) - 1;
         self.check_array(last)?;
+        self.check_erases()?;
         let Some(recorder) = self.recorder.take() else {
             return Ok(());
         };
+        self.check_finished(last, &recorder)?;
         self.counts.journals += 1;
         recorder.apply_to(&mut self.start_array);
         let words = self.start_array.len();
@@ -462,7 +486,7 @@ impl Pair {
         let expected = match (&self.device, &self.start) {
             (Some(device), _) => state::encode(device).to_vec(),
             // No device: the state stays as it was handed over.
-            (None, Start::Words(words)) => words.clone(),
+            (None, Start::Words(words, _)) => words.clone(),
             (None, Start::PowerUp) => unreachable!("power-up gives a device"),
         };
         let margin = [UNTOUCHED; MARGIN];
@@ -478,11 +502,13 @@ impl Pair {
                 });
             }
         }
+        self.check_counts(step)?;
         let expected = match &self.device {
             Some(device) => library::unprotected_report(device.unprotected_report()),
             None => library::refused(2),
         };
-        let got = library::report(self.state.first(self.state_count));
+        let asked = asked(&mut self.state, self.state_count, &self.lent);
+        let got = asked.report();
         if expected != got {
             let text = |report: u64| {
                 format!(
@@ -498,6 +524,78 @@ impl Pair {
                 expected: text(expected),
                 got: text(got),
             });
+        }
+        Ok(())
+    }
+
+    /// The erase counts, what lies around them, and the reports of them: the most worn
+    /// block, its count, and in turn the count of each block.
+    fn check_counts(&mut self, step: usize) -> Result<(), Difference> {
+        let due = match (&self.device, &self.start) {
+            (Some(device), _) => &device.counts,
+            (None, Start::Words(_, counts)) => counts,
+            (None, Start::PowerUp) => unreachable!("power-up gives a device"),
+        };
+        if let Some((what, due, got)) = self.lent.difference(due) {
+            return Err(Difference {
+                step,
+                what: format!("{what} after the step"),
+                expected: due.to_string(),
+                got: got.to_string(),
+            });
+        }
+        self.asked = (self.asked + 1) % (BLOCKS as u32 + 2);
+        let block = self.asked;
+        self.check_reports(step, |asked, device| {
+            wear::check_most_worn(asked, device)?;
+            wear::check_erases(asked, device, block)
+        })?;
+        if self.in_list {
+            if let Some(device) = &self.device {
+                kinds::note_reports(&mut self.counts.reached, device);
+            }
+        }
+        Ok(())
+    }
+
+    /// Reports of the erase counts.
+    fn check_reports(
+        &mut self,
+        step: usize,
+        check: impl Fn(Asked, Option<&Device>) -> Result<(), Wrong>,
+    ) -> Result<(), Difference> {
+        let asked = asked(&mut self.state, self.state_count, &self.lent);
+        check(asked, self.device.as_ref()).map_err(|(what, due, got)| {
+            let text = |report: u64| {
+                let (count, block) = (report as u32 >> 16, report & 0xFFFF);
+                format!("{report:X}h (refusal {}, {count}, {block})", report >> 32)
+            };
+            Difference {
+                step,
+                what: format!("{what} after the step"),
+                expected: text(due),
+                got: text(got),
+            }
+        })
+    }
+
+    /// The count of every block.
+    pub fn check_erases(&mut self) -> Result<(), Difference> {
+        let last = self.history.len().max(1) - 1;
+        self.check_reports(last, wear::check_all_erases)
+    }
+
+    /// "each count is the lesser of 65,535 and the number of finished erases of that
+    /// block in the journal" (document 02, item 6).
+    fn check_finished(&self, step: usize, recorder: &Recorder) -> Result<(), Difference> {
+        for block in 0..BLOCKS as u32 {
+            let due = recorder.finished_erases(block).min(65_535);
+            let got = match author::wear::place(block).expect("a block") {
+                (Some(row), place) => self.lent.main[row][place],
+                (None, place) => self.lent.small[place],
+            };
+            let what = format!("finished erases of block {block}, against the journal");
+            same(&what, step, due, u64::from(got))?;
         }
         Ok(())
     }
@@ -568,6 +666,15 @@ impl Counts {
             (Step::Supply(false), Some(_), _) => self.supply_cuts += 1,
             _ => {}
         }
+    }
+}
+
+/// The library's state and counts, for a report.
+fn asked<'a>(state: &'a mut Borrowed<u64>, count: usize, lent: &'a Lent) -> Asked<'a> {
+    Asked {
+        state: Some(state.first(count)),
+        main: &lent.main,
+        small: &lent.small,
     }
 }
 

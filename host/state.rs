@@ -1,6 +1,7 @@
 //! The 25 state words that the library hands over, written from the second
 //! model's device and read back into one. Nothing of the library is used, so
-//! any state can be built, also one that no list of steps reaches.
+//! any state can be built, also one that no list of steps reaches. The erase counts
+//! lie beside the words.
 //!
 //! | words    | what they hold                                              |
 //! |----------|-------------------------------------------------------------|
@@ -30,7 +31,8 @@
 
 use crate::library::STATE_WORDS;
 use crate::second::model::{
-    Device, Erase, Flags, Mode, Operation, Part, Program, Setup, BANKS, BLOCKS, BUFFER_WORDS,
+    Device, Erase, EraseCounts, Flags, Mode, Operation, Part, Program, Setup, BANKS, BLOCKS,
+    BUFFER_WORDS,
 };
 
 pub type Words = [u64; STATE_WORDS];
@@ -182,10 +184,10 @@ fn program_words(buffer: u32, program: Program) -> [u32; 4] {
     }
 }
 
-/// The device of some state words, well formed or not; none where the words are
-/// those of no device at all: another count than 25, a number that stands for
-/// nothing or is too great, or an unused number that is not 0.
-pub fn decode(words: &[u64]) -> Option<Device> {
+/// The device of some state words with its erase counts, well formed or not; none
+/// where the words are those of no device at all: another count than 25, a number that
+/// stands for nothing or is too great, or an unused number that is not 0.
+pub fn decode(words: &[u64], counts: &EraseCounts) -> Option<Device> {
     let words: &Words = words.try_into().ok()?;
     let is = |place: usize| on(flag(place).of(words));
     Some(Device {
@@ -216,6 +218,7 @@ pub fn decode(words: &[u64]) -> Option<Device> {
         configuration: CONFIGURATION.of(words) as u16,
         supply: on(SUPPLY.of(words))?,
         buffer: buffer(words),
+        counts: *counts,
     })
 }
 

@@ -46,7 +46,7 @@ impl Author {
         ON
     }
 
-    fn plan_writes(&mut self, block: u32, commands: &[u16]) {
+    pub(super) fn plan_writes(&mut self, block: u32, commands: &[u16]) {
         for &command in commands {
             let step = Step::Write(self.address_in(block), self.dressed(command));
             self.scene.push_back(step);

@@ -1,6 +1,6 @@
 //! Random states to begin from: well formed, or with one clause broken of what
 //! the rule of well-formed states says of the write buffer, of the configuration
-//! register and of the supply.
+//! register, of the supply and of the erase counts.
 
 use super::{some_block, Author};
 use crate::second::model::{
@@ -9,7 +9,7 @@ use crate::second::model::{
 };
 
 /// The clauses that `Author::broken` breaks.
-pub const CLAUSES: [&str; 27] = [
+pub const CLAUSES: [&str; 28] = [
     "a load beside a running operation",
     "a load beside a suspended program",
     "a load of a block that the part has not",
@@ -37,10 +37,14 @@ pub const CLAUSES: [&str; 27] = [
     "an erase that runs without supply",
     "a program that runs beside a suspended erase without supply",
     "a buffer program that runs beside a suspended erase without supply",
+    "an erase count in the place that the small blocks share",
 ];
 
 /// The first of those that say that something runs without supply.
 pub const SUPPLY_CLAUSES: usize = 22;
+
+/// The one of the erase counts (document 02, item 6).
+pub const SHARED_CLAUSE: usize = 27;
 
 /// Numbers of words that the buffer has not.
 const TOO_MANY: [u32; 5] = [33, 34, 64, 1 << 16, u32::MAX];
@@ -49,8 +53,9 @@ impl Author {
     /// A well-formed device, mostly one that no short list reaches.
     pub fn device(&mut self) -> Device {
         let mut device = self.idle_device();
-        let scene = self.dice.below(11);
-        // Scenes 5 to 9 have a suspended erase, and a program only beside it.
+        let scene = self.dice.below(13);
+        // Scenes 5 to 9 have a suspended erase, and a program only beside it; 3, 11 and
+        // 12 a running one, which may be about to end.
         if (5..10).contains(&scene) {
             device.suspended_erase = Some(self.erase());
         }
@@ -68,12 +73,13 @@ impl Author {
             }
             1 => device.setup = Some(Setup::Erase),
             2 | 6 | 7 => device.running = Some(Operation::Program(program)),
-            3 => device.running = Some(Operation::Erase(self.erase())),
+            3 | 11 | 12 => device.running = Some(Operation::Erase(self.erase())),
             4 | 8 => device.suspended_program = Some(program),
             _ => {}
         }
         self.fill_buffer(&mut device);
         supply_what_runs(&mut device);
+        device.counts = self.erase_counts(&device);
         device
     }
 
@@ -85,12 +91,22 @@ impl Author {
             8..16 => self.break_program(clause - 8, &mut device),
             16..18 => device = self.break_spare(clause - 16, device),
             18..SUPPLY_CLAUSES => return self.break_register(clause - 18),
+            SHARED_CLAUSE => return self.break_counts(),
             _ => return self.break_supply(clause - SUPPLY_CLAUSES),
         }
         if clause < 16 {
             self.fill_buffer(&mut device);
         }
         supply_what_runs(&mut device);
+        device.counts = self.erase_counts(&device);
+        device
+    }
+
+    /// Any device but for the shared place, which is not 0.
+    fn break_counts(&mut self) -> Device {
+        let mut device = self.device();
+        let other = 1 + self.dice.below(65_535) as u16;
+        device.counts.main[0][0] = self.dice.pick(&[1, 0x0100, 0x8000, 65_535, other]);
         device
     }
 
