@@ -1,11 +1,13 @@
 /*
  * Checks what m58.h says of its macros, of state words that are those of no
- * device, of the write buffer, of the configuration register, of the supply, and
- * of Intel HEX text. Prints one line; ends with 1 where something is otherwise.
+ * device, of the write buffer, of the configuration register, of the supply, of the
+ * erase counts, and of Intel HEX text. Prints one line; ends with 1 where something is
+ * otherwise.
  *
  * To build:  cc header_checks.c libm58.a
  */
 #include <inttypes.h>
+#include <stdalign.h>
 #include <stdio.h>
 #include <stdlib.h>
 #include <string.h>
@@ -78,6 +80,54 @@ static void check_clamping(void)
 
 static uint16_t *array;
 
+/* The erase counts that every call is lent, as rows and words apart, with cells around them. */
+enum { AROUND = 8, UNTOUCHED = 0xA5A5 };
+static struct {
+    uint16_t before[AROUND];
+    m58_row main[M58_ROWS];
+    uint16_t between[AROUND], small[M58_SMALL_BLOCKS], after[AROUND];
+} lent;
+
+static void fill_around(void)
+{
+    for (size_t i = 0; i < AROUND; i++)
+        lent.before[i] = lent.between[i] = lent.after[i] = UNTOUCHED;
+}
+
+static uint64_t touched_around(void)
+{
+    uint64_t touched = 0;
+    for (size_t i = 0; i < AROUND; i++)
+        touched += (lent.before[i] != UNTOUCHED) + (lent.between[i] != UNTOUCHED) + (lent.after[i] != UNTOUCHED);
+    return touched;
+}
+
+static uint32_t power_up(uint32_t part, uint64_t *state, size_t state_count)
+{
+    return m58_power_up(part, state, state_count, lent.main, lent.small);
+}
+
+static size_t run(uint64_t *state, size_t state_count, const uint64_t *steps, size_t step_count,
+                  uint64_t *answers, size_t answer_count, uint16_t *words, size_t word_count)
+{
+    return m58_run(state, state_count, lent.main, lent.small, steps, step_count, answers, answer_count, words, word_count);
+}
+
+static uint64_t report(const uint64_t *state, size_t state_count)
+{
+    return m58_report(state, state_count, lent.main, lent.small);
+}
+
+static uint64_t most_worn(const uint64_t *state)
+{
+    return m58_most_worn(state, M58_STATE_WORDS, lent.main, lent.small);
+}
+
+static uint64_t erases(const uint64_t *state, uint32_t block)
+{
+    return m58_erase_count(state, M58_STATE_WORDS, lent.main, lent.small, block);
+}
+
 /* The array words of a part. */
 static size_t words_of(uint32_t part)
 {
@@ -103,7 +153,7 @@ static size_t other_words(size_t words, uint16_t word)
 static uint64_t refusal(uint64_t *state, size_t state_count, uint64_t step, size_t words)
 {
     uint64_t answer = UINT64_MAX;
-    size_t played = m58_run(state, state_count, &step, 1, &answer, 1, array, words);
+    size_t played = run(state, state_count, &step, 1, &answer, 1, array, words);
     same("steps played", 1, played);
     return M58_ANSWER_REFUSAL(answer);
 }
@@ -111,7 +161,7 @@ static uint64_t refusal(uint64_t *state, size_t state_count, uint64_t step, size
 static void check_refusals(void)
 {
     uint64_t state[M58_STATE_WORDS];
-    same("power-up", 1, m58_power_up(M58_BENCH_TOP, state, M58_STATE_WORDS));
+    same("power-up", 1, power_up(M58_BENCH_TOP, state, M58_STATE_WORDS));
     SAME(M58_REFUSED_ADDRESS, refusal(state, M58_STATE_WORDS, constant[6], M58_BENCH_WORDS));
     SAME(M58_REFUSED_ADDRESS, refusal(state, M58_STATE_WORDS, M58_WRITE(-1, 0x40), M58_BENCH_WORDS));
     SAME(M58_REFUSED_COUNT, refusal(state, M58_STATE_WORDS, constant[7], M58_BENCH_WORDS));
@@ -127,11 +177,11 @@ static void check_refusals(void)
     for (uint64_t part = 0; part < M58_PARTS; part++) {
         size_t own = words_of((uint32_t)part);
         size_t other = own == M58_FULL_WORDS ? M58_BENCH_WORDS : M58_FULL_WORDS;
-        same("power-up", 1, m58_power_up((uint32_t)part, state, M58_STATE_WORDS));
+        same("power-up", 1, power_up((uint32_t)part, state, M58_STATE_WORDS));
         SAME(M58_REFUSED_STATE, refusal(state, M58_STATE_WORDS - 1, M58_RESET, own));
         SAME(M58_REFUSED_ARRAY, refusal(state, M58_STATE_WORDS - 1, M58_RESET, other));
         SAME(M58_REFUSED_STATE, refusal(state, 1, M58_RESET, own));
-        SAME((uint64_t)M58_REFUSED_STATE << 32, m58_report(state, M58_STATE_WORDS - 1));
+        SAME((uint64_t)M58_REFUSED_STATE << 32, report(state, M58_STATE_WORDS - 1));
     }
     /* no state words at all: a full bottom part */
     SAME(M58_REFUSED_STATE, refusal(NULL, 0, M58_RESET, M58_FULL_WORDS));
@@ -142,7 +192,7 @@ static void check_refusals(void)
 static uint64_t played(uint64_t *state, uint64_t step)
 {
     uint64_t answer = UINT64_MAX;
-    size_t count = m58_run(state, M58_STATE_WORDS, &step, 1, &answer, 1, array, M58_BENCH_WORDS);
+    size_t count = run(state, M58_STATE_WORDS, &step, 1, &answer, 1, array, M58_BENCH_WORDS);
     same("steps played", 1, count);
     same("refusal", M58_REFUSED_NOTHING, M58_ANSWER_REFUSAL(answer));
     return M58_ANSWER_VALUE(answer);
@@ -152,7 +202,7 @@ static uint64_t played(uint64_t *state, uint64_t step)
 static void check_buffer(void)
 {
     uint64_t state[M58_STATE_WORDS];
-    same("power-up", 1, m58_power_up(M58_BENCH_BOTTOM, state, M58_STATE_WORDS));
+    same("power-up", 1, power_up(M58_BENCH_BOTTOM, state, M58_STATE_WORDS));
     fill_array(M58_BENCH_WORDS, 0xFFFF);
     played(state, M58_SUPPLY(1));
     played(state, M58_WRITE(0x40, 0x60));
@@ -193,14 +243,14 @@ enum { MOST_LINES = 16 };
 static void check_lines(const struct line *lines, size_t count)
 {
     uint64_t alone[M58_STATE_WORDS], together[M58_STATE_WORDS], steps[MOST_LINES], answers[MOST_LINES];
-    same("power-up", 1, m58_power_up(M58_BENCH_BOTTOM, alone, M58_STATE_WORDS));
+    same("power-up", 1, power_up(M58_BENCH_BOTTOM, alone, M58_STATE_WORDS));
     memcpy(together, alone, sizeof together);
     fill_array(M58_BENCH_WORDS, 0xFFFF);
     for (size_t i = 0; i < count; i++) {
         SAME(lines[i].value, played(alone, lines[i].step));
         steps[i] = lines[i].step;
     }
-    SAME(count, m58_run(together, M58_STATE_WORDS, steps, count, answers, count, array, M58_BENCH_WORDS));
+    SAME(count, run(together, M58_STATE_WORDS, steps, count, answers, count, array, M58_BENCH_WORDS));
     for (size_t i = 0; i < count; i++)
         SAME(lines[i].value, answers[i]);
     SAME(0, memcmp(alone, together, sizeof alone));
@@ -240,7 +290,7 @@ static uint64_t register_of(const uint64_t *state)
 /* The words of a part after power-up and one step, with another register. */
 static void power_up_with(uint64_t *state, uint32_t part, uint64_t step, uint64_t reg)
 {
-    same("power-up", 1, m58_power_up(part, state, M58_STATE_WORDS));
+    same("power-up", 1, power_up(part, state, M58_STATE_WORDS));
     SAME(M58_REFUSED_NOTHING, refusal(state, M58_STATE_WORDS, step, words_of(part)));
     SAME(REGISTER_DEFAULT, register_of(state));
     state[REGISTER_WORD] ^= (REGISTER_DEFAULT ^ reg) << REGISTER_BIT;
@@ -253,23 +303,30 @@ static const uint64_t kinds[] = {
 };
 enum { KINDS = sizeof kinds / sizeof kinds[0] };
 
-/* State words of a part that are not well formed: refused by each step, by a list of them and by the report, and all stays. */
+/* State words of a part that are not well formed, or a shared place that is not 0: refused by each step, by a list of them and by the reports, and all stays. */
 static void check_refused(uint32_t part, uint64_t *state)
 {
     const size_t own = words_of(part);
     const uint64_t due = (uint64_t)M58_REFUSED_STATE << 32;
     uint64_t before[M58_STATE_WORDS], answers[KINDS];
+    unsigned char counts[sizeof lent];
     memcpy(before, state, sizeof before);
+    memcpy(counts, &lent, sizeof lent);
     for (size_t i = 0; i < KINDS; i++) {
         SAME(M58_REFUSED_STATE, refusal(state, M58_STATE_WORDS, kinds[i], own));
         SAME(M58_REFUSED_ARRAY, refusal(state, M58_STATE_WORDS, kinds[i], own - 1));
         SAME(0, memcmp(before, state, sizeof before));
+        SAME(0, memcmp(counts, &lent, sizeof lent));
     }
-    SAME(KINDS, m58_run(state, M58_STATE_WORDS, kinds, KINDS, answers, KINDS, array, own));
+    SAME(KINDS, run(state, M58_STATE_WORDS, kinds, KINDS, answers, KINDS, array, own));
     for (size_t i = 0; i < KINDS; i++)
         SAME(due, answers[i]);
-    SAME(due, m58_report(state, M58_STATE_WORDS));
+    SAME(due, report(state, M58_STATE_WORDS));
+    SAME(due, most_worn(state));
+    for (uint32_t block = 0; block <= M58_BLOCKS; block++)
+        SAME(due, erases(state, block));
     SAME(0, memcmp(before, state, sizeof before));
+    SAME(0, memcmp(counts, &lent, sizeof lent));
 }
 
 /* State words with a reserved bit set. */
@@ -285,7 +342,7 @@ static void check_register_accepted(uint64_t reg)
 {
     uint64_t state[M58_STATE_WORDS];
     power_up_with(state, M58_BENCH_BOTTOM, M58_SUPPLY(0), reg);
-    SAME(M58_BLOCKS, m58_report(state, M58_STATE_WORDS));
+    SAME(M58_BLOCKS, report(state, M58_STATE_WORDS));
     played(state, M58_WRITE(0, 0x90));
     SAME(reg, played(state, M58_READ(5)));
     played(state, M58_SUPPLY(1));
@@ -327,17 +384,17 @@ static void check_drop(uint32_t part, const struct line *lines, size_t count, si
 {
     const size_t own = words_of(part);
     uint64_t alone[M58_STATE_WORDS], together[M58_STATE_WORDS], steps[MOST_DROPS], answers[MOST_DROPS];
-    same("power-up", 1, m58_power_up(part, alone, M58_STATE_WORDS));
+    same("power-up", 1, power_up(part, alone, M58_STATE_WORDS));
     memcpy(together, alone, sizeof together);
     fill_array(own, 0xFFFF);
     for (size_t i = 0; i < count; i++) {
         steps[i] = lines[i].step;
-        SAME(1, m58_run(alone, M58_STATE_WORDS, &steps[i], 1, &answers[i], 1, array, own));
+        SAME(1, run(alone, M58_STATE_WORDS, &steps[i], 1, &answers[i], 1, array, own));
         SAME(lines[i].value, answers[i]);
     }
     SAME(changed, other_words(own, 0xFFFF));
     fill_array(own, 0xFFFF);
-    SAME(count, m58_run(together, M58_STATE_WORDS, steps, count, answers, count, array, own));
+    SAME(count, run(together, M58_STATE_WORDS, steps, count, answers, count, array, own));
     for (size_t i = 0; i < count; i++)
         SAME(lines[i].value, answers[i]);
     SAME(changed, other_words(own, 0xFFFF));
@@ -413,7 +470,7 @@ static void run_operation(uint64_t *state, uint32_t part, unsigned operation)
         M58_WRITE(a, 0xE8), M58_WRITE(a, 1), M58_WRITE(a, 0xFFFF), M58_WRITE(a + 1, 0x0F0F), M58_WRITE(a, 0xD0), M58_WORK(1)
     };
     const uint64_t erase[] = { M58_WRITE(a, 0x20), M58_WRITE(a, 0xD0), M58_WORK(3) };
-    same("power-up", 1, m58_power_up(part, state, M58_STATE_WORDS));
+    same("power-up", 1, power_up(part, state, M58_STATE_WORDS));
     PLAY_LIST(state, part, ready);
     if (operation >= NESTED_PROGRAM)
         PLAY_LIST(state, part, outer);
@@ -431,7 +488,7 @@ static void check_running_without_supply(uint32_t part, unsigned operation)
     uint64_t state[M58_STATE_WORDS];
     run_operation(state, part, operation);
     SAME(1, state[SUPPLY_WORD] >> SUPPLY_BIT);
-    SAME(2, m58_report(state, M58_STATE_WORDS) >> 16);
+    SAME(2, report(state, M58_STATE_WORDS) >> 16);
     state[SUPPLY_WORD] ^= UINT64_C(1) << SUPPLY_BIT;
     check_refused(part, state);
 }
@@ -441,7 +498,7 @@ static uint64_t status_of(uint64_t *state, uint32_t part)
 {
     const uint64_t steps[] = { M58_WRITE(fourth[part], 0x70), M58_READ(fourth[part]) };
     uint64_t answers[2] = { 0, 0 };
-    SAME(2, m58_run(state, M58_STATE_WORDS, steps, 2, answers, 2, array, words_of(part)));
+    SAME(2, run(state, M58_STATE_WORDS, steps, 2, answers, 2, array, words_of(part)));
     return answers[1];
 }
 
@@ -472,7 +529,7 @@ static void check_suspended_without_supply(uint32_t part, unsigned operation)
     off[SUPPLY_WORD] ^= UINT64_C(1) << SUPPLY_BIT;
     SAME(M58_REFUSED_NOTHING, refusal(state, M58_STATE_WORDS, M58_SUPPLY(0), own));
     SAME(0, memcmp(state, off, sizeof off));
-    SAME(2, m58_report(off, M58_STATE_WORDS) >> 16);
+    SAME(2, report(off, M58_STATE_WORDS) >> 16);
     SAME(operation == ERASE ? 0xC0 : nested | 0x84, status_of(off, part));
     SAME(M58_REFUSED_NOTHING, refusal(off, M58_STATE_WORDS, resume, own));
     SAME(operation == ERASE ? 0xA8 : nested | 0x98, status_of(off, part));
@@ -497,6 +554,328 @@ static void check_supply(void)
         /* no program had its unit, and no second word of a load went in */
         SAME(0, other_words(words_of(part), 0xFFFF));
     }
+}
+
+/* ---- The erase counts (document 02, item 6) ---- */
+
+/* What main and small point to has no room between its elements. */
+static void check_layout(void)
+{
+    SAME(2 * M58_PLACES, sizeof(m58_row));
+    SAME(2 * (M58_ROWS * M58_PLACES + M58_SMALL_BLOCKS), sizeof(m58_counts));
+    SAME(0, offsetof(m58_counts, main));
+    SAME(2 * M58_ROWS * M58_PLACES, offsetof(m58_counts, small));
+    SAME(2, alignof(m58_row));
+    SAME(2, alignof(m58_counts));
+    const uint64_t worn = UINT64_C(0x00000002FFFF0102);
+    SAME(M58_REFUSED_STATE, M58_WORN_REFUSAL(worn));
+    SAME(M58_COUNT_LIMIT, M58_WORN_COUNT(worn));
+    SAME(258, M58_WORN_BLOCK(worn));
+    SAME(M58_REFUSED_STATE, M58_ERASES_REFUSAL(UINT64_C(0x000000020000FFFE)));
+    SAME(M58_COUNT_LIMIT - 1, M58_ERASES_COUNT(UINT64_C(0x000000020000FFFE)));
+}
+
+/* A step, what it answers, and the most worn block with its count after it. */
+struct worn_line {
+    uint64_t step, value;
+    uint32_t block, count;
+};
+
+enum { MOST_WORN_LINES = 32 };
+
+/* A list from power-up of a bench bottom part: a call for each step on the lent counts, and one call for all on one m58_counts. */
+static void check_worn(const struct worn_line *lines, size_t count)
+{
+    uint64_t alone[M58_STATE_WORDS], together[M58_STATE_WORDS], steps[MOST_WORN_LINES], answers[MOST_WORN_LINES];
+    m58_counts counts;
+    memset(&lent, 0xEE, sizeof lent);
+    memset(&counts, 0xEE, sizeof counts);
+    fill_around();
+    SAME(1, power_up(M58_BENCH_BOTTOM, alone, M58_STATE_WORDS));
+    SAME(0, most_worn(alone));
+    for (size_t i = 0; i < count; i++) {
+        SAME(lines[i].value, played(alone, lines[i].step));
+        SAME((uint64_t)lines[i].count << 16 | lines[i].block, most_worn(alone));
+        SAME(lines[i].count, erases(alone, lines[i].block));
+        steps[i] = lines[i].step;
+    }
+    SAME(1, m58_power_up(M58_BENCH_BOTTOM, together, M58_STATE_WORDS, counts.main, counts.small));
+    SAME(count, m58_run(together, M58_STATE_WORDS, counts.main, counts.small, steps, count, answers, count, array, M58_BENCH_WORDS));
+    for (size_t i = 0; i < count; i++)
+        SAME(lines[i].value, answers[i]);
+    SAME(0, memcmp(alone, together, sizeof alone));
+    SAME(0, memcmp(lent.main, counts.main, sizeof counts.main));
+    SAME(0, memcmp(lent.small, counts.small, sizeof counts.small));
+    SAME(0, touched_around());
+}
+#define CHECK_WORN(lines) check_worn(lines, sizeof lines / sizeof lines[0])
+
+/* A small and a main block: suspended it counts once, a reset keeps the counts, and an erase that it breaks off does not count. */
+static void check_worn_small_and_main(void)
+{
+    static const struct worn_line lines[] = {
+        { M58_SUPPLY(1), 0, 0, 0 },         { M58_WRITE(0x00, 0x60), 0, 0, 0 }, { M58_WRITE(0x00, 0xD0), 0, 0, 0 },
+        { M58_WRITE(0x40, 0x60), 0, 0, 0 }, { M58_WRITE(0x40, 0xD0), 0, 0, 0 }, { M58_WRITE(0x00, 0x20), 0, 0, 0 },
+        { M58_WRITE(0x00, 0xD0), 0, 0, 0 }, { M58_WORK(16), 16, 0, 1 },         { M58_WRITE(0x40, 0x20), 0, 0, 1 },
+        { M58_WRITE(0x40, 0xD0), 0, 0, 1 }, { M58_WORK(63), 63, 0, 1 },         { M58_WRITE(0x40, 0xB0), 0, 0, 1 },
+        { M58_WRITE(0x40, 0xD0), 0, 0, 1 }, { M58_WORK(1), 1, 0, 1 },           { M58_WRITE(0x40, 0x20), 0, 0, 1 },
+        { M58_WRITE(0x40, 0xD0), 0, 0, 1 }, { M58_WORK(64), 64, 4, 2 },         { M58_RESET, 0, 4, 2 },
+        { M58_WRITE(0x40, 0x60), 0, 4, 2 }, { M58_WRITE(0x40, 0xD0), 0, 4, 2 }, { M58_WRITE(0x40, 0x20), 0, 4, 2 },
+        { M58_WRITE(0x40, 0xD0), 0, 4, 2 }, { M58_WORK(10), 10, 4, 2 },         { M58_RESET, 0, 4, 2 },
+    };
+    CHECK_WORN(lines);
+}
+
+/* A tie of blocks 19 and 1; an erase that the supply cuts does not count. */
+static void check_worn_tie(void)
+{
+    static const struct worn_line lines[] = {
+        { M58_SUPPLY(1), 0, 0, 0 },           { M58_WRITE(0x400, 0x60), 0, 0, 0 },  { M58_WRITE(0x400, 0xD0), 0, 0, 0 },
+        { M58_WRITE(0x10, 0x60), 0, 0, 0 },   { M58_WRITE(0x10, 0xD0), 0, 0, 0 },   { M58_WRITE(0x400, 0x20), 0, 0, 0 },
+        { M58_WRITE(0x400, 0xD0), 0, 0, 0 },  { M58_WORK(64), 64, 19, 1 },          { M58_WRITE(0x10, 0x20), 0, 19, 1 },
+        { M58_WRITE(0x10, 0xD0), 0, 19, 1 },  { M58_WORK(16), 16, 1, 1 },           { M58_WRITE(0x400, 0x20), 0, 1, 1 },
+        { M58_WRITE(0x400, 0xD0), 0, 1, 1 },  { M58_WORK(30), 30, 1, 1 },           { M58_SUPPLY(0), 0, 1, 1 },
+        { M58_WORK(34), 0, 1, 1 },
+    };
+    CHECK_WORN(lines);
+}
+
+/* The lowest location and the words of a block, from the lookup. */
+static uint32_t start_of(uint32_t part, uint32_t block)
+{
+    const uint32_t step = (uint32_t)words_of(part) / 1024; /* of the words of a small block */
+    for (uint32_t at = 0; at < words_of(part); at += step)
+        if (m58_lookup_block(part, at) == block)
+            return at;
+    return 0;
+}
+
+static uint32_t size_of(uint32_t part, uint32_t block)
+{
+    return (uint32_t)words_of(part) / (block < M58_SMALL_BLOCKS ? 1024 : 256);
+}
+
+static void accept(uint64_t *state, uint32_t part, uint64_t step)
+{
+    SAME(M58_REFUSED_NOTHING, refusal(state, M58_STATE_WORDS, step, words_of(part)));
+}
+
+/* An erase of a block, all but the last word. */
+static void erase_but_one(uint64_t *state, uint32_t part, uint32_t block)
+{
+    const uint32_t at = start_of(part, block);
+    const uint64_t steps[] = {
+        M58_SUPPLY(1), M58_WRITE(at, 0x60), M58_WRITE(at, 0xD0), M58_WRITE(at, 0x20), M58_WRITE(at, 0xD0),
+        M58_WORK(size_of(part, block) - 1)
+    };
+    PLAY_LIST(state, part, steps);
+}
+
+/* Where a block's count lies. */
+static uint16_t *place_of(uint32_t block)
+{
+    return block < M58_SMALL_BLOCKS ? &lent.small[block] : &lent.main[(block - 3) / 16].place[(block - 3) % 16];
+}
+
+/* Each block is erased once: its count is 1, with its last word and not before, and no other place changes. */
+static void check_places(uint32_t part)
+{
+    uint64_t state[M58_STATE_WORDS];
+    unsigned char before[sizeof lent];
+    SAME(1, power_up(part, state, M58_STATE_WORDS));
+    for (uint32_t block = 0; block < M58_BLOCKS; block++) {
+        memcpy(before, &lent, sizeof lent);
+        SAME(0, erases(state, block));
+        erase_but_one(state, part, block);
+        SAME(0, memcmp(before, &lent, sizeof lent));
+        accept(state, part, M58_WORK(1));
+        SAME(1, erases(state, block));
+        SAME(1, *place_of(block));
+        *place_of(block) = 0;
+        SAME(0, memcmp(before, &lent, sizeof lent));
+        *place_of(block) = 1;
+    }
+    SAME(UINT64_C(1) << 16, most_worn(state));
+    SAME(0, lent.main[0].place[0]);
+    SAME(0, touched_around());
+    accept(state, part, M58_RESET);
+    for (uint32_t block = 0; block < M58_BLOCKS; block++)
+        SAME(1, erases(state, block));
+}
+
+/* The last word of a block's erase is due; it ends before that, and does not count. */
+static void check_broken_off(uint32_t part, uint32_t block)
+{
+    const uint32_t at = start_of(part, block);
+    const uint64_t suspend = M58_WRITE(at, 0xB0), resume = M58_WRITE(at, 0xD0);
+    const uint64_t ways[][6] = {
+        { M58_RESET, M58_WORK(1), M58_WORK(1), M58_WORK(1), M58_WORK(1), M58_WORK(1) },
+        { suspend, M58_WORK(1), M58_RESET, resume, M58_WORK(1), M58_WORK(1) },
+        { M58_SUPPLY(0), M58_WORK(1), M58_SUPPLY(1), resume, M58_WORK(1), M58_WORK(1) },
+        { suspend, M58_SUPPLY(0), resume, M58_SUPPLY(1), resume, M58_WORK(1) },
+    };
+    uint64_t state[M58_STATE_WORDS];
+    unsigned char before[sizeof lent];
+    SAME(1, power_up(part, state, M58_STATE_WORDS));
+    *place_of(block) = 7;
+    memcpy(before, &lent, sizeof lent);
+    for (size_t way = 0; way < sizeof ways / sizeof ways[0]; way++) {
+        erase_but_one(state, part, block);
+        PLAY_LIST(state, part, ways[way]);
+        SAME(0, memcmp(before, &lent, sizeof lent));
+    }
+    SAME(UINT64_C(7) << 16 | block, most_worn(state));
+}
+
+/* More finished erases of a block of 16 words than a count holds, many a call. */
+static void check_limit(void)
+{
+    enum { A_CALL = 64, CALLS = 1030 };
+    uint64_t state[M58_STATE_WORDS], steps[3 * A_CALL], answers[3 * A_CALL];
+    SAME(1, power_up(M58_BENCH_TOP, state, M58_STATE_WORDS));
+    const uint32_t at = start_of(M58_BENCH_TOP, 2);
+    const uint64_t ready[] = { M58_SUPPLY(1), M58_WRITE(at, 0x60), M58_WRITE(at, 0xD0) };
+    PLAY_LIST(state, M58_BENCH_TOP, ready);
+    for (size_t i = 0; i < 3 * A_CALL; i += 3) {
+        steps[i] = M58_WRITE(at, 0x20);
+        steps[i + 1] = M58_WRITE(at, 0xD0);
+        steps[i + 2] = M58_WORK(16);
+    }
+    for (uint32_t call = 1; call <= CALLS; call++) {
+        const uint32_t finished = call * A_CALL, due = finished < M58_COUNT_LIMIT ? finished : M58_COUNT_LIMIT;
+        SAME(3 * A_CALL, run(state, M58_STATE_WORDS, steps, 3 * A_CALL, answers, 3 * A_CALL, array, M58_BENCH_WORDS));
+        SAME(16, answers[3 * A_CALL - 1]);
+        SAME(due, erases(state, 2));
+        SAME((uint64_t)due << 16 | 2, most_worn(state));
+    }
+    /* and at the limit one by one, from counts that are handed in */
+    lent.small[2] = M58_COUNT_LIMIT - 2;
+    for (uint32_t i = 1; i < 5; i++) {
+        SAME(3, run(state, M58_STATE_WORDS, steps, 3, answers, 3, array, M58_BENCH_WORDS));
+        SAME(i == 1 ? M58_COUNT_LIMIT - 1 : M58_COUNT_LIMIT, lent.small[2]);
+    }
+    SAME(0, lent.small[1] + lent.small[3] + lent.main[0].place[0] + lent.main[0].place[1]);
+    SAME(0, touched_around());
+}
+
+/* Any counts are good; a main block at the limit stays there; the layout by examples. */
+static void check_handed_in(void)
+{
+    static const uint32_t cases[][3] = {
+        { 4, 0, 1 }, { 18, 0, 15 }, { 19, 1, 0 }, { 34, 1, 15 }, { 35, 2, 0 }, { 258, 15, 15 },
+    };
+    uint64_t state[M58_STATE_WORDS];
+    SAME(1, power_up(M58_BENCH_BOTTOM, state, M58_STATE_WORDS));
+    for (uint32_t block = M58_BLOCKS; block-- > 0;)
+        *place_of(block) = (uint16_t)(1000 + block);
+    for (size_t i = 0; i < sizeof cases / sizeof cases[0]; i++)
+        SAME(1000 + cases[i][0], lent.main[cases[i][1]].place[cases[i][2]]);
+    for (uint32_t block = 0; block < M58_BLOCKS; block++)
+        SAME(1000 + block, erases(state, block));
+    SAME(0, erases(state, M58_BLOCKS));
+    SAME(0, erases(state, UINT32_MAX));
+    SAME(UINT64_C(1258) << 16 | 258, most_worn(state));
+    for (uint32_t block = M58_BLOCKS; block-- > 0;) {
+        *place_of(block) = M58_COUNT_LIMIT; /* of equal counts the lowest block */
+        SAME((uint64_t)M58_COUNT_LIMIT << 16 | block, most_worn(state));
+    }
+    SAME(M58_BLOCKS, report(state, M58_STATE_WORDS));
+    erase_but_one(state, M58_BENCH_BOTTOM, 258);
+    accept(state, M58_BENCH_BOTTOM, M58_WORK(5));
+    accept(state, M58_BENCH_BOTTOM, M58_RESET);
+    for (uint32_t block = 0; block < M58_BLOCKS; block++)
+        SAME(M58_COUNT_LIMIT, *place_of(block));
+}
+
+/* The shared place is not 0, beside any device and with any other counts; at 0 again, all goes on. */
+static void check_shared(uint32_t part, unsigned operation)
+{
+    static const uint16_t wrong_ones[] = { 1, 0x100, 0x8000, M58_COUNT_LIMIT };
+    uint64_t state[M58_STATE_WORDS];
+    fill_array(words_of(part), 0x1234);
+    run_operation(state, part, operation);
+    lent.small[0] = lent.main[15].place[15] = 5;
+    array[fourth[part]] = array[fifth[part]] = 0x1234;
+    const size_t changed = other_words(words_of(part), 0x1234);
+    for (size_t i = 0; i < sizeof wrong_ones / sizeof wrong_ones[0]; i++) {
+        lent.main[0].place[0] = wrong_ones[i];
+        check_refused(part, state);
+        SAME(changed, other_words(words_of(part), 0x1234));
+    }
+    lent.main[0].place[0] = 0;
+    SAME(UINT64_C(5) << 16, most_worn(state));
+    accept(state, part, M58_RESET);
+    SAME(5, erases(state, 258));
+    /* words of no device: refused as ever, and the counts stay */
+    state[0] = M58_PARTS;
+    memset(lent.main, 0x5A, sizeof lent.main);
+    check_refused(M58_BENCH_TOP, state);
+}
+
+/* Power-up sets every count to 0, or leaves them all where it is refused. */
+static void check_power_up_counts(void)
+{
+    uint64_t state[M58_STATE_WORDS + 1];
+    unsigned char before[sizeof lent];
+    for (uint32_t part = 0; part < M58_PARTS; part++) {
+        memset(lent.main, 0xEE, sizeof lent.main);
+        memset(lent.small, 0xEE, sizeof lent.small);
+        memcpy(before, &lent, sizeof lent);
+        SAME(0, power_up(part + M58_PARTS, state, M58_STATE_WORDS));
+        SAME(0, power_up(part, state, M58_STATE_WORDS - 1));
+        SAME(0, power_up(part, state, M58_STATE_WORDS + 1));
+        SAME(0, power_up(part, NULL, 0));
+        SAME(0, memcmp(before, &lent, sizeof lent));
+        SAME(1, power_up(part, state, M58_STATE_WORDS));
+        uint64_t sum = 0;
+        for (size_t i = 0; i < M58_ROWS * M58_PLACES; i++)
+            sum += lent.main[i / M58_PLACES].place[i % M58_PLACES];
+        for (size_t i = 0; i < M58_SMALL_BLOCKS; i++)
+            sum += lent.small[i];
+        SAME(0, sum);
+        SAME(0, most_worn(state));
+        SAME(0, touched_around());
+    }
+}
+
+/* State words and counts that are copied together go on alike. */
+static void check_copied(void)
+{
+    uint64_t state[M58_STATE_WORDS], copied[M58_STATE_WORDS], answer;
+    const uint64_t last = M58_WORK(1);
+    m58_counts counts;
+    SAME(1, power_up(M58_BENCH_TOP, state, M58_STATE_WORDS));
+    lent.main[3].place[4] = 41;
+    erase_but_one(state, M58_BENCH_TOP, 3 * 16 + 4 + 3);
+    memcpy(copied, state, sizeof copied);
+    memcpy(counts.main, lent.main, sizeof counts.main);
+    memcpy(counts.small, lent.small, sizeof counts.small);
+    accept(state, M58_BENCH_TOP, last);
+    SAME(41, counts.main[3].place[4]);
+    SAME(1, m58_run(copied, M58_STATE_WORDS, counts.main, counts.small, &last, 1, &answer, 1, array, M58_BENCH_WORDS));
+    SAME(1, answer);
+    SAME(42, counts.main[3].place[4]);
+    SAME(0, memcmp(copied, state, sizeof copied));
+    SAME(0, memcmp(counts.main, lent.main, sizeof counts.main));
+    SAME(0, memcmp(counts.small, lent.small, sizeof counts.small));
+}
+
+static void check_erase_counts(void)
+{
+    check_layout();
+    check_worn_small_and_main();
+    check_worn_tie();
+    for (uint32_t part = 0; part < M58_PARTS; part++) {
+        check_places(part);
+        check_broken_off(part, 1);
+        check_broken_off(part, 100);
+        for (unsigned operation = 0; operation < OPERATIONS; operation++)
+            check_shared(part, operation);
+    }
+    check_limit();
+    check_handed_in();
+    check_power_up_counts();
+    check_copied();
 }
 
 /* ---- Intel HEX ---- */
@@ -641,6 +1020,7 @@ int main(void)
         fputs("header_checks: no memory for the array and the text\n", stderr);
         return 1;
     }
+    fill_around();
     check_encoding();
     check_clamping();
     check_refusals();
@@ -648,6 +1028,8 @@ int main(void)
     check_register_stored();
     check_register_states();
     check_supply();
+    SAME(0, touched_around());
+    check_erase_counts();
     check_hex_reading();
     check_hex_refusals();
     check_hex_lent();
