@@ -203,12 +203,19 @@ impl Author {
             return Step::Work(self.count(lacking(device)));
         }
         if idle(device) && self.dice.percent(7) {
-            return match self.dice.below(7) {
-                0..=3 => self.begin_scene(),
-                _ => self.begin_wear_scene(),
-            };
+            return self.begin_scene();
         }
         self.fitting_command(device)
+    }
+
+    /// Draws the steps of a scene, which come one after another; gives the first.
+    fn begin_scene(&mut self) -> Step {
+        self.scene.clear();
+        match self.dice.below(7) {
+            0..=3 => self.plan_supply_scene(),
+            _ => self.plan_wear_scene(),
+        }
+        Step::Supply(true)
     }
 
     fn fitting_command(&mut self, device: &Device) -> Step {

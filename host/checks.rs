@@ -165,7 +165,12 @@ pub fn check_null(pair: &mut Pair) -> Checked {
         }
         counts::same_lent(&check, Some(&device.counts), &lent)?;
     }
-    let lent = Lent::of(&device.counts);
+    reports_of_nothing(&device.counts)
+}
+
+/// The reports of a null pointer with the count 0.
+fn reports_of_nothing(counts: &EraseCounts) -> Checked {
+    let lent = Lent::of(counts);
     let nothing = Asked {
         state: None,
         main: &lent.main,
@@ -273,13 +278,7 @@ fn probe_with(
 pub fn check_malformed(pair: &mut Pair) -> Result<usize, Failure> {
     let part = pair.part();
     let good = part.array_length();
-    let mut states: Vec<(String, Words, EraseCounts)> = Vec::new();
-    for (place, (name, words)) in malformed(part).into_iter().enumerate() {
-        let counts = counts::VARIED[place % counts::VARIED.len()];
-        states.push((name, words, counts()));
-    }
-    states.extend(broken_clauses(part));
-    states.extend(counts::malformed(part));
+    let states = all_malformed(part);
     for (name, words, counts) in &states {
         let check = format!("{name}, on part {}", part.number());
         let fail = |difference| Failure {
@@ -311,6 +310,18 @@ pub fn check_malformed(pair: &mut Pair) -> Result<usize, Failure> {
         difference,
     })?;
     Ok(states.len())
+}
+
+/// Each with erase counts, which are refused with it or are why it is refused.
+fn all_malformed(part: Part) -> Vec<(String, Words, EraseCounts)> {
+    let mut states = Vec::new();
+    for (place, (name, words)) in malformed(part).into_iter().enumerate() {
+        let counts = counts::VARIED[place % counts::VARIED.len()];
+        states.push((name, words, counts()));
+    }
+    states.extend(broken_clauses(part));
+    states.extend(counts::malformed(part));
+    states
 }
 
 fn malformed(part: Part) -> Vec<(String, Words)> {

@@ -303,7 +303,7 @@ static const uint64_t kinds[] = {
 };
 enum { KINDS = sizeof kinds / sizeof kinds[0] };
 
-/* State words of a part that are not well formed, or a shared place that is not 0: refused by each step, by a list of them and by the reports, and all stays. */
+/* State words of a part that are not well formed, or a shared place that is not 0: refused by each step, by a list and by the reports, and all stays. */
 static void check_refused(uint32_t part, uint64_t *state)
 {
     const size_t own = words_of(part);

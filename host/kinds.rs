@@ -446,12 +446,7 @@ impl Watch {
         after: &Device,
     ) {
         if answer.refusal != 0 {
-            let write = matches!(step, Step::Write(..));
-            reached.add_if(write && before.load().is_some(), Kind::LoadRefused);
-            if answer.refusal == 2 {
-                drops::note_refused(reached, step, after);
-            }
-            wear::note_refused(reached, step, answer.refusal, after);
+            note_refused(reached, before, step, answer.refusal, after);
             return;
         }
         if let Step::Read(address) = step {
@@ -631,6 +626,15 @@ fn block_of(device: &Device, load: Setup) -> Option<u32> {
         Setup::LoadNext { start, .. } => Some(device.part.place(start)?.block),
         Setup::Program | Setup::Erase | Setup::Lock => None,
     }
+}
+
+fn note_refused(reached: &mut Reached, before: &Glance, step: Step, refusal: u8, after: &Device) {
+    let write = matches!(step, Step::Write(..));
+    reached.add_if(write && before.load().is_some(), Kind::LoadRefused);
+    if refusal == 2 {
+        drops::note_refused(reached, step, after);
+    }
+    wear::note_refused(reached, step, refusal, after);
 }
 
 /// A load that came to nothing: at a wrong cycle, or refused at D0h.

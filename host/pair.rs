@@ -353,6 +353,31 @@ impl Pair {
             self.array.first(call.length),
         );
         // Answers first: the first wrong one tells most.
+        self.check_answers(&call, &answers)?;
+        let due = call.expected.len() as u64;
+        same(
+            "steps that m58_run says it played",
+            last,
+            due,
+            played as u64,
+        )?;
+        if numbers != call.numbers {
+            return Err(Difference {
+                step: last,
+                what: "the list of steps, which m58_run may not change".to_string(),
+                expected: format!("{:X?}", call.numbers),
+                got: format!("{numbers:X?}"),
+            });
+        }
+        self.check_state(last)?;
+        if whole {
+            self.check_array(last)?;
+        }
+        Ok(())
+    }
+
+    /// The answers, and those that no step has, which stay as they were.
+    fn check_answers(&mut self, call: &Call, answers: &Borrowed<u64>) -> Result<(), Difference> {
         let mut expected = Borrowed::new(call.room, UNTOUCHED);
         expected
             .first(call.expected.len())
@@ -375,25 +400,6 @@ impl Pair {
                     got: answer_text(got),
                 });
             }
-        }
-        let due = call.expected.len() as u64;
-        same(
-            "steps that m58_run says it played",
-            last,
-            due,
-            played as u64,
-        )?;
-        if numbers != call.numbers {
-            return Err(Difference {
-                step: last,
-                what: "the list of steps, which m58_run may not change".to_string(),
-                expected: format!("{:X?}", call.numbers),
-                got: format!("{numbers:X?}"),
-            });
-        }
-        self.check_state(last)?;
-        if whole {
-            self.check_array(last)?;
         }
         Ok(())
     }
@@ -423,7 +429,11 @@ impl Pair {
             });
         }
         self.counts.words += words as u64;
-        // The recorder also holds the unprotected blocks and the supply.
+        self.check_recorder(last, &recorder)
+    }
+
+    /// The recorder also holds the unprotected blocks and the supply.
+    fn check_recorder(&self, last: usize, recorder: &Recorder) -> Result<(), Difference> {
         if let Some(device) = &self.device {
             let pairs = [
                 (
@@ -481,7 +491,7 @@ impl Pair {
         self.finish()
     }
 
-    /// The state words, their margins and the report of unprotected blocks.
+    /// The state words, their margins, the erase counts and the reports.
     fn check_state(&mut self, step: usize) -> Result<(), Difference> {
         let expected = match (&self.device, &self.start) {
             (Some(device), _) => state::encode(device).to_vec(),
@@ -503,6 +513,11 @@ impl Pair {
             }
         }
         self.check_counts(step)?;
+        self.check_report(step)
+    }
+
+    /// The report of unprotected blocks.
+    fn check_report(&mut self, step: usize) -> Result<(), Difference> {
         let expected = match &self.device {
             Some(device) => library::unprotected_report(device.unprotected_report()),
             None => library::refused(2),

@@ -8,9 +8,8 @@ use crate::second::model::{Device, EraseCounts, BLOCKS};
 /// What lies around the counts, and in them before power-up.
 const UNTOUCHED: u16 = 0xA5A5;
 
-/// Numbers that are no block: just past the last, and those that a narrower number or a
-/// product of 16 would bring round to one.
-const NO_BLOCKS: [u32; 6] = [259, 260, 1 << 8 | 3, 1 << 16, 1 << 28 | 4, u32::MAX];
+/// Numbers that are no block: past the last, and those that are one in fewer bits.
+const NO_BLOCKS: [u32; 7] = [259, 260, 274, 1 << 16, 1 << 16 | 4, 1 << 28 | 4, u32::MAX];
 
 /// The lent memory, in this order, so that a write outside is seen.
 #[repr(C)]

@@ -19,9 +19,9 @@ struct Words {
 }
 
 impl Author {
-    /// Draws the steps of a scene, which come one after another; gives the first.
-    pub(super) fn begin_scene(&mut self) -> Step {
-        self.scene.clear();
+    /// With supply on, a drop of it over something in a block, now and then beside the
+    /// suspended erase of another.
+    pub(super) fn plan_supply_scene(&mut self) {
         let number = self.usual_block();
         let further = 1 + self.dice.below(BLOCKS as u64 - 1) as u32;
         let other = (number + further) % BLOCKS as u32;
@@ -43,7 +43,6 @@ impl Author {
         if let Some(words) = erased {
             self.plan_looks(other, words);
         }
-        ON
     }
 
     pub(super) fn plan_writes(&mut self, block: u32, commands: &[u16]) {

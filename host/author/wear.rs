@@ -61,9 +61,8 @@ impl Author {
         counts
     }
 
-    /// Draws the steps of a scene with one block erased some times; gives the first.
-    pub(super) fn begin_wear_scene(&mut self) -> Step {
-        self.scene.clear();
+    /// With supply on, one block erased some times.
+    pub(super) fn plan_wear_scene(&mut self) {
         let number = match self.dice.below(3) {
             0 => self.usual_block(),
             _ => self.dice.below(BLOCKS as u64) as u32, // so that each block has its turn
@@ -75,7 +74,6 @@ impl Author {
                 break;
             }
         }
-        Step::Supply(true)
     }
 
     /// An erase, suspended and resumed some times, now and then with a program of another
