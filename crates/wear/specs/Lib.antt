@@ -6,3 +6,6 @@ pub mod Refused
 pub mod Held
 pub mod Claim
 pub mod Theorem
+pub mod CountCases
+pub mod WearCases
+pub mod ReportCases

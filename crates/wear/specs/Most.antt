@@ -79,3 +79,8 @@ most-first k m r = least-one 259 is m (least 259 is) (record { within = omega (a
     no : (b : Bool) → eqb (countOf k m) (greatest 259 (countOf k)) ≡ b → _≡_ {A = ℕ} (cond b 1 0) 0 → ⊥
     no true e z = absurd (omega arith)
     no false e z = eqb-false (countOf k m) (greatest 259 (countOf k)) e (sym top-is)
+
+-- the block and the greatest count computed one after the other, as a table needs it: computed together the count is computed for each block anew
+pub most-by : (k : Counts) (n m : ℕ) → greatest 259 (countOf k) ≡ n → least 259 (λ b. cond (eqb (countOf k b) n) 1 0) ≡ m → mostWorn k ≡ m
+unfolding mostWorn
+most-by k n m e h = ap (λ (x : ℕ). least 259 (λ b. cond (eqb (countOf k b) x) 1 0)) e ∙ h
