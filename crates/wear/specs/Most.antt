@@ -2,7 +2,7 @@
 use Prim.Native.Nat.{ℕ, zero, suc, _≤_, _<_, max}
 use mathlib.Core.Bool.{Bool, true, false, cond}
 use mathlib.Core.Logic.{_⊎_, inl, inr, _≢_}
-use mathlib.Core.Path.{_≡_, refl, sym, ap, _∙_}
+use mathlib.Core.Path.{_≡_, refl, sym, ap, _∙_, subst}
 use native.Mathlib.Omega.{arith}
 use lib.Dec.{eqb}
 use borrow.Author.Tests.{eq-eqb, ne-eqb, eqb-true, eqb-false}
@@ -79,6 +79,26 @@ most-first k m r = least-one 259 is m (least 259 is) (record { within = omega (a
     no : (b : Bool) → eqb (countOf k m) (greatest 259 (countOf k)) ≡ b → _≡_ {A = ℕ} (cond b 1 0) 0 → ⊥
     no true e z = absurd (omega arith)
     no false e z = eqb-false (countOf k m) (greatest 259 (countOf k)) e (sym top-is)
+
+-- among any numbers there is a first of the greatest
+record Some (f : ℕ → ℕ) (n : ℕ) : Type 0 where
+  at : ℕ
+  first : First f n at
+
+some : (f : ℕ → ℕ) (n : ℕ) → Some f (suc n)
+some f zero = record { at = 0; first = first-one f }
+some f (suc n) = go (some f n)
+  where
+    go : Some f (suc n) → Some f (suc (suc n))
+    go r = by (order (f (r .at)) (f (suc n)))
+      where
+        by : (f (r .at) < f (suc n)) ⊎ (f (suc n) ≤ f (r .at)) → Some f (suc (suc n))
+        by (inl h) = record { at = suc n; first = first-new f (suc n) (r .at) (r .first) h }
+        by (inr h) = record { at = r .at; first = first-old f (suc n) (r .at) (r .first) h }
+
+-- and so the most worn block is a block, no block has a greater count, and every lower one has a lesser
+pub most-is : (k : Counts) → First (countOf k) 259 (mostWorn k)
+most-is k = let r = some (countOf k) 258 in subst (λ (m : ℕ). First (countOf k) 259 m) (most-first k (r .at) (r .first)) (r .first)
 
 -- the block and the greatest count computed one after the other, as a table needs it: computed together the count is computed for each block anew
 pub most-by : (k : Counts) (n m : ℕ) → greatest 259 (countOf k) ≡ n → least 259 (λ b. cond (eqb (countOf k b) n) 1 0) ≡ m → mostWorn k ≡ m

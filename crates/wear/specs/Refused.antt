@@ -1,16 +1,18 @@
 -- Where the shared place is 0, the counts are only looked on: a step is the step of the device alone, in what it answers and in what it makes of the state and the array; and a list
 -- of steps is. Where it is not 0, every step is refused 1 or 2, and so are the reports.
 -- Assumes nothing.
-use Prim.Native.Nat.{ℕ, zero, suc, _+_, _≤_, min}
-use mathlib.Core.Bool.{Bool, true, false, cond, _&&_}
+use Prim.Native.Nat.{ℕ, zero, suc, _+_, _≤_, _<_, min}
+use mathlib.Core.Bool.{Bool, true, false, cond, true≢false, _&&_}
 use mathlib.Core.List.{List, [], _∷_}
-use mathlib.Core.Path.{_≡_, refl, sym, ap, _∙_}
+use mathlib.Core.Logic.{_⊎_, inl, inr}
+use mathlib.Core.Path.{_≡_, refl, sym, ap, _∙_, subst}
 use native.Mathlib.Omega.{arith}
 use lib.Dec.{eqb, ltb}
 use lib.ListN.{length, getD, set}
 use lib.Seq.{getD-set-other}
-use borrow.Author.Tests.{ltb-false}
+use borrow.Author.Tests.{ltb-false, le-ltb, eq-eqb, ne-eqb}
 use Rattle.geometry.specs.Blocks.{words}
+use Rattle.geometry.specs.Laws.{order}
 use Rattle.protection.specs.Words.{reportOf}
 use Rattle.semantics.specs.declared.State.{State}
 use Rattle.semantics.specs.declared.Step.{Step}
@@ -21,10 +23,12 @@ use Rattle.semantics.specs.declared.Answer.{Answer}
 use Rattle.semantics.specs.declared.Answer.the-variants.{Refused}
 use Rattle.semantics.specs.declared.Reported.{Reported}
 use Rattle.semantics.specs.State.{geometry, runs}
+use Rattle.semantics.specs.Supplied.{of-cond}
 use Rattle.semantics.specs.WellFormed.{wellFormed}
 use Rattle.semantics.specs.Steps.{stepRefusal, stateRefusal, firstRefusal, refusalOf, next, accepted, acceptedArray, stepOf, arrayOf, reportedOf, Machine, after, afterAll, answersOf}
 use Rattle.wear.specs.Counts.{Counts, lent, rowOf, placeIn, countAt, countOf, sharedZero, noCounts, putAt, withCount, oneMore, countsAfter}
-use Rattle.wear.specs.Steps.{formedWith, deviceRefusal, refusalWith, stepWith, arrayWith, countsWith, acceptedCounts, reportedWith, mostWornWith, Counted, afterWith, afterAllWith, answersWith}
+use Rattle.wear.specs.Steps.{formedWith, deviceRefusal, refusalWith, stepWith, arrayWith, countsWith, acceptedCounts, reportedWith, mostWornWith, wornWith, Counted, afterWith, afterAllWith, answersWith}
+use Rattle.wear.specs.Places.{Shaped, count-with}
 
 -- ---- the report of unprotected blocks, by the one rule
 
@@ -198,3 +202,69 @@ module _ (s : State) (k : Counts) (bad : sharedZero (k .main) ≡ false) where
   pub bad-most-worn : mostWornWith s k ≡ record { refusal = 2; block = 0; count = 0 }
   unfolding mostWornWith
   bad-most-worn = rw formed-bad
+
+  pub bad-worn : (b : ℕ) → wornWith s k b ≡ record { refusal = 2; block = 0; count = 0 }
+  unfolding wornWith
+  bad-worn b = rw formed-bad
+
+-- ---- a step that is refused, and one that is not work
+
+-- "A refusal gives its number beside the answer 0, gives back the state it got and leaves all lent memory": the array and the counts
+pub refused-nothing : (s : State) (k : Counts) (xs : List ℕ) (x : Step) → eqb (refusalWith s k (length xs) x) 0 ≡ false
+    → (stepWith s k xs x ≡ next s (Refused (refusalWith s k (length xs) x))) × (arrayWith s k xs x ≡ xs) × (countsWith s k xs x ≡ k)
+unfolding stepWith arrayWith countsWith
+refused-nothing s k xs x h = (rw h, rw h, rw h)
+
+-- only work changes a count: no read, write, supply or reset does. "Reset keeps counts"
+abbrev pub isWork : Step → Bool
+isWork (Read address) = false
+isWork (Write address w) = false
+isWork (Work n) = true
+isWork (Supply on) = false
+isWork Reset = false
+
+pub only-work : (s : State) (k : Counts) (xs : List ℕ) (x : Step) → isWork x ≡ false → countsWith s k xs x ≡ k
+unfolding acceptedCounts
+only-work s k xs (Read address) h = counts-still s k xs (Read address) refl
+only-work s k xs (Write address w) h = counts-still s k xs (Write address w) refl
+only-work s k xs (Work n) h = absurd (true≢false h)
+only-work s k xs (Supply on) h = counts-still s k xs (Supply on) refl
+only-work s k xs Reset h = counts-still s k xs Reset refl
+
+-- a step adds at most 1 to the count of one block, the one whose erase runs, and leaves all others
+pub record Moved (k m : Counts) : Type 0 where
+  pub block : ℕ
+  pub others : (b : ℕ) → b < 259 → (b ≡ block → ⊥) → countOf m b ≡ countOf k b
+  pub below : countOf m block ≤ countOf k block + 1
+  pub above : countOf k block ≤ 65535 → countOf k block ≤ countOf m block
+
+moved-not : (k : Counts) → Moved k k
+moved-not k = record { block = 0; others = λ b h n. refl; below = omega arith; above = λ h. omega arith }
+
+no-block : (k : Counts) (c x : ℕ) → 259 ≤ c → withCount k c x ≡ k
+unfolding withCount
+no-block k c x h = rw (le-ltb c 4 (omega arith), le-ltb c 259 h)
+
+moved-by : (k : Counts) → Shaped k → (c : ℕ) → (c < 259) ⊎ (259 ≤ c) → Moved k (oneMore k c)
+unfolding oneMore
+moved-by k s c (inl h) =
+    let e : countOf (withCount k c (min 65535 (countOf k c + 1))) c ≡ min 65535 (countOf k c + 1) = count-with k s c _ c h h ∙ rw (eq-eqb c c refl) in
+    record { block = c; others = λ b i n. count-with k s c _ b h i ∙ rw (ne-eqb b c n); below = omega (arith, e); above = λ i. omega (arith, e) }
+moved-by k s c (inr h) = subst (λ (m : Counts). Moved k m) (sym (no-block k c _ h)) (moved-not k)
+
+pub one-count : (s : State) (k : Counts) → Shaped k → (xs : List ℕ) (x : Step) → Moved k (countsWith s k xs x)
+unfolding countsWith acceptedCounts countsAfter
+one-count s k f xs x = of-cond (Moved k) (eqb (refusalWith s k (length xs) x) 0) (acceptedCounts s k x) k (go x) (moved-not k)
+  where
+    work : (r t : Running) → Moved k (countsAfter r t k)
+    work running.Idle t = moved-not k
+    work (running.Program l w) t = moved-not k
+    work (running.Erase b done) t = of-cond (Moved k) (runs t) k (oneMore k b) (moved-not k) (moved-by k f b (order b 259))
+    work (running.Buffer l n done) t = moved-not k
+
+    go : (y : Step) → Moved k (acceptedCounts s k y)
+    go (Read address) = moved-not k
+    go (Write address w) = moved-not k
+    go (Work n) = work (s .control .activity .running) _
+    go (Supply on) = moved-not k
+    go Reset = moved-not k

@@ -89,10 +89,17 @@ pub mosts-hold : (map (λ c. mostWorn (kept c)) mosts ≡ map block mosts) × (m
 unfolding rowOf placeIn countAt countOf putAt withCount greatest least
 mosts-hold = (most-each mosts refl refl, refl)
 
--- one of them computed whole: a tie of 1 and 19, with 258 below them
-pub most-holds : mostWorn (withCount (both 1 2 19 2) 258 1) ≡ 1
-unfolding rowOf placeIn countAt countOf putAt withCount greatest least mostWorn
-most-holds = refl
+-- some of them from the definition whole, with the greatest count computed apart: all zero, a tie of 1 and 19 with 258 below them, and 258 alone
+abbrev tie : Counts
+tie = withCount (both 1 2 19 2) 258 1
+
+tops : (greatest 259 (countOf none) ≡ 0) × (greatest 259 (countOf tie) ≡ 2) × (greatest 259 (countOf (at 15 15 1)) ≡ 1)
+unfolding rowOf placeIn countAt countOf putAt withCount greatest
+tops = (refl, refl, refl)
+
+pub most-holds : (mostWorn none ≡ 0) × (mostWorn tie ≡ 1) × (mostWorn (at 15 15 1) ≡ 258)
+unfolding rowOf placeIn countAt countOf putAt withCount least mostWorn
+most-holds = (rw (tops .0) refl, rw (tops .1) refl, rw (tops .2) refl)
 
 -- ---- the reports
 

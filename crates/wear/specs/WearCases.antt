@@ -8,7 +8,7 @@ use mathlib.Core.List.{List, [], _∷_, _++_, map}
 use mathlib.Core.Path.{_≡_, refl}
 use lib.ListN.{replicate}
 use Rattle.geometry.specs.declared.Part.{Part}
-use Rattle.geometry.specs.declared.Part.the-variants.{BenchBottom, BenchTop}
+use Rattle.geometry.specs.declared.Part.the-variants.{FullTop, BenchBottom, BenchTop}
 use Rattle.geometry.specs.Blocks.{mirror, blockFrom, blockOf, bankOf, sizeOf, startFrom, startOf, bankStart, blockOffset, bankOffset, bankOfBlock, lookupOf}
 use Rattle.protection.specs.Words.{bit, bitAt, isUnprotected, withUnprotected, spareZero, allProtected}
 use Rattle.semantics.specs.declared.Setup.the-variants as setup
@@ -30,7 +30,7 @@ use Rattle.semantics.specs.Writing.{commandOf, resume, accepts, setUp, clearSta
 use Rattle.semantics.specs.Working.{unitsLeft, unitsDone, runningAfter, wordAfter, arrayAfter, bufferAfter, workedOn, worked, workedArray}
 use Rattle.semantics.specs.Steps.{locationRefusal, addressRefusal, countRefusal, stepRefusal, firstRefusal, switchedTo, accepted, acceptedArray}
 use Rattle.wear.specs.Counts.{Counts, lent, rowOf, placeIn, countAt, countOf, sharedZero, noCounts, putAt, withCount, oneMore, countsAfter}
-use Rattle.wear.specs.Steps.{formedWith, deviceRefusal, refusalWith, acceptedCounts, stepWith, arrayWith, countsWith, Counted, beside, answerWith, afterWith, freshWith}
+use Rattle.wear.specs.Steps.{formedWith, deviceRefusal, refusalWith, acceptedCounts, stepWith, arrayWith, countsWith, Counted, beside, answerWith, afterWith, afterAllWith, answersWith, freshWith}
 use Rattle.wear.specs.CountCases.{up, rows, at, smalls, spread}
 
 -- ---- counts
@@ -76,6 +76,12 @@ abbrev pub stepsOf : List Exchange → List Step
 stepsOf [] = []
 stepsOf ((x ⟶ a) ∷ l) = x ∷ stepsOf l
 stepsOf (counts k ∷ l) = stepsOf l
+
+-- the answers alone
+abbrev pub answersOf : List Exchange → List Answer
+answersOf [] = []
+answersOf ((x ⟶ a) ∷ l) = a ∷ answersOf l
+answersOf (counts k ∷ l) = answersOf l
 
 -- from power-up of a part, on an array of 0; or from a state with its counts, on an array of so many words
 pub data Case : Type 0 where
@@ -200,6 +206,8 @@ wearCases =
     ∷ plays BenchBottom
     (on ++ unprotect 0x10 ++ unprotect 0x400 ++ unprotect 0x3FC0 ++ erase 0x1F ++ works 65535 16 ++ erase 0x3FFF ++ works 65535 64 ++ erase 0x43F ++ works 65535 64 ++ erase 0x3FC0 ++ works 65535 64
     ++ stand (lent (replicate 16 0 ∷ (1 ∷ replicate 15 0) ∷ replicate 13 (replicate 16 0) ++ (replicate 15 0 ++ 2 ∷ []) ∷ []) (0 ∷ 1 ∷ 0 ∷ 0 ∷ [])))
+    -- the array is as without the counts
+    ∷ plays BenchBottom (ready ++ erase 0x40 ++ works 63 63 ++ works 65535 1 ++ write 0x40 0xFF ++ (Read 0x3F ⟶ Word 0) ∷ (Read 0x40 ⟶ Word 0xFFFF) ∷ (Read 0x7F ⟶ Word 0xFFFF) ∷ (Read 0x80 ⟶ Word 0) ∷ stand (four 1))
     -- an erase that is not accepted is not counted: block protected, no supply, a wrong second cycle
     ∷ plays BenchBottom (ready ++ erase 0xC0 ++ works 65535 0 ++ cycles 0x40 0x20 0xFF ++ works 65535 0 ++ off ++ erase 0x40 ++ works 65535 0 ++ on ++ works 65535 0 ++ stand none)
     -- "Broken off": one word before its end, by reset while it runs and while it is suspended, by supply off, and by D0h without supply; and nothing is left of it to finish
@@ -233,6 +241,7 @@ wearCases =
     ∷ starts (erasing BenchBottom 4 63) (four 3) 16383 (each 1 (four 3))
     ∷ starts (erasing BenchBottom 4 63) (four 3) 0 (each 1 (four 3))
     ∷ starts unsupplied (four 3) 16385 (each 1 (four 3))
+    ∷ starts (erasing FullTop 4 65535) (four 3) 16384 (each 1 (four 3))
     -- "also when the shared place is not 0": 2, whatever the state; 1 first
     ∷ starts (erasing BenchBottom 4 63) (at 0 0 1) 16384 (each 2 (at 0 0 1))
     ∷ starts (powerUp BenchTop) (at 0 0 65535) 16384 (each 2 (at 0 0 65535))
@@ -249,3 +258,9 @@ wearCases =
 pub wear-hold : map found wearCases ≡ map expected wearCases
 unfolding mirror blockFrom blockOf bankOf sizeOf startFrom startOf bankStart blockOffset bankOffset bankOfBlock lookupOf bit bitAt isUnprotected withUnprotected spareZero allProtected emptyBuffer powerUp runningAlone programAlone eraseAlone eraseFits wordsFit bufferFits setupFits runningFits programFits suspendedEraseFits allFit runningApart programApart apart activityFormed setupPlaces runningPlaces programPlaces placesUsed zeroFrom reservedZero runsSupplied wellFormed runsIn statusWord signatureWord queryWord shown showsBy readIn readWord commandOf endFlags ended endedIfUnsupplied resume accepts setUp clearStatus firstCycle programRuns eraseCycle lockCommandOf withoutReserved lockCycle settle loads countRight firstRight laterRight confirmRight confirmCycle wordsCycle cycle keptIf firstLoaded wordsLoaded heldAfter loaded writtenAt written unitsLeft unitsDone runningAfter wordAfter tabulate arrayAfter bufferAfter workedOn worked workedArray locationRefusal addressRefusal countRefusal stepRefusal firstRefusal switched switchedTo accepted acceptedArray rowOf placeIn countAt countOf sharedZero noCounts putAt withCount oneMore countsAfter formedWith deviceRefusal refusalWith acceptedCounts stepWith arrayWith countsWith
 wear-hold = refl
+
+-- 6a and 6b as lists: what they leave, and what they answer
+pub lists-hold : (afterAllWith (freshWith BenchBottom (replicate 16384 0)) (stepsOf sixA) .counts ≡ zero-four 1 2) × (afterAllWith (freshWith BenchBottom (replicate 16384 0)) (stepsOf sixB) .counts ≡ one-nineteen 1 1)
+    × (answersWith (freshWith BenchBottom (replicate 16384 0)) (stepsOf sixA) ≡ answersOf sixA) × (answersWith (freshWith BenchBottom (replicate 16384 0)) (stepsOf sixB) ≡ answersOf sixB)
+unfolding mirror blockFrom blockOf bankOf sizeOf startFrom startOf bankStart blockOffset bankOffset bankOfBlock lookupOf bit bitAt isUnprotected withUnprotected spareZero allProtected emptyBuffer powerUp runningAlone programAlone eraseAlone eraseFits wordsFit bufferFits setupFits runningFits programFits suspendedEraseFits allFit runningApart programApart apart activityFormed setupPlaces runningPlaces programPlaces placesUsed zeroFrom reservedZero runsSupplied wellFormed runsIn statusWord signatureWord queryWord shown showsBy readIn readWord commandOf endFlags ended endedIfUnsupplied resume accepts setUp clearStatus firstCycle programRuns eraseCycle lockCommandOf withoutReserved lockCycle settle loads countRight firstRight laterRight confirmRight confirmCycle wordsCycle cycle keptIf firstLoaded wordsLoaded heldAfter loaded writtenAt written unitsLeft unitsDone runningAfter wordAfter tabulate arrayAfter bufferAfter workedOn worked workedArray locationRefusal addressRefusal countRefusal stepRefusal firstRefusal switched switchedTo accepted acceptedArray rowOf placeIn countAt countOf sharedZero noCounts putAt withCount oneMore countsAfter formedWith deviceRefusal refusalWith acceptedCounts stepWith arrayWith countsWith
+lists-hold = (refl, refl, refl, refl)
