@@ -727,6 +727,31 @@ static void check_broken_off(uint32_t part, uint32_t block)
     SAME(UINT64_C(7) << 16 | block, most_worn(state));
 }
 
+/* Programs do not count; an erase counts once, also with units to spare and where its block is protected while it is suspended. */
+static void check_counted_once(uint32_t part)
+{
+    const uint32_t a = fourth[part], size = size_of(part, 4);
+    const uint64_t programs[] = {
+        M58_SUPPLY(1), M58_WRITE(a, 0x60), M58_WRITE(a, 0xD0), M58_WRITE(a, 0x40), M58_WRITE(a, 0x0F0F), M58_WORK(9),
+        M58_WRITE(a, 0xE8), M58_WRITE(a, 1), M58_WRITE(a, 0), M58_WRITE(a + 1, 0), M58_WRITE(a, 0xD0), M58_WORK(9)
+    };
+    const uint64_t protected_meanwhile[] = {
+        M58_WRITE(a, 0x20), M58_WRITE(a, 0xD0), M58_WORK(size / 2), M58_WRITE(a, 0xB0), M58_WRITE(a, 0x60),
+        M58_WRITE(a, 0x01), M58_WRITE(a, 0xD0), M58_WORK(65535), M58_WORK(65535)
+    };
+    const uint64_t again[] = {
+        M58_WRITE(a, 0x60), M58_WRITE(a, 0xD0), M58_WRITE(a, 0x20), M58_WRITE(a, 0xD0), M58_WORK(65535), M58_WORK(65535)
+    };
+    uint64_t state[M58_STATE_WORDS];
+    SAME(1, power_up(part, state, M58_STATE_WORDS));
+    PLAY_LIST(state, part, programs);
+    SAME(0, most_worn(state));
+    PLAY_LIST(state, part, protected_meanwhile);
+    SAME(UINT64_C(1) << 16 | 4, most_worn(state));
+    PLAY_LIST(state, part, again);
+    SAME(UINT64_C(2) << 16 | 4, most_worn(state));
+}
+
 /* More finished erases of a block of 16 words than a count holds, many a call. */
 static void check_limit(void)
 {
@@ -867,6 +892,7 @@ static void check_erase_counts(void)
     check_worn_tie();
     for (uint32_t part = 0; part < M58_PARTS; part++) {
         check_places(part);
+        check_counted_once(part);
         check_broken_off(part, 1);
         check_broken_off(part, 100);
         for (unsigned operation = 0; operation < OPERATIONS; operation++)
