@@ -812,6 +812,27 @@ static void check_handed_in(void)
         SAME(M58_COUNT_LIMIT, *place_of(block));
 }
 
+/* A step that is refused for its address, its count or its array changes no count. */
+static void check_refused_steps(uint32_t part)
+{
+    const uint64_t steps[] = { M58_READ(M58_ADDRESS_LIMIT), M58_WRITE(M58_ADDRESS_LIMIT, 0xD0), M58_WORK(65536) };
+    uint64_t state[M58_STATE_WORDS], before[M58_STATE_WORDS];
+    unsigned char counts[sizeof lent];
+    SAME(1, power_up(part, state, M58_STATE_WORDS));
+    for (uint32_t block = 0; block < M58_BLOCKS; block++)
+        *place_of(block) = (uint16_t)(1000 + block);
+    erase_but_one(state, part, 4);
+    memcpy(before, state, sizeof before);
+    memcpy(counts, &lent, sizeof lent);
+    for (size_t i = 0; i < 3; i++) {
+        SAME(i < 2 ? M58_REFUSED_ADDRESS : M58_REFUSED_COUNT, refusal(state, M58_STATE_WORDS, steps[i], words_of(part)));
+        SAME(M58_REFUSED_ARRAY, refusal(state, M58_STATE_WORDS, steps[i], words_of(part) - 1));
+    }
+    SAME(M58_REFUSED_ARRAY, refusal(state, M58_STATE_WORDS, M58_WORK(1), words_of(part) - 1));
+    SAME(0, memcmp(before, state, sizeof before));
+    SAME(0, memcmp(counts, &lent, sizeof lent));
+}
+
 /* The shared place is not 0, beside any device and with any other counts; at 0 again, all goes on. */
 static void check_shared(uint32_t part, unsigned operation)
 {
@@ -893,6 +914,7 @@ static void check_erase_counts(void)
     for (uint32_t part = 0; part < M58_PARTS; part++) {
         check_places(part);
         check_counted_once(part);
+        check_refused_steps(part);
         check_broken_off(part, 1);
         check_broken_off(part, 100);
         for (unsigned operation = 0; operation < OPERATIONS; operation++)
