@@ -41,7 +41,8 @@ smalls a b c d = lent (replicate 16 (replicate 16 0)) (a ∷ b ∷ c ∷ d ∷ [
 -- ---- "the finished erases of each block, held as sixteen rows of sixteen main-size places, the four small blocks being counted one by one apart"
 
 -- the count of each block, and of numbers that are no block
-pub counts-hold : (map (countOf spread) (up 259 0) ≡ 501 ∷ 502 ∷ 503 ∷ 504 ∷ up 255 1004) × (map (countOf spread) (259 ∷ 260 ∷ 1000 ∷ 65536 ∷ []) ≡ 0 ∷ 0 ∷ 0 ∷ 0 ∷ [])
+pub counts-hold : (map (countOf spread) (up 259 0) ≡ 501 ∷ 502 ∷ 503 ∷ 504 ∷ up 255 1004)
+    × (map (countOf spread) (259 ∷ 260 ∷ 1000 ∷ 65536 ∷ []) ≡ 0 ∷ 0 ∷ 0 ∷ 0 ∷ [])
 unfolding rowOf placeIn countAt countOf
 counts-hold = (refl, refl)
 
@@ -99,18 +100,23 @@ pub put-hold : map (put spread 9) ((2 ⟶ spread) ∷ (4 ⟶ spread) ∷ (20 ⟶
 unfolding rowOf placeIn putAt withCount
 put-hold = refl
 
--- "when the shared place is not 0": 0, 1 and 65,535 there; and 0 there with each neighbour and the rest not 0
-pub shared-hold : map (λ k. sharedZero (k .main)) (noCounts ∷ at 0 0 1 ∷ at 0 0 65535 ∷ spread ∷ at 0 1 1 ∷ at 1 0 1 ∷ at 1 1 1 ∷ smalls 1 1 1 1 ∷ lent ((0 ∷ up 15 1004) ∷ rows 15 1019) (up 4 501) ∷ [])
-    ≡ true ∷ false ∷ false ∷ false ∷ true ∷ true ∷ true ∷ true ∷ true ∷ []
+-- "when the shared place is not 0": 0, several numbers and 65,535 there; and 0 there with each neighbour and the rest not 0
+pub shared-hold : (map (λ n. sharedZero (at 0 0 n .main)) (0 ∷ 1 ∷ 2 ∷ 3 ∷ 16 ∷ 255 ∷ 256 ∷ 32768 ∷ 65534 ∷ 65535 ∷ []) ≡ true ∷ replicate 9 false)
+    × (map (λ k. sharedZero (k .main)) (noCounts ∷ spread ∷ at 0 1 1 ∷ at 1 0 1 ∷ at 1 1 1 ∷ smalls 1 1 1 1 ∷ lent ((0 ∷ up 15 1004) ∷ rows 15 1019) (up 4 501) ∷ [])
+    ≡ true ∷ false ∷ true ∷ true ∷ true ∷ true ∷ true ∷ [])
 unfolding countAt sharedZero noCounts
-shared-hold = refl
+shared-hold = (refl, refl)
 
 -- ---- "the lesser of 65,535 and the number": one erase more
 
 abbrev more : Put → Counts
 more (b ⟶ k) = oneMore k b
 
-pub more-hold : map more ((0 ⟶ noCounts) ∷ (3 ⟶ smalls 1 2 3 4) ∷ (4 ⟶ at 0 1 1) ∷ (19 ⟶ at 1 0 255) ∷ (258 ⟶ at 15 15 65533) ∷ (258 ⟶ at 15 15 65534) ∷ (258 ⟶ at 15 15 65535) ∷ (2 ⟶ smalls 0 0 65534 0) ∷ (2 ⟶ smalls 0 0 65535 0) ∷ (5 ⟶ at 0 1 65535) ∷ (259 ⟶ spread) ∷ (1000 ⟶ spread) ∷ (34 ⟶ spread) ∷ [])
+pub more-hold : map more
+    ((0 ⟶ noCounts) ∷ (3 ⟶ smalls 1 2 3 4) ∷ (4 ⟶ at 0 1 1) ∷ (19 ⟶ at 1 0 255)
+    ∷ (258 ⟶ at 15 15 65533) ∷ (258 ⟶ at 15 15 65534) ∷ (258 ⟶ at 15 15 65535) ∷ (2 ⟶ smalls 0 0 65534 0) ∷ (2 ⟶ smalls 0 0 65535 0)
+    ∷ (5 ⟶ at 0 1 65535)
+    ∷ (259 ⟶ spread) ∷ (1000 ⟶ spread) ∷ (34 ⟶ spread) ∷ [])
     ≡ smalls 1 0 0 0 ∷ smalls 1 2 3 5 ∷ at 0 1 2 ∷ at 1 0 256
     -- "Block 258 at 65,535, one more finished erase: stays 65,535"; one before it goes there
     ∷ at 15 15 65534 ∷ at 15 15 65535 ∷ at 15 15 65535 ∷ smalls 0 0 65535 0 ∷ smalls 0 0 65535 0
@@ -157,7 +163,11 @@ journal =
     ∷ entry (erase 19) 64 finished ∷ entry (erase 4) 64 finished ∷ entry (erase 0) 16 finished ∷ entry (erase 5) 3 broken-off ∷ entry (program 5 5) 0 suspended ∷ entry (buffer 5 (5 ∷ [])) 0 broken-off
     ∷ entry (erase 258) 64 finished ∷ entry (erase 4) 64 finished ∷ entry (erase 5) 63 suspended ∷ []
 
+-- in a journal of several, and in those of one entry
 pub finished-hold : (map (λ b. finishedErases b journal) (0 ∷ 1 ∷ 3 ∷ 4 ∷ 5 ∷ 18 ∷ 19 ∷ 20 ∷ 258 ∷ 259 ∷ []) ≡ 1 ∷ 0 ∷ 0 ∷ 3 ∷ 0 ∷ 0 ∷ 1 ∷ 0 ∷ 1 ∷ 0 ∷ [])
-    × (map (finishedErases 4) ([] ∷ (entry (erase 4) 64 running ∷ []) ∷ (entry (erase 4) 64 suspended ∷ []) ∷ (entry (erase 4) 64 broken-off ∷ []) ∷ (entry (erase 4) 64 finished ∷ []) ∷ (entry (erase 4) 0 finished ∷ []) ∷ (entry (erase 5) 64 finished ∷ []) ∷ (entry (program 4 4) 1 finished ∷ []) ∷ (entry (buffer 4 (4 ∷ [])) 1 finished ∷ []) ∷ [])
-    ≡ 0 ∷ 0 ∷ 0 ∷ 0 ∷ 1 ∷ 1 ∷ 0 ∷ 0 ∷ 0 ∷ [])
-finished-hold = (refl, refl)
+    × (map (λ e. finishedErases 4 (e ∷ []))
+    (entry (erase 4) 64 running ∷ entry (erase 4) 64 suspended ∷ entry (erase 4) 64 broken-off ∷ entry (erase 4) 64 finished ∷ entry (erase 4) 0 finished ∷ entry (erase 5) 64 finished
+    ∷ entry (program 4 4) 1 finished ∷ entry (buffer 4 (4 ∷ [])) 1 finished ∷ [])
+    ≡ 0 ∷ 0 ∷ 0 ∷ 1 ∷ 1 ∷ 0 ∷ 0 ∷ 0 ∷ [])
+    × (finishedErases 4 [] ≡ 0)
+finished-hold = (refl, refl, refl)

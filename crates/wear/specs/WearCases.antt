@@ -245,6 +245,7 @@ wearCases =
     -- "also when the shared place is not 0": 2, whatever the state; 1 first
     ∷ starts (erasing BenchBottom 4 63) (at 0 0 1) 16384 (each 2 (at 0 0 1))
     ∷ starts (powerUp BenchTop) (at 0 0 65535) 16384 (each 2 (at 0 0 65535))
+    ∷ starts (powerUp BenchBottom) (at 0 0 256) 16384 (each 2 (at 0 0 256))
     ∷ starts (waiting BenchBottom 4 63) spread 16384 (each 2 spread)
     ∷ starts unsupplied (at 0 0 1) 16384 (each 2 (at 0 0 1))
     ∷ starts (erasing BenchBottom 4 63) (at 0 0 1) 16385 (each 1 (at 0 0 1))
