@@ -145,15 +145,17 @@ rans =
     ∷ ran (running.Erase 4 63) running.Idle (at 0 1 1) ∷ ran (running.Erase 19 0) running.Idle (at 1 0 1) ∷ ran (running.Erase 258 65535) running.Idle (at 15 15 1)
     -- one that runs on is not, be it one word before its end or with nothing done
     ∷ ran (running.Erase 0 0) (running.Erase 0 15) (smalls 0 0 0 0) ∷ ran (running.Erase 4 10) (running.Erase 4 63) (smalls 0 0 0 0) ∷ ran (running.Erase 258 0) (running.Erase 258 0) (smalls 0 0 0 0)
-    -- nothing, a program and a buffer program count for no block, finished or not
-    ∷ ran running.Idle running.Idle (smalls 0 0 0 0)
-    ∷ ran (running.Program 4 19) running.Idle (smalls 0 0 0 0) ∷ ran (running.Program 4 19) (running.Program 4 19) (smalls 0 0 0 0)
-    ∷ ran (running.Buffer 4 2 1) running.Idle (smalls 0 0 0 0) ∷ ran (running.Buffer 4 2 0) (running.Buffer 4 2 1) (smalls 0 0 0 0)
     ∷ []
 
-pub after-hold : map (counted noCounts) rans ≡ map told rans
+-- nothing, a program and a buffer program count for no block, finished or not, and no count is lost
+abbrev pub uncounted : List Ran
+uncounted =
+    ran running.Idle running.Idle spread ∷ ran (running.Program 4 19) running.Idle spread ∷ ran (running.Program 4 19) (running.Program 4 19) spread ∷ ran (running.Buffer 4 2 1) running.Idle spread
+    ∷ ran (running.Buffer 4 2 0) (running.Buffer 4 2 1) spread ∷ ran (running.Erase 4 10) (running.Erase 4 63) spread ∷ []
+
+pub after-hold : (map (counted noCounts) rans ≡ map told rans) × (map (counted spread) uncounted ≡ map told uncounted)
 unfolding rowOf placeIn countAt countOf noCounts putAt withCount oneMore countsAfter
-after-hold = refl
+after-hold = (refl, refl)
 
 -- ---- "the number of finished erases of that block in the journal"
 

@@ -1,6 +1,6 @@
 -- Cases of the reports, of refused steps whole, and of the full parts: document 02, item 6. The checker computes them: a rule that is written down wrong makes a case fail.
 -- Assumes nothing.
-use Prim.Native.Nat.{ℕ}
+use Prim.Native.Nat.{ℕ, _<_}
 use mathlib.Core.Bool.{Bool, true, false, cond}
 use mathlib.Core.List.{List, [], _∷_, _++_, map}
 use mathlib.Core.Path.{_≡_, refl, ap}
@@ -9,7 +9,7 @@ use lib.Dec.{eqb}
 use lib.ListN.{getD, replicate}
 use Rattle.geometry.specs.declared.Part.{Part}
 use Rattle.geometry.specs.declared.Part.the-variants.{FullBottom, FullTop, BenchBottom, BenchTop}
-use Rattle.geometry.specs.Blocks.{geometryOf, mirror, blockFrom, blockOf, bankOf, sizeOf, startFrom, startOf}
+use Rattle.geometry.specs.Blocks.{geometryOf, blocks, mirror, blockFrom, blockOf, bankOf, sizeOf, startFrom, startOf}
 use Rattle.protection.specs.Words.{bit, bitAt, isUnprotected, withUnprotected, spareZero, allProtected, count, least, unprotectedCount, lowestUnprotected, reportOf}
 use Rattle.semantics.specs.declared.Step.{Step}
 use Rattle.semantics.specs.declared.Step.the-variants.{Read, Write, Work, Supply, Reset}
@@ -244,3 +244,9 @@ journals-hold = (refl, refl)
 pub claim-says : (k : Counts) → CountsStand BenchBottom (stepsOf sixA) k → (countOf k 0 ≡ 1) × (countOf k 3 ≡ 0) × (countOf k 4 ≡ 2) × (countOf k 258 ≡ 0) × (sharedZero (k .main) ≡ true)
 unfolding mirror blockFrom blockOf sizeOf startFrom startOf
 claim-says k c = (c .count 0 (omega arith), c .count 3 (omega arith), c .count 4 (omega arith), c .count 258 (omega arith), c .shared)
+
+-- at 65,534, 65,535, 65,536 and 100,000 finished erases in the journal
+pub claim-limit : (p : Part) (l : List Step) (k : Counts) (b : ℕ) → b < blocks (geometryOf p) → CountsStand p l k
+    → (finishedErases b (journalOf (geometryOf p) l) ≡ 65534 → countOf k b ≡ 65534) × (finishedErases b (journalOf (geometryOf p) l) ≡ 65535 → countOf k b ≡ 65535)
+    × (finishedErases b (journalOf (geometryOf p) l) ≡ 65536 → countOf k b ≡ 65535) × (finishedErases b (journalOf (geometryOf p) l) ≡ 100000 → countOf k b ≡ 65535)
+claim-limit p l k b h c = (λ e. rw e at (c .count b h), λ e. rw e at (c .count b h), λ e. rw e at (c .count b h), λ e. rw e at (c .count b h))

@@ -202,6 +202,8 @@ wearCases =
     ∷ plays BenchBottom (ready ++ nearly ++ pause ++ two ++ works 1 1 ++ stand none ++ works 5 1 ++ stand none ++ goes-on ++ works 5 1 ++ stand (four 1))
     -- programs and buffer programs alone, at a location whose number is a block's
     ∷ plays BenchBottom (ready ++ program 0x4 0x4 ++ works 1 1 ++ program 0x40 0 ++ works 1 1 ++ two ++ works 2 2 ++ two ++ works 1 1 ++ works 1 1 ++ stand none)
+    -- after an erase that was counted too: no count is lost
+    ∷ plays BenchBottom (ready ++ erase 0x40 ++ works 64 64 ++ program 0x80 0 ++ works 0 0 ++ works 1 1 ++ stand (four 1) ++ two ++ works 1 1 ++ works 1 1 ++ stand (four 1) ++ erase 0x0 ++ works 15 15 ++ stand (four 1) ++ works 1 1 ++ stand (zero-four 1 1))
     -- erases of several blocks: each for its own
     ∷ plays BenchBottom
     (on ++ unprotect 0x10 ++ unprotect 0x400 ++ unprotect 0x3FC0 ++ erase 0x1F ++ works 65535 16 ++ erase 0x3FFF ++ works 65535 64 ++ erase 0x43F ++ works 65535 64 ++ erase 0x3FC0 ++ works 65535 64
