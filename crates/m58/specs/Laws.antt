@@ -12,10 +12,8 @@ use Rattle.protection.specs.Laws.{lowest-least}
 use Rattle.semantics.specs.declared.State.{State}
 use Rattle.semantics.specs.declared.Reported.{Reported}
 use Rattle.semantics.specs.State.{powerUp}
-use Rattle.semantics.specs.WellFormed.{wellFormed}
-use Rattle.semantics.specs.Steps.{reportedOf}
 use Rattle.wear.specs.declared.Worn.{Worn}
-use Rattle.wear.specs.Counts.{Counts, countOf, sharedZero, noCounts, mostWorn}
+use Rattle.wear.specs.Counts.{Counts, countOf, noCounts, mostWorn}
 use Rattle.wear.specs.Steps.{formedWith, reportedWith, mostWornWith}
 use Rattle.device.specs.Outcomes.{holding}
 use Rattle.playback.specs.declared.RunEnd.{RunEnd}
@@ -47,16 +45,12 @@ unfolding bitAt bit
 report-bits ws b = omega arith
 
 pub report-small : (s : State) (k : Counts) → Small (reportedWith s k)
-unfolding reportedWith reportedOf reportOf unprotectedCount
-report-small s k = all (sharedZero (k .main))
+unfolding reportedWith reportOf unprotectedCount
+report-small s k = go (formedWith s k)
   where
     go : (t : Bool) → Small (cond t (record { refusal = 0; count = reportOf (s .unprotected) .count; lowest = reportOf (s .unprotected) .lowest }) (record { refusal = 2; count = 0; lowest = 0 }))
     go true = record { count = count-le 259 (bitAt (s .unprotected)) (report-bits (s .unprotected)); lowest = lowest-least (s .unprotected) .within }
     go false = record { count = omega arith; lowest = omega arith }
-
-    all : (t : Bool) → Small (cond t (reportedOf s) (record { refusal = 2; count = 0; lowest = 0 }))
-    all true = go (wellFormed s)
-    all false = record { count = omega arith; lowest = omega arith }
 
 -- and the refusal of the most worn block is
 pub worn-small : (s : State) (k : Counts) → mostWornWith s k .refusal ≤ 2

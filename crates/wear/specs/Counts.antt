@@ -74,4 +74,4 @@ greatest (suc n) f = max (f 0) (greatest n (λ i. f (suc i)))
 
 -- "the most worn block, the lowest number on a tie": the least number whose count is the greatest
 unfoldable pub mostWorn : Counts → ℕ
-mostWorn k = least 259 (λ b. cond (eqb (countOf k b) (greatest 259 (countOf k))) 1 0)
+mostWorn k = let n : ℕ = greatest 259 (countOf k) in least 259 (λ b. cond (eqb (countOf k b) n) 1 0)

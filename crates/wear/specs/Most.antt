@@ -1,13 +1,13 @@
 -- The most worn block: no block has a greater count, and every lower one a lesser. Laws for the code, which looks at the blocks in order. Assumes nothing.
-use Prim.Native.Nat.{ℕ, zero, suc, _≤_, _<_, max}
+use Prim.Native.Nat.{ℕ, zero, suc, _≤_, _<_}
 use mathlib.Core.Bool.{Bool, true, false, cond}
-use mathlib.Core.Logic.{_⊎_, inl, inr, _≢_}
-use mathlib.Core.Path.{_≡_, refl, sym, ap, _∙_, subst}
+use mathlib.Core.Logic.{_⊎_, inl, inr}
+use mathlib.Core.Path.{_≡_, refl, sym, _∙_, subst}
 use native.Mathlib.Omega.{arith}
 use lib.Dec.{eqb}
-use borrow.Author.Tests.{eq-eqb, ne-eqb, eqb-true, eqb-false}
+use borrow.Author.Tests.{ne-eqb, eqb-false}
 use Rattle.geometry.specs.Laws.{order}
-use Rattle.protection.specs.Words.{least, Least}
+use Rattle.protection.specs.Words.{least}
 use Rattle.protection.specs.Digits.{least-is, least-one}
 use Rattle.wear.specs.Counts.{Counts, countOf, greatest, mostWorn}
 
@@ -99,8 +99,3 @@ some f (suc n) = go (some f n)
 -- and so the most worn block is a block, no block has a greater count, and every lower one has a lesser
 pub most-is : (k : Counts) → First (countOf k) 259 (mostWorn k)
 most-is k = let r = some (countOf k) 258 in subst (λ (m : ℕ). First (countOf k) 259 m) (most-first k (r .at) (r .first)) (r .first)
-
--- the block and the greatest count computed one after the other, as a table needs it: computed together the count is computed for each block anew
-pub most-by : (k : Counts) (n m : ℕ) → greatest 259 (countOf k) ≡ n → least 259 (λ b. cond (eqb (countOf k b) n) 1 0) ≡ m → mostWorn k ≡ m
-unfolding mostWorn
-most-by k n m e h = ap (λ (x : ℕ). least 259 (λ b. cond (eqb (countOf k b) x) 1 0)) e ∙ h

@@ -1,23 +1,23 @@
 -- Blocks and counts answer one to one: each block that is not small has a place of its own, every place but the shared one is a block's, and a count that is put is the count
 -- of its block and of no other. A row is a bank.
 -- Assumes nothing.
-use Prim.Native.Nat.{ℕ, zero, suc, _+_, _-_, _*_, _/_, _%_, _≤_, _<_, min}
+use Prim.Native.Nat.{ℕ, zero, suc, _+_, _-_, _*_, _≤_, _<_, min}
 use mathlib.Core.Bool.{Bool, true, false, cond, _&&_}
-use mathlib.Core.List.{List, [], _∷_}
+use mathlib.Core.List.{List, []}
 use mathlib.Core.Path.{_≡_, refl, sym, ap, _∙_}
 use native.Mathlib.Omega.{arith}
 use lib.Dec.{eqb, ltb}
 use lib.ListN.{length, getD, set, length-set}
 use lib.Seq.{getD-set-same, getD-set-other}
-use borrow.Author.Tests.{lt-ltb, le-ltb, ltb-true, ltb-false, eq-eqb, ne-eqb, eqb-true, eqb-false}
+use borrow.Author.Tests.{lt-ltb, ltb-true, ltb-false, eq-eqb, ne-eqb, eqb-true, eqb-false}
 use Rattle.geometry.specs.declared.Part.{Part}
 use Rattle.geometry.specs.declared.Part.the-variants.{FullBottom, FullTop, BenchBottom, BenchTop}
-use Rattle.geometry.specs.Blocks.{geometryOf, words, blockOf, bankOf}
+use Rattle.geometry.specs.Blocks.{geometryOf, blockOf, bankOf}
 use Rattle.geometry.specs.Laws as laws
 use Rattle.semantics.specs.declared.Running.{Running}
 use Rattle.semantics.specs.declared.Running.the-variants as running
 use Rattle.semantics.specs.State.{runs}
-use Rattle.wear.specs.Counts.{Counts, lent, rowOf, placeIn, countAt, countOf, sharedZero, putAt, withCount, oneMore, countsAfter}
+use Rattle.wear.specs.Counts.{Counts, lent, rowOf, placeIn, countAt, countOf, putAt, withCount, oneMore, countsAfter}
 
 -- ---- rows and places
 

@@ -13,15 +13,12 @@ use lib.Seq.{getD-set-other}
 use borrow.Author.Tests.{ltb-false, le-ltb, eq-eqb, ne-eqb}
 use Rattle.geometry.specs.Blocks.{words}
 use Rattle.geometry.specs.Laws.{order}
-use Rattle.protection.specs.Words.{reportOf}
 use Rattle.semantics.specs.declared.State.{State}
 use Rattle.semantics.specs.declared.Step.{Step}
 use Rattle.semantics.specs.declared.Step.the-variants.{Read, Write, Work, Supply, Reset}
 use Rattle.semantics.specs.declared.Running.{Running}
 use Rattle.semantics.specs.declared.Running.the-variants as running
-use Rattle.semantics.specs.declared.Answer.{Answer}
 use Rattle.semantics.specs.declared.Answer.the-variants.{Refused}
-use Rattle.semantics.specs.declared.Reported.{Reported}
 use Rattle.semantics.specs.State.{geometry, runs}
 use Rattle.semantics.specs.Supplied.{of-cond}
 use Rattle.semantics.specs.WellFormed.{wellFormed}
@@ -29,25 +26,6 @@ use Rattle.semantics.specs.Steps.{stepRefusal, stateRefusal, firstRefusal, refu
 use Rattle.wear.specs.Counts.{Counts, lent, rowOf, placeIn, countAt, countOf, sharedZero, noCounts, putAt, withCount, oneMore, countsAfter}
 use Rattle.wear.specs.Steps.{formedWith, deviceRefusal, refusalWith, stepWith, arrayWith, countsWith, acceptedCounts, reportedWith, mostWornWith, wornWith, Counted, afterWith, afterAllWith, answersWith}
 use Rattle.wear.specs.Places.{Shaped, count-with}
-
--- ---- the report of unprotected blocks, by the one rule
-
-pub reported-is : (s : State) (k : Counts)
-    → reportedWith s k ≡ cond (formedWith s k) (record { refusal = 0; count = reportOf (s .unprotected) .count; lowest = reportOf (s .unprotected) .lowest }) (record { refusal = 2; count = 0; lowest = 0 })
-unfolding reportedWith reportedOf formedWith
-reported-is s k = go (wellFormed s) (sharedZero (k .main))
-  where
-    no : Reported
-    no = record { refusal = 2; count = 0; lowest = 0 }
-
-    yes : Reported
-    yes = record { refusal = 0; count = reportOf (s .unprotected) .count; lowest = reportOf (s .unprotected) .lowest }
-
-    go : (w z : Bool) → cond z (cond w yes no) no ≡ cond (w && z) yes no
-    go true true = refl
-    go true false = refl
-    go false true = refl
-    go false false = refl
 
 -- ---- a step that leaves the array, or the counts, where it is accepted
 
@@ -151,8 +129,8 @@ module _ (s : State) (k : Counts) (zero : sharedZero (k .main) ≡ true) where
   array-alone xs x = rw (refusal-alone (length xs) x)
 
   pub report-alone : reportedWith s k ≡ reportedOf s
-  unfolding reportedWith
-  report-alone = rw zero
+  unfolding reportedWith reportedOf
+  report-alone = rw formed-alone
 
 pub after-alone : (c : Counted) (x : Step) → sharedZero (c .counts .main) ≡ true → afterWith c x .machine ≡ after (c .machine) x
 after-alone c x z = λ j. record {
@@ -197,7 +175,7 @@ module _ (s : State) (k : Counts) (bad : sharedZero (k .main) ≡ false) where
 
   pub bad-reported : reportedWith s k ≡ record { refusal = 2; count = 0; lowest = 0 }
   unfolding reportedWith
-  bad-reported = rw bad
+  bad-reported = rw formed-bad
 
   pub bad-most-worn : mostWornWith s k ≡ record { refusal = 2; block = 0; count = 0 }
   unfolding mostWornWith

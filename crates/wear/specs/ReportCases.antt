@@ -1,12 +1,11 @@
 -- Cases of the reports, of refused steps whole, and of the full parts: document 02, item 6. The checker computes them: a rule that is written down wrong makes a case fail.
 -- Assumes nothing.
 use Prim.Native.Nat.{ℕ, _<_}
-use mathlib.Core.Bool.{Bool, true, false, cond}
+use mathlib.Core.Bool.{true, false}
 use mathlib.Core.List.{List, [], _∷_, _++_, map}
-use mathlib.Core.Path.{_≡_, refl, ap}
+use mathlib.Core.Path.{_≡_, refl}
 use native.Mathlib.Omega.{arith}
-use lib.Dec.{eqb}
-use lib.ListN.{getD, replicate}
+use lib.ListN.{replicate}
 use Rattle.geometry.specs.declared.Part.{Part}
 use Rattle.geometry.specs.declared.Part.the-variants.{FullBottom, FullTop, BenchBottom, BenchTop}
 use Rattle.geometry.specs.Blocks.{geometryOf, blocks, mirror, blockFrom, blockOf, bankOf, sizeOf, startFrom, startOf}
@@ -23,13 +22,12 @@ use Rattle.semantics.specs.Supply.{endFlags, ended, endedIfUnsupplied, switched
 use Rattle.semantics.specs.WellFormed.{runningAlone, programAlone, eraseAlone, eraseFits, wordsFit, bufferFits, setupFits, runningFits, programFits, suspendedEraseFits, allFit, runningApart, programApart, apart, activityFormed, setupPlaces, runningPlaces, programPlaces, placesUsed, zeroFrom, runsSupplied, wellFormed}
 use Rattle.semantics.specs.Writing.{commandOf, resume, accepts, setUp, clearStatus, firstCycle, programRuns, eraseCycle, lockCommandOf, lockCycle, settle, loads, countRight, firstRight, laterRight, confirmRight, confirmCycle, wordsCycle, cycle, keptIf, firstLoaded, wordsLoaded, heldAfter, loaded, writtenAt, written}
 use Rattle.semantics.specs.Working.{unitsLeft, unitsDone, runningAfter, bufferAfter, workedOn, worked}
-use Rattle.semantics.specs.Steps.{locationRefusal, addressRefusal, countRefusal, stepRefusal, firstRefusal, switchedTo, accepted, acceptedArray, reportedOf}
+use Rattle.semantics.specs.Steps.{locationRefusal, addressRefusal, countRefusal, stepRefusal, firstRefusal, switchedTo, accepted}
 use Rattle.semantics.specs.Recorder.{journalOf}
 use Rattle.wear.specs.declared.Worn.{Worn}
 use Rattle.wear.specs.Counts.{Counts, lent, rowOf, placeIn, countAt, countOf, sharedZero, noCounts, putAt, withCount, oneMore, countsAfter, greatest, mostWorn}
 use Rattle.wear.specs.Steps.{formedWith, deviceRefusal, refusalWith, acceptedCounts, stepWith, arrayWith, countsWith, reportedWith, mostWornWith, wornWith, Counted, beside, answerWith, afterWith}
 use Rattle.wear.specs.Claim.{finishedErases, CountsStand}
-use Rattle.wear.specs.Most.{most-by}
 use Rattle.wear.specs.CountCases.{up, rows, at, smalls, spread}
 use Rattle.wear.specs.WearCases.{zero-four, one-nineteen, none, four, erasing, waiting, unsupplied, unprotected, stepsOf, sixA, sixB}
 
@@ -47,23 +45,6 @@ block (most k m n) = m
 
 abbrev pub top : Most → ℕ
 top (most k m n) = n
-
--- the greatest count, and the least block that has n, as the definitions have them
-abbrev pub greatestOf : Most → ℕ
-greatestOf (most k m n) = greatest 259 (countOf k)
-
-abbrev pub leastOf : Most → ℕ
-leastOf (most k m n) = least 259 (λ b. cond (eqb (countOf k b) n) 1 0)
-
-abbrev rest : List ℕ → List ℕ
-rest [] = []
-rest (x ∷ l) = l
-
--- both computed of each counts of a list, the most worn blocks are these
-most-each : (l : List Most) → map greatestOf l ≡ map top l → map leastOf l ≡ map block l → map (λ c. mostWorn (kept c)) l ≡ map block l
-most-each [] e f = refl
-most-each (most k m n ∷ l) e f =
-    λ i. most-by k n m (ap (λ (v : List ℕ). getD v 0 0) e) (ap (λ (v : List ℕ). getD v 0 0) f) i ∷ most-each l (ap rest e) (ap rest f) i
 
 abbrev both : ℕ → ℕ → ℕ → ℕ → Counts
 both b x c y = withCount (withCount none b x) c y
@@ -86,20 +67,8 @@ mosts =
     ∷ []
 
 pub mosts-hold : (map (λ c. mostWorn (kept c)) mosts ≡ map block mosts) × (map (λ c. countOf (kept c) (block c)) mosts ≡ map top mosts)
-unfolding rowOf placeIn countAt countOf putAt withCount greatest least
-mosts-hold = (most-each mosts refl refl, refl)
-
--- some of them from the definition whole, with the greatest count computed apart: all zero, a tie of 1 and 19 with 258 below them, and 258 alone
-abbrev tie : Counts
-tie = withCount (both 1 2 19 2) 258 1
-
-tops : (greatest 259 (countOf none) ≡ 0) × (greatest 259 (countOf tie) ≡ 2) × (greatest 259 (countOf (at 15 15 1)) ≡ 1)
-unfolding rowOf placeIn countAt countOf putAt withCount greatest
-tops = (refl, refl, refl)
-
-pub most-holds : (mostWorn none ≡ 0) × (mostWorn tie ≡ 1) × (mostWorn (at 15 15 1) ≡ 258)
-unfolding rowOf placeIn countAt countOf putAt withCount least mostWorn
-most-holds = (rw (tops .0) refl, rw (tops .1) refl, rw (tops .2) refl)
+unfolding rowOf placeIn countAt countOf putAt withCount greatest least mostWorn
+mosts-hold = (refl, refl)
 
 -- ---- the reports
 
@@ -132,14 +101,14 @@ countedOf b (by s k) = wornWith s k b
 
 -- "A refusal gives its number beside the answer 0": the three reports, of a state that is not well formed and "also when the shared place is not 0"
 pub reports-refused : (map openOf refusals ≡ replicate 9 (reported 2 0 0)) × (map mostOf refusals ≡ replicate 9 (worn 2 0 0)) × (map (countedOf 4) refusals ≡ replicate 9 (worn 2 0 0))
-unfolding mirror blockFrom blockOf sizeOf startFrom startOf bit spareZero allProtected emptyBuffer powerUp runningAlone programAlone eraseAlone eraseFits wordsFit bufferFits setupFits runningFits programFits suspendedEraseFits allFit runningApart programApart apart activityFormed setupPlaces runningPlaces programPlaces placesUsed zeroFrom reservedZero runsSupplied wellFormed reportedOf countAt sharedZero noCounts formedWith reportedWith mostWornWith wornWith
+unfolding mirror blockFrom blockOf sizeOf startFrom startOf bit spareZero allProtected emptyBuffer powerUp runningAlone programAlone eraseAlone eraseFits wordsFit bufferFits setupFits runningFits programFits suspendedEraseFits allFit runningApart programApart apart activityFormed setupPlaces runningPlaces programPlaces placesUsed zeroFrom reservedZero runsSupplied wellFormed countAt sharedZero noCounts formedWith reportedWith mostWornWith wornWith
 reports-refused = (refl, refl, refl)
 
 -- else they report: the unprotected blocks and the lowest of them, 259 if none; the most worn block with its count; the count of the block that is asked for
 pub reports-hold : (map openOf (by open-two none ∷ by open-two (four 9) ∷ by (powerUp FullTop) (smalls 1 1 1 1) ∷ by (waiting BenchTop 4 63) (at 1 0 1) ∷ []) ≡ reported 0 2 1 ∷ reported 0 2 1 ∷ reported 0 0 259 ∷ reported 0 0 259 ∷ [])
     × (map mostOf (by open-two (four 9) ∷ by (powerUp FullTop) (smalls 1 1 1 1) ∷ [])
     ≡ worn 0 (mostWorn (four 9)) (countOf (four 9) (mostWorn (four 9))) ∷ worn 0 (mostWorn (smalls 1 1 1 1)) (countOf (smalls 1 1 1 1) (mostWorn (smalls 1 1 1 1))) ∷ [])
-unfolding mirror blockFrom blockOf sizeOf startFrom startOf bit bitAt spareZero allProtected count least unprotectedCount lowestUnprotected reportOf emptyBuffer powerUp runningAlone programAlone eraseAlone eraseFits wordsFit bufferFits setupFits runningFits programFits suspendedEraseFits allFit runningApart programApart apart activityFormed setupPlaces runningPlaces programPlaces placesUsed zeroFrom reservedZero runsSupplied wellFormed reportedOf countAt sharedZero noCounts formedWith reportedWith mostWornWith
+unfolding mirror blockFrom blockOf sizeOf startFrom startOf bit bitAt spareZero allProtected count least unprotectedCount lowestUnprotected reportOf emptyBuffer powerUp runningAlone programAlone eraseAlone eraseFits wordsFit bufferFits setupFits runningFits programFits suspendedEraseFits allFit runningApart programApart apart activityFormed setupPlaces runningPlaces programPlaces placesUsed zeroFrom reservedZero runsSupplied wellFormed countAt sharedZero noCounts formedWith reportedWith mostWornWith
 reports-hold = (refl, refl)
 
 -- 1000 + b of block b, and 0 of a number that is no block

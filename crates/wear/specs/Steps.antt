@@ -8,6 +8,7 @@ use lib.Dec.{eqb}
 use lib.ListN.{length}
 use Rattle.geometry.specs.declared.Part.{Part}
 use Rattle.geometry.specs.Blocks.{words}
+use Rattle.protection.specs.Words.{reportOf}
 use Rattle.semantics.specs.declared.State.{State}
 use Rattle.semantics.specs.declared.Step.{Step}
 use Rattle.semantics.specs.declared.Step.the-variants.{Read, Write, Work, Supply, Reset}
@@ -18,7 +19,7 @@ use Rattle.semantics.specs.declared.Reported.{Reported}
 use Rattle.semantics.specs.State.{geometry}
 use Rattle.semantics.specs.WellFormed.{wellFormed}
 use Rattle.semantics.specs.Working.{unitsDone, runningAfter}
-use Rattle.semantics.specs.Steps.{stepRefusal, firstRefusal, next, accepted, acceptedArray, reportedOf, Machine, fresh}
+use Rattle.semantics.specs.Steps.{stepRefusal, firstRefusal, next, accepted, acceptedArray, Machine, fresh}
 use Rattle.wear.specs.declared.Worn.{Worn}
 use Rattle.wear.specs.Counts.{Counts, countOf, sharedZero, noCounts, countsAfter, mostWorn}
 
@@ -91,7 +92,7 @@ freshWith p xs = record { machine = fresh p xs; counts = noCounts }
 
 -- the report of unprotected blocks
 unfoldable pub reportedWith : State → Counts → Reported
-reportedWith s k = cond (sharedZero (k .main)) (reportedOf s) (record { refusal = 2; count = 0; lowest = 0 })
+reportedWith s k = cond (formedWith s k) (record { refusal = 0; count = reportOf (s .unprotected) .count; lowest = reportOf (s .unprotected) .lowest }) (record { refusal = 2; count = 0; lowest = 0 })
 
 -- "It reports the most worn block, the lowest number on a tie", with its count
 unfoldable pub mostWornWith : State → Counts → Worn

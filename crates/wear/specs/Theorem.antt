@@ -9,7 +9,7 @@ use Prim.Native.Nat.{ℕ, suc, _+_, _-_, _≤_, _<_, _%_, min}
 use native.Mathlib.Omega.{arith}
 use lib.Dec.{ltb, leb, eqb}
 use lib.ListN.{length, getD, getD-replicate, replicate}
-use borrow.Author.Tests.{lt-ltb, le-ltb, le-leb, lt-leb, ltb-true, ltb-false, eq-eqb, ne-eqb, eqb-true, eqb-false}
+use borrow.Author.Tests.{lt-ltb, le-leb, lt-leb, ltb-true, ltb-false, eq-eqb, ne-eqb, eqb-true, eqb-false}
 use Rattle.geometry.specs.declared.Part.{Part}
 use Rattle.geometry.specs.declared.Geometry.{Geometry}
 use Rattle.geometry.specs.Blocks.{Sound, geometryOf, words, blocks, location, blockOf, startOf, sizeOf}
@@ -24,19 +24,19 @@ use Rattle.semantics.specs.declared.Step.the-variants.{Read, Write, Work, Suppl
 use Rattle.semantics.specs.State.{geometry, runs}
 use Rattle.semantics.specs.Supplied.{of-cond}
 use Rattle.semantics.specs.Working.{unitsLeft, unitsDone, runningAfter}
-use Rattle.semantics.specs.Steps.{stateRefusal, stepRefusal, firstRefusal, Machine, after, afterAll, fresh}
+use Rattle.semantics.specs.Steps.{stepRefusal, firstRefusal, Machine, after}
 use Rattle.semantics.specs.Entries as entries
 use Rattle.semantics.specs.Entries.{Phase, Entry, entry, Live, live, paused, resumed, brokenOff, idle-worked}
-use Rattle.semantics.specs.Recorder.{Operation, program, erase, buffer, Setup, no-setup, program-setup, erase-setup, lock-setup, count-setup, first-setup, words-setup, Conditions, Recorder, beginning, recorded, recordedAll, journalOf}
-use Rattle.semantics.specs.Recorder.{Event, nothing, supplied, was-reset, units, suspend, resume-program, resume-erase, end-program, end-erase, setup-is, unprotected-is, accept, event, journal-after}
+use Rattle.semantics.specs.Recorder.{Operation, program, erase, buffer, Setup, no-setup, program-setup, erase-setup, lock-setup, count-setup, first-setup, words-setup, Conditions, Recorder, beginning, recorded, recordedAll}
+use Rattle.semantics.specs.Recorder.{Event, nothing, supplied, was-reset, units, suspend, event, journal-after}
 use Rattle.semantics.specs.Recorder.{Command, commandOf, suspend-command, resume-command, program-command, lock-command, erase-command, buffer-command, other-command, first-cycle, cycle, acceptable, kinds, len, isProgram, isErase, isAny, isNone}
 use Rattle.semantics.specs.Numbers.{within}
 use Rattle.semantics.specs.Engine.{stack, busy, held?, Matches, rules-agree}
 use Rattle.semantics.specs.Follows.{conditions, underWay, underWayOf, eventOf}
-use Rattle.semantics.specs.Invariant.{Agree, agree-formed, agree-after, agree-all, agree-fresh, state-good, count-good, count-bad}
-use Rattle.wear.specs.Counts.{Counts, rowOf, placeIn, countAt, countOf, sharedZero, noCounts, withCount, oneMore, countsAfter}
+use Rattle.semantics.specs.Invariant.{Agree, agree-formed, agree-after, agree-fresh, state-good, count-good, count-bad}
+use Rattle.wear.specs.Counts.{Counts, rowOf, placeIn, countAt, countOf, sharedZero, noCounts, oneMore, countsAfter}
 use Rattle.wear.specs.Steps.{deviceRefusal, refusalWith, acceptedCounts, countsWith, Counted, afterWith, afterAllWith, freshWith}
-use Rattle.wear.specs.Places.{Placed, placed, Shaped, count-with, shape-with}
+use Rattle.wear.specs.Places.{placed, Shaped, count-with, shape-with}
 use Rattle.wear.specs.Refused.{shared-kept, shared-all, fresh-shared, device-alone, counts-still, after-alone}
 use Rattle.wear.specs.Claim.{erases, isFinished, isFinishedErase, finishedErases, CountsStand}
 

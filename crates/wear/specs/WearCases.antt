@@ -3,7 +3,7 @@
 -- Bench bottom: block 0 has the locations 0 to F, block 1 10 to 1F, block 4 40 to 7F, block 5 80 to BF, all in bank 0, block 19 400 to 43F, in bank 1, and block 258 3FC0 to 3FFF.
 -- Assumes nothing.
 use Prim.Native.Nat.{ℕ}
-use mathlib.Core.Bool.{Bool, true, false}
+use mathlib.Core.Bool.{true, false}
 use mathlib.Core.List.{List, [], _∷_, _++_, map}
 use mathlib.Core.Path.{_≡_, refl}
 use lib.ListN.{replicate}
