@@ -1,11 +1,11 @@
 pub mod Counts
 pub mod Steps
+pub mod Claim
+pub mod CountCases
+pub mod WearCases
+pub mod ReportCases
 pub mod Places
 pub mod Most
 pub mod Refused
 pub mod Held
-pub mod Claim
 pub mod Theorem
-pub mod CountCases
-pub mod WearCases
-pub mod ReportCases

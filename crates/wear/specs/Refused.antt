@@ -41,6 +41,22 @@ pub counts-still : (s : State) (k : Counts) (xs : List ℕ) (x : Step) → accep
 unfolding countsWith
 counts-still s k xs x e = cond-still (eqb (refusalWith s k (length xs) x) 0) (acceptedCounts s k x) k e
 
+-- only work changes a count: no read, write, supply or reset does. "Reset keeps counts"
+abbrev pub isWork : Step → Bool
+isWork (Read address) = false
+isWork (Write address w) = false
+isWork (Work n) = true
+isWork (Supply on) = false
+isWork Reset = false
+
+pub only-work : (s : State) (k : Counts) (xs : List ℕ) (x : Step) → isWork x ≡ false → countsWith s k xs x ≡ k
+unfolding acceptedCounts
+only-work s k xs (Read address) h = counts-still s k xs (Read address) refl
+only-work s k xs (Write address w) h = counts-still s k xs (Write address w) refl
+only-work s k xs (Work n) h = absurd (true≢false h)
+only-work s k xs (Supply on) h = counts-still s k xs (Supply on) refl
+only-work s k xs Reset h = counts-still s k xs Reset refl
+
 -- ---- the shared place
 
 -- no step changes the shared place: it is no block's
@@ -185,29 +201,13 @@ module _ (s : State) (k : Counts) (bad : sharedZero (k .main) ≡ false) where
   unfolding wornWith
   bad-worn b = rw formed-bad
 
--- ---- a step that is refused, and one that is not work
+-- ---- a step that is refused, and one that is not
 
 -- "A refusal gives its number beside the answer 0, gives back the state it got and leaves all lent memory": the array and the counts
 pub refused-nothing : (s : State) (k : Counts) (xs : List ℕ) (x : Step) → eqb (refusalWith s k (length xs) x) 0 ≡ false
     → (stepWith s k xs x ≡ next s (Refused (refusalWith s k (length xs) x))) × (arrayWith s k xs x ≡ xs) × (countsWith s k xs x ≡ k)
 unfolding stepWith arrayWith countsWith
 refused-nothing s k xs x h = (rw h, rw h, rw h)
-
--- only work changes a count: no read, write, supply or reset does. "Reset keeps counts"
-abbrev pub isWork : Step → Bool
-isWork (Read address) = false
-isWork (Write address w) = false
-isWork (Work n) = true
-isWork (Supply on) = false
-isWork Reset = false
-
-pub only-work : (s : State) (k : Counts) (xs : List ℕ) (x : Step) → isWork x ≡ false → countsWith s k xs x ≡ k
-unfolding acceptedCounts
-only-work s k xs (Read address) h = counts-still s k xs (Read address) refl
-only-work s k xs (Write address w) h = counts-still s k xs (Write address w) refl
-only-work s k xs (Work n) h = absurd (true≢false h)
-only-work s k xs (Supply on) h = counts-still s k xs (Supply on) refl
-only-work s k xs Reset h = counts-still s k xs Reset refl
 
 -- a step adds at most 1 to the count of one block, the one whose erase runs, and leaves all others
 pub record Moved (k m : Counts) : Type 0 where
