@@ -142,9 +142,9 @@ uint32_t m58_lookup_bank(uint32_t part, uint32_t address);
  * steps from power-up a count is the number of finished erases of its block, or
  * M58_COUNT_LIMIT where there were more.
  *
- * Save and copy the counts together with the state words. Unlike those, a program may
- * read and change them: any counts go with any state words, but the shared place has to
- * be 0. Where it is not, every step and every report are refused M58_REFUSED_STATE and
+ * Save and copy the counts together with the state words. Unlike the state words, they
+ * may be read and changed by a program: any counts go with any state words, but the
+ * shared place has to be 0. Where it is not, every step and every report are refused M58_REFUSED_STATE and
  * change nothing; a step on an array of another length is refused M58_REFUSED_ARRAY.
  *
  * Programs for an older header pass two more arguments to m58_power_up, m58_run and

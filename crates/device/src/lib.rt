@@ -12,7 +12,7 @@ ghost use mathlib.Core.Path.{_≡_};
 ghost use Prim.Native.Nat.{ℕ};
 ghost use Rattle.semantics.specs.State.{powerUp};
 ghost use Rattle.wear.specs.Counts.{lent, noCounts};
-ghost use Rattle.wear.specs.Steps.{formedWith, deviceRefusal, reportedWith, mostWornWith, wornWith};
+ghost use Rattle.wear.specs.Steps.{formedWith, deviceRefusal, reportedWith, mostWornWith, eraseCountWith};
 ghost use Rattle.device.specs.Outcomes.{holding, outcome, arrayOut, countsOut};
 
 // All that a device holds is its state. (Methods stand in the crate of their struct; the definitions of the state stand in a crate without code.)
@@ -264,7 +264,7 @@ impl Device {
 
     // The count of a block, 0 of a number that is no block; refused 2 as the reports above.
     pub fn erase_count(self, main: &[[u16; 16]; 16], small: &[u16; 4], block: u32) -> Worn
-        ensures { λ r. ⌜ r ≡ wornWith (self .state) (lent (now (main .entry)) (now (small .entry))) block ⌝ }
+        ensures { λ r. ⌜ r ≡ eraseCountWith (self .state) (lent (now (main .entry)) (now (small .entry))) block ⌝ }
     {
         let s = self.state;
         if formed_with(s, main) {

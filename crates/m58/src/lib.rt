@@ -6,7 +6,7 @@ ghost use mathlib.Core.Path.{_≡_};
 ghost use Rattle.geometry.specs.Blocks.{lookupOf};
 ghost use Rattle.semantics.specs.Reading.{bitIf};
 ghost use Rattle.wear.specs.Counts.{lent};
-ghost use Rattle.wear.specs.Steps.{reportedWith, mostWornWith, wornWith};
+ghost use Rattle.wear.specs.Steps.{reportedWith, mostWornWith, eraseCountWith};
 ghost use Rattle.saved.specs.Saved.{stateOf};
 ghost use Rattle.m58.specs.Calls.{powersUp, poweredUp, unworn, reportCode, wornCode, countCode, Ran, hexCode, hexVerdict, hexArray, hexWritten, hexRoom};
 
@@ -124,7 +124,7 @@ pub extern "C" fn m58_erase_count(
     small: &[u16; 4],
     block: u32,
 ) -> u64
-    ensures { λ r. ⌜ r ≡ countCode (wornWith (stateOf (now (state .entry))) (lent (now (main .entry)) (now (small .entry))) block) ⌝ }
+    ensures { λ r. ⌜ r ≡ countCode (eraseCountWith (stateOf (now (state .entry))) (lent (now (main .entry)) (now (small .entry))) block) ⌝ }
 {
     let found = saved::found_in(state);
     let s = found.state;

@@ -26,7 +26,7 @@ use Rattle.semantics.specs.Demand.{Demand3}
 use Rattle.semantics.specs.Standing.{demand-3-whole}
 use Rattle.wear.specs.Counts.{Counts, countsAfter}
 use Rattle.wear.specs.Steps.{Counted, answerWith, afterWith, afterAllWith, answersWith, freshWith}
-use Rattle.wear.specs.Refused.{fresh-shared, all-alone}
+use Rattle.wear.specs.Refused.{shared-all, fresh-shared, all-alone, all-same}
 use Rattle.wear.specs.Claim.{CountsStand}
 use Rattle.wear.specs.Theorem.{counts-stand}
 use Rattle.wear.specs.Held.{Held, Does, length-with, held-next, does-refused, does-read, does-write, does-work, does-supply, does-reset}
@@ -141,21 +141,20 @@ sofar-next d₀ k₀ codes room xs i d k answers array x o array′ k′ s p q e
           ∙ ap (λ (t : List Step). roomAfter room (answersWith m₀ t)) (sym (n .0));
     }
 
--- steps that are played on what earlier steps made of power-up are played with them as one list
-as-one : (m : Counted) (l : List Step) (p : Part) (xs₀ : List ℕ) (l₀ : List Step) → afterAllWith (freshWith p xs₀) l₀ ≡ m → afterAllWith (freshWith p xs₀) (l₀ ++ l) ≡ afterAllWith m l
-as-one m l p xs₀ l₀ e = afterAll-append l₀ l (freshWith p xs₀) ∙ ap (λ (y : Counted). afterAllWith y l) e
-
--- demand 3 holds of whatever was played
+-- demand 3 holds of whatever was played: the counts change nothing of the device and the array
 pub journaled : (m : Counted) (l : List Step) → Journaled m l (afterAllWith m l .machine .array)
 unfolding Journaled
-journaled m l p xs₀ l₀ h e =
+journaled m l p xs₀ l₀ h e z =
+    let c : Counted = freshWith p xs₀ in
     subst (λ (y : Machine). Demand3 p (l₀ ++ l) xs₀ (y .array))
-    (sym (all-alone (freshWith p xs₀) (l₀ ++ l) fresh-shared) ∙ ap (λ (y : Counted). y .machine) (as-one m l p xs₀ l₀ e)) (demand-3-whole p (l₀ ++ l) xs₀ h)
+    (sym (all-alone c (l₀ ++ l) fresh-shared) ∙ ap (λ (y : Counted). y .machine) (afterAll-append l₀ l c) ∙ all-same (afterAllWith c l₀) m l (shared-all c l₀ ∙ fresh-shared) z (all-alone c l₀ fresh-shared ∙ e))
+    (demand-3-whole p (l₀ ++ l) xs₀ h)
 
 -- and the counts are the journal's
-pub worn : (m : Counted) (l : List Step) → CountsJournaled m l (afterAllWith m l .counts)
+pub counts-journaled : (m : Counted) (l : List Step) → CountsJournaled m l (afterAllWith m l .counts)
 unfolding CountsJournaled
-worn m l p xs₀ l₀ h e = subst (λ (y : Counted). CountsStand p (l₀ ++ l) (y .counts)) (as-one m l p xs₀ l₀ e) (counts-stand p (l₀ ++ l) xs₀ h)
+counts-journaled m l p xs₀ l₀ h e =
+    subst (λ (y : Counted). CountsStand p (l₀ ++ l) (y .counts)) (afterAll-append l₀ l (freshWith p xs₀) ∙ ap (λ (y : Counted). afterAllWith y l) e) (counts-stand p (l₀ ++ l) xs₀ h)
 
 -- nothing more is played: the end
 pub sofar-end : (d₀ : Device) (k₀ : Counts) (codes room xs : List ℕ) (i : ℕ) (d : Device) (k : Counts) (answers array : List ℕ) → Sofar d₀ k₀ codes room xs i d k answers array
@@ -175,10 +174,10 @@ sofar-end d₀ k₀ codes room xs i d k answers array s e =
       counts-are = w;
       answers-are = s .written ∙ ap (λ (y : List Step). roomAfter room (answersWith m₀ y)) t;
       journal = subst (λ (ys : List ℕ). Journaled m₀ l ys) (sym a) (journaled m₀ l);
-      wear = subst (λ (y : Counts). CountsJournaled m₀ l y) (sym w) (worn m₀ l);
+      wear = subst (λ (y : Counts). CountsJournaled m₀ l y) (sym w) (counts-journaled m₀ l);
     }
 
--- ---- the loop, with the one test of the state and the array
+-- ---- the loop, with the one test of the state, its counts and the array
 
 pub record Going (c : ℕ) (s₀ : State) (k₀ : Counts) (codes room xs : List ℕ) (i : ℕ) (s : State) (k : Counts) (answers array : List ℕ) : Type 0 where
   pub sofar : Sofar (holding s₀) k₀ codes room xs i (holding s) k answers array

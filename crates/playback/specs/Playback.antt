@@ -1,7 +1,8 @@
--- What it is to play a list of encoded steps on a device and an array: which steps are played, the answers that are written, and what holds of the device
+-- What it is to play a list of encoded steps on a device, its counts and an array: which steps are played, the answers that are written, and what holds of the device
 -- and of the array afterwards, demand 3 among it. Definitions only; the laws are in Laws.
 -- Assumes nothing.
 use Prim.Native.Nat.{ℕ, zero, suc, _+_, _*_}
+use mathlib.Core.Bool.{true}
 use mathlib.Core.List.{List, [], _∷_, _++_, map}
 use mathlib.Core.Path.{_≡_}
 use lib.ListN.{length, drop}
@@ -11,10 +12,10 @@ use Rattle.semantics.specs.declared.Step.{Step}
 use Rattle.semantics.specs.declared.Answer.{Answer}
 use Rattle.semantics.specs.declared.Decoded.{Decoded}
 use Rattle.semantics.specs.declared.Decoded.the-variants.{Valid, Invalid}
-use Rattle.semantics.specs.Steps.{numberOf, valueOf}
+use Rattle.semantics.specs.Steps.{numberOf, valueOf, afterAll, fresh}
 use Rattle.semantics.specs.Encoding.{decode}
 use Rattle.semantics.specs.Demand.{Demand3}
-use Rattle.wear.specs.Counts.{Counts}
+use Rattle.wear.specs.Counts.{Counts, sharedZero}
 use Rattle.wear.specs.Steps.{Counted, beside, afterAllWith, answersWith, freshWith}
 use Rattle.wear.specs.Claim.{CountsStand}
 use Rattle.device.specs.declared.Device.{Device}
@@ -43,13 +44,14 @@ roomAfter room l = map answerCode l ++ drop (length l) room
 abbrev pub machineOf : Device → Counts → List ℕ → Counted
 machineOf d k xs = beside (d .state) xs k
 
--- DEMAND 3, of a list that is played in pieces: wherever the device, its counts and the array are what steps l₀ made of power-up and an array xs₀ of the part's length,
--- demand 3 holds whole of the steps l₀ and l together: the length, every word, and every entry of their journal. With l₀ empty it is demand 3 from power-up.
+-- DEMAND 3, of a list that is played in pieces: wherever the device and the array are what steps l₀ made of power-up and an array xs₀ of the part's length,
+-- demand 3 holds whole of the steps l₀ and l together: the length, every word, and every entry of their journal. With l₀ empty it is demand 3 from power-up. Of the
+-- counts it asks only that the shared place is 0.
 unfoldable pub Journaled : Counted → List Step → List ℕ → Type 0
 Journaled m l ys =
-    (p : Part) (xs₀ : List ℕ) (l₀ : List Step) → length xs₀ ≡ words (geometryOf p) → afterAllWith (freshWith p xs₀) l₀ ≡ m → Demand3 p (l₀ ++ l) xs₀ ys
+    (p : Part) (xs₀ : List ℕ) (l₀ : List Step) → length xs₀ ≡ words (geometryOf p) → afterAll (fresh p xs₀) l₀ ≡ m .machine → sharedZero (m .counts .main) ≡ true → Demand3 p (l₀ ++ l) xs₀ ys
 
--- and so the counts are those of that journal
+-- and where the counts too are what the steps l₀ made of power-up, they are those of that journal
 unfoldable pub CountsJournaled : Counted → List Step → Counts → Type 0
 CountsJournaled m l k =
     (p : Part) (xs₀ : List ℕ) (l₀ : List Step) → length xs₀ ≡ words (geometryOf p) → afterAllWith (freshWith p xs₀) l₀ ≡ m → CountsStand p (l₀ ++ l) k

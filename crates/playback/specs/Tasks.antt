@@ -23,7 +23,7 @@ allowed g (Work n) = task.Work n
 allowed g (Supply on) = task.Supply on
 allowed g Reset = task.Reset
 
--- by what the number encodes, where c is what the state and the array are refused for
+-- by what the number encodes, where c is what the state, its counts and the array are refused for
 abbrev pub taskBy : ℕ → Geometry → Decoded → Task
 taskBy c g (Valid x) = cond (eqb c 0) (cond (eqb (stepRefusal g x) 0) (allowed g x) (task.Refused (stepRefusal g x))) (task.Refused c)
 taskBy c g Invalid = task.End

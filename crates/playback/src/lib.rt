@@ -100,7 +100,7 @@ fn allowed(part: Part, x: Step) -> Task
     }
 }
 
-// What a number asks, where `refused` is what the state and the array are refused for.
+// What a number asks, where `refused` is what the state, its counts and the array are refused for.
 fn task_of(refused: u32, part: Part, code: u64) -> Task
     ensures { λ r. ⌜ r ≡ taskOf refused (geometryOf part) code ⌝ }
 {
@@ -214,11 +214,7 @@ pub fn run(
     ensures { λ r. ⌜ Played device (lent (now (main .entry)) (now (small .entry))) (now (steps .entry)) (now (answers .entry)) (now (array .entry)) r (lent (now (main .exit)) (now (small .exit))) (now (answers .exit)) (now (array .exit)) ⌝ }
 {
     let mut s = device.state;
-    let refused = state::refusal_beside(
-        s.part,
-        state::well_formed(s) & wear::shared_zero(main),
-        array.len(),
-    );
+    let refused = device::refusal_of(s, main, array.len());
     let n = working::least(steps.len(), answers.len());
     for i in 0..n {
         let part = s.part;

@@ -62,6 +62,13 @@ printed (play xs t o) = transcriptOf xs (text t)
 abbrev pub output : Play → List ℕ
 output (play xs t o) = text o
 
+-- document 02, item 6: erases of blocks 0 and 4, one of them suspended before its last word, and one broken off by a reset; erases of blocks 19 and 1, and one of 19 that the supply cuts
+abbrev wear-reset : String
+wear-reset = "V 1\nW 000000 0060\nW 000000 00D0\nW 000040 0060\nW 000040 00D0\nW 000000 0020\nW 000000 00D0\nK 16\nW 000040 0020\nW 000040 00D0\nK 63\nW 000040 00B0\nW 000040 00D0\nK 1\nW 000040 0020\nW 000040 00D0\nK 64\nZ\nW 000040 0060\nW 000040 00D0\nW 000040 0020\nW 000040 00D0\nK 10\nZ\n"
+
+abbrev wear-supply : String
+wear-supply = "V 1\nW 000400 0060\nW 000400 00D0\nW 000010 0060\nW 000010 00D0\nW 000400 0020\nW 000400 00D0\nK 64\nW 000010 0020\nW 000010 00D0\nK 16\nW 000400 0020\nW 000400 00D0\nK 30\nV 0\nK 34\n"
+
 abbrev pub plays : List Play
 plays =
     -- "Input: .. Whole output: ..", on 16,384 words that "start as FFFFh"
@@ -93,13 +100,10 @@ plays =
     ∷ play (replicate 16384 0xFFFF)
     "V 1\nW 000040 0060\nW 000040 00D0\nW 000040 00E8\nW 000040 0001\nW 000040 AAAA\nW 000041 BBBB\nV 0\nV 1\nW 000040 00D0\nK 1\nV 0\nR 000040\nW 000040 00FF\nR 000040\nR 000041\n"
     "1 ok\n2 ok\n3 ok\n4 ok\n5 ok\n6 ok\n7 ok\n8 ok\n9 ok\n10 ok\n11 1\n12 ok\n13 0098\n14 ok\n15 AAAA\n16 FFFF\nend 16\n"
-    -- document 02, item 6: erases of blocks 0 and 4, one of them suspended before its last word, and one broken off by a reset
-    ∷ play (replicate 16384 0xFFFF)
-    "V 1\nW 000000 0060\nW 000000 00D0\nW 000040 0060\nW 000040 00D0\nW 000000 0020\nW 000000 00D0\nK 16\nW 000040 0020\nW 000040 00D0\nK 63\nW 000040 00B0\nW 000040 00D0\nK 1\nW 000040 0020\nW 000040 00D0\nK 64\nZ\nW 000040 0060\nW 000040 00D0\nW 000040 0020\nW 000040 00D0\nK 10\nZ\n"
+    -- document 02, item 6
+    ∷ play (replicate 16384 0xFFFF) wear-reset
     "1 ok\n2 ok\n3 ok\n4 ok\n5 ok\n6 ok\n7 ok\n8 16\n9 ok\n10 ok\n11 63\n12 ok\n13 ok\n14 1\n15 ok\n16 ok\n17 64\n18 ok\n19 ok\n20 ok\n21 ok\n22 ok\n23 10\n24 ok\nend 24\n"
-    -- erases of blocks 19 and 1, and one of 19 that the supply cuts
-    ∷ play (replicate 16384 0xFFFF)
-    "V 1\nW 000400 0060\nW 000400 00D0\nW 000010 0060\nW 000010 00D0\nW 000400 0020\nW 000400 00D0\nK 64\nW 000010 0020\nW 000010 00D0\nK 16\nW 000400 0020\nW 000400 00D0\nK 30\nV 0\nK 34\n"
+    ∷ play (replicate 16384 0xFFFF) wear-supply
     "1 ok\n2 ok\n3 ok\n4 ok\n5 ok\n6 ok\n7 ok\n8 64\n9 ok\n10 ok\n11 16\n12 ok\n13 ok\n14 30\n15 ok\n16 0\nend 16\n"
     ∷ []
 
@@ -122,8 +126,8 @@ counts (wears t ns) = ns
 -- document 02, item 6: the two scripts above
 abbrev pub worn : List Wear
 worn =
-    wears "V 1\nW 000000 0060\nW 000000 00D0\nW 000040 0060\nW 000040 00D0\nW 000000 0020\nW 000000 00D0\nK 16\nW 000040 0020\nW 000040 00D0\nK 63\nW 000040 00B0\nW 000040 00D0\nK 1\nW 000040 0020\nW 000040 00D0\nK 64\nZ\nW 000040 0060\nW 000040 00D0\nW 000040 0020\nW 000040 00D0\nK 10\nZ\n" (1 ∷ 0 ∷ 2 ∷ 0 ∷ [])
-    ∷ wears "V 1\nW 000400 0060\nW 000400 00D0\nW 000010 0060\nW 000010 00D0\nW 000400 0020\nW 000400 00D0\nK 64\nW 000010 0020\nW 000010 00D0\nK 16\nW 000400 0020\nW 000400 00D0\nK 30\nV 0\nK 34\n" (0 ∷ 1 ∷ 0 ∷ 1 ∷ [])
+    wears wear-reset (1 ∷ 0 ∷ 2 ∷ 0 ∷ [])
+    ∷ wears wear-supply (0 ∷ 1 ∷ 0 ∷ 1 ∷ [])
     ∷ []
 
 pub worn-hold : map counted worn ≡ map counts worn

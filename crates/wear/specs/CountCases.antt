@@ -52,7 +52,7 @@ unfolding rowOf placeIn
 places-hold = (refl, refl)
 
 infix 20 _⟶_
--- a number of a block, and the counts that are 9 for it and else 0
+-- a number, and counts: those after the number's count was put, or before one was added
 pub data Put : Type 0 where
   _⟶_ : ℕ → Counts → Put
 
@@ -91,7 +91,7 @@ unfolding rowOf placeIn noCounts putAt withCount
 filled-hold = (refl, refl)
 
 -- one count put among counts that all differ: the others stay
-pub put-hold : map (put spread 9) ((2 ⟶ spread) ∷ (4 ⟶ spread) ∷ (20 ⟶ spread) ∷ (258 ⟶ spread) ∷ (259 ⟶ spread) ∷ [])
+pub put-hold : map (λ b. withCount spread b 9) (2 ∷ 4 ∷ 20 ∷ 258 ∷ 259 ∷ [])
     ≡ lent (spread .main) (501 ∷ 502 ∷ 9 ∷ 504 ∷ [])
     ∷ lent ((7 ∷ 9 ∷ up 14 1005) ∷ rows 15 1019) (spread .small)
     ∷ lent ((7 ∷ up 15 1004) ∷ (1019 ∷ 9 ∷ up 14 1021) ∷ rows 14 1035) (spread .small)
@@ -118,7 +118,7 @@ pub more-hold : map more
     ∷ (5 ⟶ at 0 1 65535)
     ∷ (259 ⟶ spread) ∷ (1000 ⟶ spread) ∷ (34 ⟶ spread) ∷ [])
     ≡ smalls 1 0 0 0 ∷ smalls 1 2 3 5 ∷ at 0 1 2 ∷ at 1 0 256
-    -- "Block 258 at 65,535, one more finished erase: stays 65,535"; one before it goes there
+    -- block 258 at 65,534 goes to 65,535, and stays there
     ∷ at 15 15 65534 ∷ at 15 15 65535 ∷ at 15 15 65535 ∷ smalls 0 0 65535 0 ∷ smalls 0 0 65535 0
     -- a full count keeps no other from its first
     ∷ lent ((0 ∷ 65535 ∷ 1 ∷ replicate 13 0) ∷ replicate 15 (replicate 16 0)) (replicate 4 0)

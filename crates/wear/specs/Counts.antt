@@ -22,7 +22,7 @@ pub record Counts : Type 0 where
 abbrev pub lent : List (List ℕ) → List ℕ → Counts
 lent m l = record { main = m; small = l }
 
--- a row is a bank, and has its sixteen places: those of a block that is not small, by its number. (The small ones share the first place of row 0.)
+-- row and place of a block that is not small, by its number; a row is a bank. (Blocks 0 to 3 share the first place of row 0.)
 unfoldable pub rowOf : ℕ → ℕ
 rowOf b = (b - 3) / 16
 

@@ -1,5 +1,5 @@
 -- Where the shared place is 0, the counts are only looked on: a step is the step of the device alone, in what it answers and in what it makes of the state and the array; and a list
--- of steps is. Where it is not 0, every step is refused 1 or 2, and so are the reports.
+-- of steps is. Where it is not 0, every step is refused 1 or 2, and the reports 2.
 -- Assumes nothing.
 use Prim.Native.Nat.{ℕ, zero, suc, _+_, _≤_, _<_, min}
 use mathlib.Core.Bool.{Bool, true, false, cond, true≢false, _&&_}
@@ -10,7 +10,7 @@ use native.Mathlib.Omega.{arith}
 use lib.Dec.{eqb, ltb}
 use lib.ListN.{length, getD, set}
 use lib.Seq.{getD-set-other}
-use borrow.Author.Tests.{ltb-false, le-ltb, eq-eqb, ne-eqb}
+use borrow.Author.Tests.{ltb-true, ltb-false, le-ltb, eq-eqb, ne-eqb}
 use Rattle.geometry.specs.Blocks.{words}
 use Rattle.geometry.specs.Laws.{order}
 use Rattle.semantics.specs.declared.State.{State}
@@ -24,8 +24,8 @@ use Rattle.semantics.specs.Supplied.{of-cond}
 use Rattle.semantics.specs.WellFormed.{wellFormed}
 use Rattle.semantics.specs.Steps.{stepRefusal, stateRefusal, firstRefusal, refusalOf, next, accepted, acceptedArray, stepOf, arrayOf, reportedOf, Machine, after, afterAll, answersOf}
 use Rattle.wear.specs.Counts.{Counts, lent, rowOf, placeIn, countAt, countOf, sharedZero, noCounts, putAt, withCount, oneMore, countsAfter}
-use Rattle.wear.specs.Steps.{formedWith, deviceRefusal, refusalWith, stepWith, arrayWith, countsWith, acceptedCounts, reportedWith, mostWornWith, wornWith, Counted, afterWith, afterAllWith, answersWith}
-use Rattle.wear.specs.Places.{Shaped, count-with}
+use Rattle.wear.specs.Steps.{formedWith, deviceRefusal, refusalWith, stepWith, arrayWith, countsWith, acceptedCounts, reportedWith, mostWornWith, eraseCountWith, Counted, afterWith, afterAllWith, answersWith}
+use Rattle.wear.specs.Places.{Placed, placed, Shaped, count-with}
 
 -- ---- a step that leaves the array, or the counts, where it is accepted
 
@@ -59,27 +59,22 @@ only-work s k xs Reset h = counts-still s k xs Reset refl
 
 -- ---- the shared place
 
--- no step changes the shared place: it is no block's
+-- no step changes whether the shared place is 0: it is no block's
 put-elsewhere : (m : List (List ℕ)) (i j x : ℕ) → (i ≡ 0 → j ≡ 0 → ⊥) → countAt (putAt m i j x) 0 0 ≡ countAt m 0 0
 unfolding countAt putAt
 put-elsewhere m (suc i) j x n = ap (λ (r : List ℕ). getD r 0 0) (getD-set-other m (suc i) 0 (set (getD m (suc i) []) j x) [] (λ e. omega arith))
 put-elsewhere [] zero j x n = refl
 put-elsewhere (r ∷ m) zero j x n = getD-set-other r j 0 x 0 (λ e. n refl (sym e))
 
--- the places of the blocks from 4 on do not include it
-not-shared : (b : ℕ) → 4 ≤ b → rowOf b ≡ 0 → placeIn b ≡ 0 → ⊥
-unfolding rowOf placeIn
-not-shared b h i j = omega arith
-
 pub shared-with : (k : Counts) (b x : ℕ) → sharedZero (withCount k b x .main) ≡ sharedZero (k .main)
 unfolding sharedZero withCount
-shared-with k b x = go (ltb b 4) refl (ltb b 259)
+shared-with k b x = go (ltb b 4) refl (ltb b 259) refl
   where
-    go : (t : Bool) → ltb b 4 ≡ t → (u : Bool)
+    go : (t : Bool) → ltb b 4 ≡ t → (u : Bool) → ltb b 259 ≡ u
         → eqb (countAt (cond t (lent (k .main) (set (k .small) b x)) (cond u (lent (putAt (k .main) (rowOf b) (placeIn b) x) (k .small)) k) .main) 0 0) 0 ≡ eqb (countAt (k .main) 0 0) 0
-    go true e u = refl
-    go false e true = ap (λ (n : ℕ). eqb n 0) (put-elsewhere (k .main) (rowOf b) (placeIn b) x (not-shared b (ltb-false b 4 e)))
-    go false e false = refl
+    go true e u f = refl
+    go false e true f = ap (λ (n : ℕ). eqb n 0) (put-elsewhere (k .main) (rowOf b) (placeIn b) x (placed b (ltb-false b 4 e) (ltb-true b 259 f) .own))
+    go false e false f = refl
 
 shared-after : (r t : Running) (k : Counts) → sharedZero (countsAfter r t k .main) ≡ sharedZero (k .main)
 unfolding countsAfter oneMore
@@ -160,6 +155,10 @@ all-alone c [] z = refl
 all-alone c (x ∷ l) z =
     all-alone (afterWith c x) l (shared-kept (c .machine .state) (c .counts) (c .machine .array) x ∙ z) ∙ ap (λ (m : Machine). afterAll m l) (after-alone c x z)
 
+-- so what becomes of the device and the array does not depend on the counts
+pub all-same : (c d : Counted) (l : List Step) → sharedZero (c .counts .main) ≡ true → sharedZero (d .counts .main) ≡ true → c .machine ≡ d .machine → afterAllWith c l .machine ≡ afterAllWith d l .machine
+all-same c d l z w e = all-alone c l z ∙ ap (λ (m : Machine). afterAll m l) e ∙ sym (all-alone d l w)
+
 pub answers-alone : (c : Counted) (l : List Step) → sharedZero (c .counts .main) ≡ true → answersWith c l ≡ answersOf (c .machine) l
 answers-alone c [] z = refl
 answers-alone c (x ∷ l) z =
@@ -177,7 +176,7 @@ module _ (s : State) (k : Counts) (bad : sharedZero (k .main) ≡ false) where
       go true = refl
       go false = refl
 
-  -- every step is refused, 1 for the array's length or else 2, and changes nothing
+  -- every step is refused, 1 for the array's length or else 2, and gives the state back (the array and the counts: `refused-nothing`)
   pub bad-refused : (xs : List ℕ) (x : Step) → stepWith s k xs x ≡ next s (Refused (cond (eqb (length xs) (words (geometry s))) 2 1))
   unfolding stepWith refusalWith deviceRefusal firstRefusal
   bad-refused xs x = rw formed-bad (go (eqb (length xs) (words (geometry s))))
@@ -197,8 +196,8 @@ module _ (s : State) (k : Counts) (bad : sharedZero (k .main) ≡ false) where
   unfolding mostWornWith
   bad-most-worn = rw formed-bad
 
-  pub bad-worn : (b : ℕ) → wornWith s k b ≡ record { refusal = 2; block = 0; count = 0 }
-  unfolding wornWith
+  pub bad-worn : (b : ℕ) → eraseCountWith s k b ≡ record { refusal = 2; block = 0; count = 0 }
+  unfolding eraseCountWith
   bad-worn b = rw formed-bad
 
 -- ---- a step that is refused, and one that is not
@@ -209,7 +208,7 @@ pub refused-nothing : (s : State) (k : Counts) (xs : List ℕ) (x : Step) → eq
 unfolding stepWith arrayWith countsWith
 refused-nothing s k xs x h = (rw h, rw h, rw h)
 
--- a step adds at most 1 to the count of one block, the one whose erase runs, and leaves all others
+-- a step adds at most 1 to the count of one block, and leaves all others
 pub record Moved (k m : Counts) : Type 0 where
   pub block : ℕ
   pub others : (b : ℕ) → b < 259 → (b ≡ block → ⊥) → countOf m b ≡ countOf k b

@@ -26,7 +26,7 @@ use Rattle.semantics.specs.Steps.{locationRefusal, addressRefusal, countRefusal
 use Rattle.semantics.specs.Recorder.{journalOf}
 use Rattle.wear.specs.declared.Worn.{Worn}
 use Rattle.wear.specs.Counts.{Counts, lent, rowOf, placeIn, countAt, countOf, sharedZero, noCounts, putAt, withCount, oneMore, countsAfter, greatest, mostWorn}
-use Rattle.wear.specs.Steps.{formedWith, deviceRefusal, refusalWith, acceptedCounts, stepWith, arrayWith, countsWith, reportedWith, mostWornWith, wornWith, Counted, beside, answerWith, afterWith}
+use Rattle.wear.specs.Steps.{formedWith, deviceRefusal, refusalWith, acceptedCounts, stepWith, arrayWith, countsWith, reportedWith, mostWornWith, eraseCountWith, Counted, beside, answerWith, afterWith}
 use Rattle.wear.specs.Claim.{finishedErases, CountsStand}
 use Rattle.wear.specs.CountCases.{up, rows, at, smalls, spread}
 use Rattle.wear.specs.WearCases.{zero-four, one-nineteen, none, four, erasing, waiting, unsupplied, unprotected, stepsOf, sixA, sixB}
@@ -78,16 +78,18 @@ worn r b n = record { refusal = r; block = b; count = n }
 abbrev reported : ℕ → ℕ → ℕ → Reported
 reported r n b = record { refusal = r; count = n; lowest = b }
 
--- a state with its counts: well formed; not for the state, for the shared place, and for both
-abbrev open-two : State
-open-two = unprotected (erasing BenchBottom 4 63)
+-- an erase of block 4 with its last word left, blocks 1 and 258 unprotected
+abbrev two-unprotected : State
+two-unprotected = unprotected (erasing BenchBottom 4 63)
 
+-- a state with its counts
 pub data Told : Type 0 where
   by : State → Counts → Told
 
+-- not well formed: for the state, for the shared place, and for both
 abbrev pub refusals : List Told
 refusals =
-    by unsupplied none ∷ by unsupplied (four 3) ∷ by open-two (at 0 0 1) ∷ by (powerUp BenchBottom) (at 0 0 65535) ∷ by (powerUp FullTop) spread ∷ by (waiting FullBottom 4 63) spread ∷ by unsupplied (at 0 0 1)
+    by unsupplied none ∷ by unsupplied (four 3) ∷ by two-unprotected (at 0 0 1) ∷ by (powerUp BenchBottom) (at 0 0 65535) ∷ by (powerUp FullTop) spread ∷ by (waiting FullBottom 4 63) spread ∷ by unsupplied (at 0 0 1)
     ∷ by (erasing BenchBottom 4 64) none ∷ by (erasing FullBottom 259 0) none ∷ []
 
 abbrev openOf : Told → Reported
@@ -97,26 +99,26 @@ abbrev mostOf : Told → Worn
 mostOf (by s k) = mostWornWith s k
 
 abbrev countedOf : ℕ → Told → Worn
-countedOf b (by s k) = wornWith s k b
+countedOf b (by s k) = eraseCountWith s k b
 
 -- "A refusal gives its number beside the answer 0": the three reports, of a state that is not well formed and "also when the shared place is not 0"
 pub reports-refused : (map openOf refusals ≡ replicate 9 (reported 2 0 0)) × (map mostOf refusals ≡ replicate 9 (worn 2 0 0)) × (map (countedOf 4) refusals ≡ replicate 9 (worn 2 0 0))
-unfolding mirror blockFrom blockOf sizeOf startFrom startOf bit spareZero allProtected emptyBuffer powerUp runningAlone programAlone eraseAlone eraseFits wordsFit bufferFits setupFits runningFits programFits suspendedEraseFits allFit runningApart programApart apart activityFormed setupPlaces runningPlaces programPlaces placesUsed zeroFrom reservedZero runsSupplied wellFormed countAt sharedZero noCounts formedWith reportedWith mostWornWith wornWith
+unfolding mirror blockFrom blockOf sizeOf startFrom startOf bit spareZero allProtected emptyBuffer powerUp runningAlone programAlone eraseAlone eraseFits wordsFit bufferFits setupFits runningFits programFits suspendedEraseFits allFit runningApart programApart apart activityFormed setupPlaces runningPlaces programPlaces placesUsed zeroFrom reservedZero runsSupplied wellFormed countAt sharedZero noCounts formedWith reportedWith mostWornWith eraseCountWith
 reports-refused = (refl, refl, refl)
 
 -- else they report: the unprotected blocks and the lowest of them, 259 if none; the most worn block with its count; the count of the block that is asked for
-pub reports-hold : (map openOf (by open-two none ∷ by open-two (four 9) ∷ by (powerUp FullTop) (smalls 1 1 1 1) ∷ by (waiting BenchTop 4 63) (at 1 0 1) ∷ []) ≡ reported 0 2 1 ∷ reported 0 2 1 ∷ reported 0 0 259 ∷ reported 0 0 259 ∷ [])
-    × (map mostOf (by open-two (four 9) ∷ by (powerUp FullTop) (smalls 1 1 1 1) ∷ [])
-    ≡ worn 0 (mostWorn (four 9)) (countOf (four 9) (mostWorn (four 9))) ∷ worn 0 (mostWorn (smalls 1 1 1 1)) (countOf (smalls 1 1 1 1) (mostWorn (smalls 1 1 1 1))) ∷ [])
-unfolding mirror blockFrom blockOf sizeOf startFrom startOf bit bitAt spareZero allProtected count least unprotectedCount lowestUnprotected reportOf emptyBuffer powerUp runningAlone programAlone eraseAlone eraseFits wordsFit bufferFits setupFits runningFits programFits suspendedEraseFits allFit runningApart programApart apart activityFormed setupPlaces runningPlaces programPlaces placesUsed zeroFrom reservedZero runsSupplied wellFormed countAt sharedZero noCounts formedWith reportedWith mostWornWith
+pub reports-hold : (map openOf (by two-unprotected none ∷ by two-unprotected (four 9) ∷ by (powerUp FullTop) (smalls 1 1 1 1) ∷ by (waiting BenchTop 4 63) (at 1 0 1) ∷ []) ≡ reported 0 2 1 ∷ reported 0 2 1 ∷ reported 0 0 259 ∷ reported 0 0 259 ∷ [])
+    × (map mostOf (by two-unprotected (four 9) ∷ by (powerUp FullTop) (smalls 1 1 1 1) ∷ [])
+    ≡ worn 0 4 9 ∷ worn 0 0 1 ∷ [])
+unfolding mirror blockFrom blockOf sizeOf startFrom startOf bit bitAt spareZero allProtected count least unprotectedCount lowestUnprotected reportOf emptyBuffer powerUp runningAlone programAlone eraseAlone eraseFits wordsFit bufferFits setupFits runningFits programFits suspendedEraseFits allFit runningApart programApart apart activityFormed setupPlaces runningPlaces programPlaces placesUsed zeroFrom reservedZero runsSupplied wellFormed countAt sharedZero noCounts formedWith reportedWith mostWornWith rowOf placeIn countOf greatest mostWorn
 reports-hold = (refl, refl)
 
 -- 1000 + b of block b, and 0 of a number that is no block
 abbrev spread-zero : Counts
 spread-zero = lent ((0 ∷ up 15 1004) ∷ rows 15 1019) (up 4 1000)
 
-pub asked-hold : map (wornWith open-two spread-zero) (0 ∷ 3 ∷ 4 ∷ 18 ∷ 19 ∷ 258 ∷ 259 ∷ 1000 ∷ []) ≡ worn 0 0 1000 ∷ worn 0 3 1003 ∷ worn 0 4 1004 ∷ worn 0 18 1018 ∷ worn 0 19 1019 ∷ worn 0 258 1258 ∷ worn 0 259 0 ∷ worn 0 1000 0 ∷ []
-unfolding mirror blockFrom blockOf sizeOf startFrom startOf bit spareZero allProtected emptyBuffer powerUp runningAlone programAlone eraseAlone eraseFits wordsFit bufferFits setupFits runningFits programFits suspendedEraseFits allFit runningApart programApart apart activityFormed setupPlaces runningPlaces programPlaces placesUsed zeroFrom reservedZero runsSupplied wellFormed rowOf placeIn countAt countOf sharedZero formedWith wornWith
+pub asked-hold : map (eraseCountWith two-unprotected spread-zero) (0 ∷ 3 ∷ 4 ∷ 18 ∷ 19 ∷ 258 ∷ 259 ∷ 1000 ∷ []) ≡ worn 0 0 1000 ∷ worn 0 3 1003 ∷ worn 0 4 1004 ∷ worn 0 18 1018 ∷ worn 0 19 1019 ∷ worn 0 258 1258 ∷ worn 0 259 0 ∷ worn 0 1000 0 ∷ []
+unfolding mirror blockFrom blockOf sizeOf startFrom startOf bit spareZero allProtected emptyBuffer powerUp runningAlone programAlone eraseAlone eraseFits wordsFit bufferFits setupFits runningFits programFits suspendedEraseFits allFit runningApart programApart apart activityFormed setupPlaces runningPlaces programPlaces placesUsed zeroFrom reservedZero runsSupplied wellFormed rowOf placeIn countAt countOf sharedZero formedWith eraseCountWith
 asked-hold = refl
 
 -- ---- "A refusal gives its number beside the answer 0, gives back the state it got and leaves all lent memory": the state, the array and the counts after each kind of step
@@ -142,10 +144,10 @@ each r c = refused r c (Read 0) ∷ refused r c (Write 0 0xB0) ∷ refused r c (
 
 abbrev pub refusalsWhole : List Refusal
 refusalsWhole =
-    each 2 (beside open-two (replicate 16384 0x1234) (at 0 0 1)) ++ each 2 (beside unsupplied (replicate 16384 0x1234) spread-zero) ++ each 1 (beside open-two (7 ∷ 8 ∷ 9 ∷ []) (at 0 0 1))
-    ++ each 1 (beside open-two (replicate 16385 0x1234) spread-zero) ++ each 1 (beside open-two [] (four 1))
-    ++ refused 4 (beside open-two (replicate 16384 0x1234) spread-zero) (Work 65536) ∷ refused 3 (beside open-two (replicate 16384 0x1234) spread-zero) (Read 0x1000000)
-    ∷ refused 3 (beside open-two (replicate 16384 0x1234) spread-zero) (Write 0x1000000 0xB0) ∷ []
+    each 2 (beside two-unprotected (replicate 16384 0x1234) (at 0 0 1)) ++ each 2 (beside unsupplied (replicate 16384 0x1234) spread-zero) ++ each 1 (beside two-unprotected (7 ∷ 8 ∷ 9 ∷ []) (at 0 0 1))
+    ++ each 1 (beside two-unprotected (replicate 16385 0x1234) spread-zero) ++ each 1 (beside two-unprotected [] (four 1))
+    ++ refused 4 (beside two-unprotected (replicate 16384 0x1234) spread-zero) (Work 65536) ∷ refused 3 (beside two-unprotected (replicate 16384 0x1234) spread-zero) (Read 0x1000000)
+    ∷ refused 3 (beside two-unprotected (replicate 16384 0x1234) spread-zero) (Write 0x1000000 0xB0) ∷ []
 
 pub refusals-hold : (map answerOf refusalsWhole ≡ map numberOf refusalsWhole) × (map leftOf refusalsWhole ≡ map givenOf refusalsWhole)
 unfolding mirror blockFrom blockOf sizeOf startFrom startOf bit spareZero allProtected emptyBuffer powerUp runningAlone programAlone eraseAlone eraseFits wordsFit bufferFits setupFits runningFits programFits suspendedEraseFits allFit runningApart programApart apart activityFormed setupPlaces runningPlaces programPlaces placesUsed zeroFrom reservedZero runsSupplied wellFormed locationRefusal addressRefusal countRefusal stepRefusal firstRefusal countAt sharedZero formedWith deviceRefusal refusalWith stepWith arrayWith countsWith

@@ -1,5 +1,5 @@
 -- The five steps of a device with its counts beside it, a list of them, and the reports: document 02, item 6. What the step makes of the device is the definition of
--- semantics; the counts add one refusal, and see the erases that finish.
+-- semantics; the counts add one refusal, and count the erases that finish.
 -- Assumes nothing.
 use Prim.Native.Nat.{ℕ}
 use mathlib.Core.Bool.{Bool, cond, _&&_}
@@ -99,5 +99,5 @@ unfoldable pub mostWornWith : State → Counts → Worn
 mostWornWith s k = cond (formedWith s k) (record { refusal = 0; block = mostWorn k; count = countOf k (mostWorn k) }) (record { refusal = 2; block = 0; count = 0 })
 
 -- the count of a block that is asked for by its number
-unfoldable pub wornWith : State → Counts → ℕ → Worn
-wornWith s k b = cond (formedWith s k) (record { refusal = 0; block = b; count = countOf k b }) (record { refusal = 2; block = 0; count = 0 })
+unfoldable pub eraseCountWith : State → Counts → ℕ → Worn
+eraseCountWith s k b = cond (formedWith s k) (record { refusal = 0; block = b; count = countOf k b }) (record { refusal = 2; block = 0; count = 0 })

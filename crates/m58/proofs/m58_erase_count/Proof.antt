@@ -2,7 +2,7 @@
 use mathlib.Core.Path.{ap, _∙_}
 use borrow.Author.Needs.{needs}
 use Rattle.wear.specs.Counts.{lent}
-use Rattle.wear.specs.Steps.{wornWith}
+use Rattle.wear.specs.Steps.{eraseCountWith}
 use Rattle.saved.specs.declared.Found.{Found}
 use Rattle.m58.specs.Calls.{countCode}
 use Rattle.m58.proofs.m58_erase_count.Statement.{statement}
@@ -11,7 +11,7 @@ use Rattle.m58.proofs.m58_erase_count.Tie as tie
 returns : tie.Need-returns
 returns c =
     let a = c .before .before .before .before .before .before .args in
-    ap countCode (c .before .before .erase-count .ensures ∙ ap (λ (f : Found). wornWith (f .state) (lent (a .main .now) (a .small .now)) (a .block)) (c .before .before .before .before .found-in .ensures))
+    ap countCode (c .before .before .erase-count .ensures ∙ ap (λ (f : Found). eraseCountWith (f .state) (lent (a .main .now) (a .small .now)) (a .block)) (c .before .before .before .before .found-in .ensures))
 
 pub m58-erase-count-spec : {M : Type 1} → statement M
 m58-erase-count-spec =

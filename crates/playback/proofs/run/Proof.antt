@@ -1,4 +1,4 @@
--- `playback::run` meets its contract. The invariant: the first i numbers have been played, and what the state and the array are refused for is as it was
+-- `playback::run` meets its contract. The invariant: the first i numbers have been played, and what the state, its counts and the array are refused for is as it was
 -- (`Going`). One number more is played by the task that it asks, and a write by what it changes. Assumes nothing.
 use mathlib.Core.Logic.{⊎-elim}
 use mathlib.Core.Path.{_≡_, refl, sym, _∙_}
@@ -8,7 +8,6 @@ use native.Mathlib.Numerals.{add-one}
 use borrow.Author.Needs.{needs}
 use lib.ListN.{length}
 use Rattle.wear.specs.Counts.{lent}
-use Rattle.wear.specs.Steps.{formedWith, deviceRefusal}
 use Rattle.writing.specs.Changes.{change-put, told-put}
 use Rattle.playback.specs.Tasks.{task-means}
 use Rattle.playback.specs.Laws.{Going, going-none, going-on, sofar-end, write-bank, plays-refused, plays-read, plays-write, plays-work, plays-supply, plays-reset}
@@ -24,14 +23,10 @@ abbrev μ-loop : tie.MeasureT-loop
 μ-loop main₀ small₀ steps answers₀ array₀ s₀ refused n i₀ main small answers array s i = n - i
 
 loop-holds : tie.Need-loop-holds Inv-loop μ-loop
-unfolding deviceRefusal formedWith
 loop-holds c =
-    let d = c .before .before .before .before .before .before .before .before .before .args .device in
-    let p = c .before .before .before .before .before .before .before .before .before .good .0 in
-    let xs = c .before .before .before .before .before .before .before .before .before .args .array .now in
-    let k = lent (c .before .before .before .before .before .before .before .before .before .args .main .now) (c .before .before .before .before .before .before .before .before .before .args .small .now) in
-    let e : c .before .refusal-beside .result ≡ deviceRefusal (d .state) k (length xs) = rw (← c .before .before .before .before .well-formed .ensures, ← c .before .before .shared-zero .ensures) (c .before .refusal-beside .ensures) in
-    (going-none _ _ _ _ _ _ (record { same = e; sixteen = sixteen d _ p; five = five d _ p; thirty-two = thirty-two d _ p }), c .least .ensures, omega arith)
+    let entry = c .before .before .before .before .before .before .before in
+    let p = entry .good .0 in
+    (going-none _ _ _ _ _ _ (record { same = c .before .refusal-of .ensures _; sixteen = sixteen (entry .args .device) _ p; five = five (entry .args .device) _ p; thirty-two = thirty-two (entry .args .device) _ p }), c .least .ensures, omega arith)
 
 returns : tie.Need-returns Inv-loop μ-loop
 returns c =
@@ -80,8 +75,6 @@ run-spec =
     (tie.spec
     Inv-loop
     μ-loop
-    (λ c κs. search needs)
-    (λ c κs. search needs)
     (λ c κs. search needs)
     (λ c κs. search needs)
     loop-holds

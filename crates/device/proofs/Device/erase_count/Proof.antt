@@ -1,15 +1,15 @@
 -- `Device::erase_count` meets its contract, by its one test. Assumes nothing.
-use Rattle.wear.specs.Steps.{wornWith}
+use Rattle.wear.specs.Steps.{eraseCountWith}
 use borrow.Author.Needs.{needs}
 use Rattle.device.proofs.Device.erase_count.Statement.{statement}
 use Rattle.device.proofs.Device.erase_count.Tie as tie
 
 returns : tie.Need-returns
-unfolding wornWith
+unfolding eraseCountWith
 returns c = rw (← c .before .before .formed-with .ensures _, c .before .if1 .taken, c .count-of .ensures)
 
 returns-2 : tie.Need-returns-2
-unfolding wornWith
+unfolding eraseCountWith
 returns-2 c = rw (← c .before .formed-with .ensures _, c .if1 .left)
 
 pub erase-count-spec : {M : Type 1} → statement M
