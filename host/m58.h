@@ -144,8 +144,9 @@ uint32_t m58_lookup_bank(uint32_t part, uint32_t address);
  *
  * Save and copy the counts together with the state words. Unlike the state words, they
  * may be read and changed by a program: any counts go with any state words, but the
- * shared place has to be 0. Where it is not, every step and every report are refused M58_REFUSED_STATE and
- * change nothing; a step on an array of another length is refused M58_REFUSED_ARRAY.
+ * shared place has to be 0. Where it is not, every step and every report are refused
+ * M58_REFUSED_STATE and change nothing; a step on an array of another length is refused
+ * M58_REFUSED_ARRAY.
  *
  * Programs for an older header pass two more arguments to m58_power_up, m58_run and
  * m58_report, main and small, behind the state words:
