@@ -52,7 +52,7 @@ pub record OneList (p : Part) (xs₀ : List ℕ) (m : ℕ) (given ws : List ℕ)
   pub wear : length xs₀ ≡ words (geometryOf p) → CountsStand p l k
 
 module _ (p : Part) (xs₀ : List ℕ) where
-  -- the last four follow from the machine
+  -- the last three follow from the machine
   one-list : (m : ℕ) (given ws : List ℕ) (k : Counts) (xs : List ℕ) (l : List Step) → m ≡ length l → given ≡ map answerCode (answersWith (freshWith p xs₀) l)
       → machineOf (holding (stateOf ws)) k xs ≡ afterAllWith (freshWith p xs₀) l → isSaved ws ≡ true → OneList p xs₀ m given ws k xs l
   one-list m given ws k xs l c a e s = record {

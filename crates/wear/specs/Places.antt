@@ -123,13 +123,13 @@ shape-with k s c x = go (ltb c 4) refl (ltb c 259) refl
 -- ---- one more, as the code does it
 
 module _ (k : Counts) (b n : ℕ) (is : n ≡ countOf k b) where
-  pub more : n < 65535 → withCount k b (n + 1) ≡ oneMore k b
-  unfolding oneMore
-  more h = let e : n + 1 ≡ min 65535 (countOf k b + 1) = omega arith in ap (λ (x : ℕ). withCount k b x) e
-
   pub full : 65535 ≤ n → withCount k b 65535 ≡ oneMore k b
   unfolding oneMore
   full h = let e : 65535 ≡ min 65535 (countOf k b + 1) = omega arith in ap (λ (x : ℕ). withCount k b x) e
+
+  pub more : n < 65535 → withCount k b (n + 1) ≡ oneMore k b
+  unfolding oneMore
+  more h = let e : n + 1 ≡ min 65535 (countOf k b + 1) = omega arith in ap (λ (x : ℕ). withCount k b x) e
 
 module _ (k : Counts) (r t : Running) (b done : ℕ) (erases : r ≡ running.Erase b done) where
   pub finished : runs t ≡ false → oneMore k b ≡ countsAfter r t k

@@ -111,6 +111,41 @@ pub fresh-shared : sharedZero (noCounts .main) ≡ true
 unfolding sharedZero countAt noCounts
 fresh-shared = refl
 
+-- ---- where it is not 0
+
+module _ (s : State) (k : Counts) (bad : sharedZero (k .main) ≡ false) where
+  formed-bad : formedWith s k ≡ false
+  unfolding formedWith
+  formed-bad = rw bad (go (wellFormed s))
+    where
+      go : (b : Bool) → (b && false) ≡ false
+      go true = refl
+      go false = refl
+
+  -- every step is refused, 1 for the array's length or else 2, and gives the state back (the array and the counts: `refused-nothing`)
+  pub bad-refused : (xs : List ℕ) (x : Step) → stepWith s k xs x ≡ next s (Refused (cond (eqb (length xs) (words (geometry s))) 2 1))
+  unfolding stepWith refusalWith deviceRefusal firstRefusal
+  bad-refused xs x = rw formed-bad (go (eqb (length xs) (words (geometry s))))
+    where
+      r : ℕ
+      r = stepRefusal (geometry s) x
+
+      go : (t : Bool) → cond (eqb (cond (eqb (cond t 2 1) 0) r (cond t 2 1)) 0) (accepted s xs x) (next s (Refused (cond (eqb (cond t 2 1) 0) r (cond t 2 1)))) ≡ next s (Refused (cond t 2 1))
+      go true = refl
+      go false = refl
+
+  pub bad-reported : reportedWith s k ≡ record { refusal = 2; count = 0; lowest = 0 }
+  unfolding reportedWith
+  bad-reported = rw formed-bad
+
+  pub bad-most-worn : mostWornWith s k ≡ record { refusal = 2; block = 0; count = 0 }
+  unfolding mostWornWith
+  bad-most-worn = rw formed-bad
+
+  pub bad-worn : (b : ℕ) → eraseCountWith s k b ≡ record { refusal = 2; block = 0; count = 0 }
+  unfolding eraseCountWith
+  bad-worn b = rw formed-bad
+
 -- ---- where it is 0
 
 module _ (s : State) (k : Counts) (zero : sharedZero (k .main) ≡ true) where
@@ -164,41 +199,6 @@ answers-alone c [] z = refl
 answers-alone c (x ∷ l) z =
     (λ j. (step-alone (c .machine .state) (c .counts) z (c .machine .array) x j) .answer
     ∷ (answers-alone (afterWith c x) l (shared-kept (c .machine .state) (c .counts) (c .machine .array) x ∙ z) ∙ ap (λ (m : Machine). answersOf m l) (after-alone c x z)) j)
-
--- ---- where it is not 0
-
-module _ (s : State) (k : Counts) (bad : sharedZero (k .main) ≡ false) where
-  formed-bad : formedWith s k ≡ false
-  unfolding formedWith
-  formed-bad = rw bad (go (wellFormed s))
-    where
-      go : (b : Bool) → (b && false) ≡ false
-      go true = refl
-      go false = refl
-
-  -- every step is refused, 1 for the array's length or else 2, and gives the state back (the array and the counts: `refused-nothing`)
-  pub bad-refused : (xs : List ℕ) (x : Step) → stepWith s k xs x ≡ next s (Refused (cond (eqb (length xs) (words (geometry s))) 2 1))
-  unfolding stepWith refusalWith deviceRefusal firstRefusal
-  bad-refused xs x = rw formed-bad (go (eqb (length xs) (words (geometry s))))
-    where
-      r : ℕ
-      r = stepRefusal (geometry s) x
-
-      go : (t : Bool) → cond (eqb (cond (eqb (cond t 2 1) 0) r (cond t 2 1)) 0) (accepted s xs x) (next s (Refused (cond (eqb (cond t 2 1) 0) r (cond t 2 1)))) ≡ next s (Refused (cond t 2 1))
-      go true = refl
-      go false = refl
-
-  pub bad-reported : reportedWith s k ≡ record { refusal = 2; count = 0; lowest = 0 }
-  unfolding reportedWith
-  bad-reported = rw formed-bad
-
-  pub bad-most-worn : mostWornWith s k ≡ record { refusal = 2; block = 0; count = 0 }
-  unfolding mostWornWith
-  bad-most-worn = rw formed-bad
-
-  pub bad-worn : (b : ℕ) → eraseCountWith s k b ≡ record { refusal = 2; block = 0; count = 0 }
-  unfolding eraseCountWith
-  bad-worn b = rw formed-bad
 
 -- ---- a step that is refused, and one that is not
 
