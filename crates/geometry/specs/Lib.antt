@@ -1,3 +1,5 @@
 -- The modules of the specification: the definitions, and the laws over them.
 pub mod Blocks
 pub mod Laws
+pub mod Table
+pub mod Listed

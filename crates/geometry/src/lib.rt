@@ -1,9 +1,10 @@
 // The words, blocks and banks of a part: document 01, "Words, blocks, banks".
 // Each function takes every number: one that is no block, bank or location has the answer that its definition gives it.
 ghost use mathlib.Core.Path.{_≡_};
-ghost use mathlib.Core.Bool.{cond};
+ghost use mathlib.Core.Bool.{true, cond};
 ghost use Prim.Native.Nat.{_+_, _-_, _<_, _≤_};
 ghost use Rattle.geometry.specs.Blocks.{geometryOf, words, blocks, location, mirror, blockOf, bankOf, sizeOf, startOf, bankStart, blockOffset, bankOffset, bankOfBlock, Sound, partNumbered, lookupOf};
+ghost use Rattle.geometry.specs.Table.{tied, notAbove, Rises, scale};
 
 // The four parts: full or bench size, with the small blocks at the bottom or at the top.
 pub enum Part {
@@ -230,6 +231,336 @@ pub fn bank_of_block(part: Part, block: u32) -> u32
     bank_of(part, start)
 }
 
+// ---- the table of block starts: document 02, item 7
+
+// The start locations of the blocks of the full bottom part, from block 0 on: the starts, not the ends, in the sheet's Tables 32 to 34.
+const STARTS: [u32; 259] = [
+    0x000000,
+    0x004000,
+    0x008000,
+    0x00C000,
+    0x010000,
+    0x020000,
+    0x030000,
+    0x040000,
+    0x050000,
+    0x060000,
+    0x070000,
+    0x080000,
+    0x090000,
+    0x0A0000,
+    0x0B0000,
+    0x0C0000,
+    0x0D0000,
+    0x0E0000,
+    0x0F0000,
+    0x100000,
+    0x110000,
+    0x120000,
+    0x130000,
+    0x140000,
+    0x150000,
+    0x160000,
+    0x170000,
+    0x180000,
+    0x190000,
+    0x1A0000,
+    0x1B0000,
+    0x1C0000,
+    0x1D0000,
+    0x1E0000,
+    0x1F0000,
+    0x200000,
+    0x210000,
+    0x220000,
+    0x230000,
+    0x240000,
+    0x250000,
+    0x260000,
+    0x270000,
+    0x280000,
+    0x290000,
+    0x2A0000,
+    0x2B0000,
+    0x2C0000,
+    0x2D0000,
+    0x2E0000,
+    0x2F0000,
+    0x300000,
+    0x310000,
+    0x320000,
+    0x330000,
+    0x340000,
+    0x350000,
+    0x360000,
+    0x370000,
+    0x380000,
+    0x390000,
+    0x3A0000,
+    0x3B0000,
+    0x3C0000,
+    0x3D0000,
+    0x3E0000,
+    0x3F0000,
+    0x400000,
+    0x410000,
+    0x420000,
+    0x430000,
+    0x440000,
+    0x450000,
+    0x460000,
+    0x470000,
+    0x480000,
+    0x490000,
+    0x4A0000,
+    0x4B0000,
+    0x4C0000,
+    0x4D0000,
+    0x4E0000,
+    0x4F0000,
+    0x500000,
+    0x510000,
+    0x520000,
+    0x530000,
+    0x540000,
+    0x550000,
+    0x560000,
+    0x570000,
+    0x580000,
+    0x590000,
+    0x5A0000,
+    0x5B0000,
+    0x5C0000,
+    0x5D0000,
+    0x5E0000,
+    0x5F0000,
+    0x600000,
+    0x610000,
+    0x620000,
+    0x630000,
+    0x640000,
+    0x650000,
+    0x660000,
+    0x670000,
+    0x680000,
+    0x690000,
+    0x6A0000,
+    0x6B0000,
+    0x6C0000,
+    0x6D0000,
+    0x6E0000,
+    0x6F0000,
+    0x700000,
+    0x710000,
+    0x720000,
+    0x730000,
+    0x740000,
+    0x750000,
+    0x760000,
+    0x770000,
+    0x780000,
+    0x790000,
+    0x7A0000,
+    0x7B0000,
+    0x7C0000,
+    0x7D0000,
+    0x7E0000,
+    0x7F0000,
+    0x800000,
+    0x810000,
+    0x820000,
+    0x830000,
+    0x840000,
+    0x850000,
+    0x860000,
+    0x870000,
+    0x880000,
+    0x890000,
+    0x8A0000,
+    0x8B0000,
+    0x8C0000,
+    0x8D0000,
+    0x8E0000,
+    0x8F0000,
+    0x900000,
+    0x910000,
+    0x920000,
+    0x930000,
+    0x940000,
+    0x950000,
+    0x960000,
+    0x970000,
+    0x980000,
+    0x990000,
+    0x9A0000,
+    0x9B0000,
+    0x9C0000,
+    0x9D0000,
+    0x9E0000,
+    0x9F0000,
+    0xA00000,
+    0xA10000,
+    0xA20000,
+    0xA30000,
+    0xA40000,
+    0xA50000,
+    0xA60000,
+    0xA70000,
+    0xA80000,
+    0xA90000,
+    0xAA0000,
+    0xAB0000,
+    0xAC0000,
+    0xAD0000,
+    0xAE0000,
+    0xAF0000,
+    0xB00000,
+    0xB10000,
+    0xB20000,
+    0xB30000,
+    0xB40000,
+    0xB50000,
+    0xB60000,
+    0xB70000,
+    0xB80000,
+    0xB90000,
+    0xBA0000,
+    0xBB0000,
+    0xBC0000,
+    0xBD0000,
+    0xBE0000,
+    0xBF0000,
+    0xC00000,
+    0xC10000,
+    0xC20000,
+    0xC30000,
+    0xC40000,
+    0xC50000,
+    0xC60000,
+    0xC70000,
+    0xC80000,
+    0xC90000,
+    0xCA0000,
+    0xCB0000,
+    0xCC0000,
+    0xCD0000,
+    0xCE0000,
+    0xCF0000,
+    0xD00000,
+    0xD10000,
+    0xD20000,
+    0xD30000,
+    0xD40000,
+    0xD50000,
+    0xD60000,
+    0xD70000,
+    0xD80000,
+    0xD90000,
+    0xDA0000,
+    0xDB0000,
+    0xDC0000,
+    0xDD0000,
+    0xDE0000,
+    0xDF0000,
+    0xE00000,
+    0xE10000,
+    0xE20000,
+    0xE30000,
+    0xE40000,
+    0xE50000,
+    0xE60000,
+    0xE70000,
+    0xE80000,
+    0xE90000,
+    0xEA0000,
+    0xEB0000,
+    0xEC0000,
+    0xED0000,
+    0xEE0000,
+    0xEF0000,
+    0xF00000,
+    0xF10000,
+    0xF20000,
+    0xF30000,
+    0xF40000,
+    0xF50000,
+    0xF60000,
+    0xF70000,
+    0xF80000,
+    0xF90000,
+    0xFA0000,
+    0xFB0000,
+    0xFC0000,
+    0xFD0000,
+    0xFE0000,
+    0xFF0000,
+];
+
+// The table. Its contract is the one computed test over all 259 entries.
+fn block_starts() -> [u32; 259]
+    ensures { λ r. ⌜ tied (geometryOf Part.FullBottom) 0 0 r ≡ true ⌝ }
+{
+    STARTS
+}
+
+// How many entries of a rising table are not above a location, in as many looks as the table can be halved.
+fn not_above(table: &[u32], location: u32) -> usize
+    requires { ⌜ Rises (now table) ⌝ }
+    ensures { λ r. ⌜ r ≡ notAbove (now (table .entry)) location ⌝ }
+{
+    let mut low: usize = 0;
+    let mut high = table.len();
+    while low < high {
+        let middle = low + (high - low) / 2;
+        if table[middle] <= location {
+            low = middle + 1;
+        } else {
+            high = middle;
+        }
+    }
+    low
+}
+
+// How many words of the full bottom part a word of the part stands for.
+fn scale_of(part: Part) -> u32
+    ensures { λ r. ⌜ r ≡ scale (geometryOf part) ⌝ }
+    ensures positive { λ r. ⌜ 0 < r ⌝ }
+{
+    let full = geometry_of(Part::FullBottom);
+    let g = geometry_of(part);
+    full.unit / g.unit
+}
+
+// The block that a location lies in, through the table: by mirror and scale, and then the last entry that is not above.
+fn block_by_table(part: Part, location: u32) -> u32
+    requires { ⌜ location < words (geometryOf part) ⌝ }
+    ensures { λ r. ⌜ r ≡ blockOf (geometryOf part) location ⌝ }
+    ensures inside { λ r. ⌜ r < 259 ⌝ }
+{
+    let m = mirror_of(part, location);
+    let s = scale_of(part);
+    let table = block_starts();
+    let n = not_above(&table, m * s);
+    (n - 1) as u32
+}
+
+// The lowest location of a block, through the table.
+pub fn start_by_table(part: Part, block: u32) -> u32
+    ensures { λ r. ⌜ r ≡ startOf (geometryOf part) block ⌝ }
+    ensures limit { λ r. ⌜ r < 16777216 ⌝ }
+{
+    if block >= block_count(part) {
+        return 0;
+    }
+    let table = block_starts();
+    let s = scale_of(part);
+    let from = table[block as usize] / s;
+    let size = block_size(part, block);
+    run_start(part, from, size)
+}
+
+// ---- the lookup of the host bench
+
 // The part that a number names: 0 full bottom, 1 full top, 2 bench bottom, any other bench top.
 pub fn part_numbered(n: u32) -> Part
     ensures { λ r. ⌜ r ≡ partNumbered n ⌝ }
@@ -269,7 +600,7 @@ pub fn look_up(part: u32, address: u32) -> Lookup
     }
     let p = part_numbered(part);
     let l = location_of(p, address);
-    let block = block_of(p, l);
+    let block = block_by_table(p, l);
     let bank = bank_of(p, l);
     Lookup {
         refusal: 0,

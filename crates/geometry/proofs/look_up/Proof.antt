@@ -21,8 +21,8 @@ part-numbered-requires c κs = search needs
 location-of-requires : tie.Need-location-of-requires
 location-of-requires c κs = search needs
 
-block-of-requires : tie.Need-block-of-requires
-block-of-requires c κs = search needs
+block-by-table-requires : tie.Need-block-by-table-requires
+block-by-table-requires c κs = c .location-of .ensures .1 .0
 
 bank-of-requires : tie.Need-bank-of-requires
 bank-of-requires c κs = search needs
@@ -32,8 +32,8 @@ unfolding lookupOf
 returns-3 c =
     let l = c .before .before .location-of in (
       simp (lt-leb _ _ (c .before .before .before .before .before .if1 .left), le-ltb _ _ (c .before .before .before .before .if2 .left))
-          (rw (← c .before .before .before .part-numbered .ensures, ← l .ensures .0, ← c .before .block-of .ensures .0, ← c .bank-of .ensures .0)),
-      (omega arith, (c .before .block-of .ensures .1 (l .ensures .1 .0), c .bank-of .ensures .1 (l .ensures .1 .0))),
+          (rw (← c .before .before .before .part-numbered .ensures, ← l .ensures .0, ← c .before .block-by-table .ensures .0, ← c .bank-of .ensures .0)),
+      (omega arith, (c .before .block-by-table .ensures .1, c .bank-of .ensures .1 (l .ensures .1 .0))),
     )
 
 pub look-up-spec : {M : Type 1} → statement M
@@ -44,6 +44,6 @@ look-up-spec =
     returns-2
     part-numbered-requires
     location-of-requires
-    block-of-requires
+    block-by-table-requires
     bank-of-requires
     returns-3)
