@@ -16,7 +16,7 @@ mod second {
 }
 
 use plain::Plain;
-use second::model::{Device, EraseCounts, Part, BANKS, BLOCKS};
+use second::model::{lookup, Device, EraseCounts, Part, BANKS, BLOCKS};
 use second::steps::Step;
 use std::hint::black_box;
 use std::mem::size_of;
@@ -76,6 +76,7 @@ fn main() -> ExitCode {
             bench.measure(&workload, a_call);
         }
     }
+    lookups(rounds);
     println!(
         "\nstate handed over: {} words, {} bytes; erase counts beside it: {} bytes",
         library::STATE_WORDS,
@@ -83,6 +84,37 @@ fn main() -> ExitCode {
         size_of::<library::Rows>() + size_of::<library::Small>()
     );
     ExitCode::SUCCESS
+}
+
+/// Measures the block of an address, one a call, and prints its ratios to the sides
+/// that have a lookup.
+fn lookups(rounds: usize) {
+    let sides: [(&str, fn(u32, u32) -> u32); 3] = [
+        ("library", library::lookup_block),
+        (Player::NAMES[1], |part, address| lookup(part, address).1),
+        (Player::NAMES[3], other::lookup_block),
+    ];
+    println!("\n{:42} {:>22} {:>22}", "", sides[1].0, sides[2].0);
+    let mut number = numbers();
+    let addresses: Vec<u32> = (0..LONG).map(|_| number(1 << 24)).collect();
+    for part in [Part::FullBottom, Part::BenchTop] {
+        let sum = |side: usize| -> u64 {
+            let block = |&address: &u32| u64::from(sides[side].1(part.number(), address));
+            addresses.iter().map(block).sum()
+        };
+        assert!((1..3).all(|side| sum(side) == sum(0)), "the lookups differ");
+        let turn = |round: usize| {
+            let mut taken = vec![0.0; 3];
+            for side in (0..3).map(|turn| (round + turn) % 3) {
+                taken[side] = time(5, || {
+                    black_box(sum(side));
+                });
+            }
+            taken
+        };
+        let taken: Vec<_> = (0..=rounds).map(turn).collect();
+        row(&format!("block of an address, {part:?}"), &taken);
+    }
 }
 
 /// What is measured: a list of steps, played in calls of so many.

@@ -84,6 +84,24 @@ pub fn check_lookup() -> Result<u64, Failure> {
     Ok(asked)
 }
 
+/// The start of each block of each part, of numbers that are no block's, and refused.
+pub fn check_block_starts() -> Result<u64, Failure> {
+    let mut asked = 0;
+    let past = [BLOCKS as u32 + 1, 512, 1 << 16, 1 << 31, u32::MAX];
+    for part in [0, 1, 2, 3, 4, 5, 1 << 31, u32::MAX] {
+        for block in (0..=BLOCKS as u32).chain(past) {
+            let expected = match Part::from_number(part) {
+                None => 7 << 32,
+                Some(part) => part.block(block).map_or(ADDRESSES, |block| block.start).into(),
+            };
+            let check = format!("start of block {block} of part {part}");
+            same(&check, "refusal and location", expected, library::block_start(part, block))?;
+            asked += 1;
+        }
+    }
+    Ok(asked)
+}
+
 /// m58_power_up with good and bad parts and counts.
 pub fn check_power_up() -> Checked {
     for part in [0, 1, 2, 3, 4, 5, 255, 1 << 31, u32::MAX] {

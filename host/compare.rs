@@ -104,8 +104,9 @@ fn quick() -> Result<String, String> {
 /// The checks that need no chance, on every part.
 fn fixed_checks() -> Result<Counts, String> {
     let asked = checks::check_lookup().map_err(|f| check_message(&f, None))?;
+    let starts = checks::check_block_starts().map_err(|f| check_message(&f, None))?;
     checks::check_power_up().map_err(|f| check_message(&f, None))?;
-    println!("lookup at {asked} addresses and power-up compared");
+    println!("lookup at {asked} addresses, {starts} block starts and power-up compared");
     let mut counts = Counts::default();
     for part in Part::ALL {
         let mut pair = Pair::new(part);

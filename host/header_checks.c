@@ -1,6 +1,6 @@
 /*
- * Checks what m58.h says of its macros, of state words that are those of no
- * device, of the write buffer, of the configuration register, of the supply, of the
+ * Checks what m58.h says of its macros, of the table of block starts, of state words
+ * that are those of no device, of the write buffer, of the configuration register, of the supply, of the
  * erase counts, and of Intel HEX text. Prints one line; ends with 1 where something is
  * otherwise.
  *
@@ -1060,6 +1060,31 @@ static void check_hex_writing(uint32_t part, size_t words, size_t bytes, uint64_
     SAME(0, other);
 }
 
+/* Each block starts where the lookup first finds it; the starts rise or fall by the part. */
+static void check_block_starts(void)
+{
+    for (uint32_t part = 0; part < M58_PARTS; part++) {
+        const int top = part == M58_FULL_TOP || part == M58_BENCH_TOP;
+        uint32_t before = 0;
+        SAME(0, m58_block_start(part, top ? M58_BLOCKS - 1 : 0));
+        for (uint32_t block = 0; block < M58_BLOCKS; block++) {
+            const uint64_t told = m58_block_start(part, block);
+            const uint32_t at = M58_START_LOCATION(told);
+            SAME(M58_REFUSED_NOTHING, M58_START_REFUSAL(told));
+            SAME(block, m58_lookup_block(part, at));
+            if (at > 0)
+                SAME(top ? block + 1 : block - 1, m58_lookup_block(part, at - 1));
+            if (block > 0)
+                SAME(1, top ? at < before : at > before);
+            before = at;
+        }
+        SAME(M58_NO_START, m58_block_start(part, M58_BLOCKS));
+        SAME(M58_NO_START, m58_block_start(part, UINT32_MAX));
+        SAME(M58_REFUSED_PART, M58_START_REFUSAL(m58_block_start(part + M58_PARTS, part)));
+        SAME(0, M58_START_LOCATION(m58_block_start(part + M58_PARTS, M58_BLOCKS)));
+    }
+}
+
 int main(void)
 {
     array = calloc(M58_FULL_WORDS, sizeof *array);
@@ -1071,6 +1096,7 @@ int main(void)
     fill_around();
     check_encoding();
     check_clamping();
+    check_block_starts();
     check_refusals();
     check_buffer();
     check_register_stored();

@@ -53,6 +53,7 @@ mod c {
         pub fn m58_lookup_refusal(part: u32, address: u32) -> u32;
         pub fn m58_lookup_block(part: u32, address: u32) -> u32;
         pub fn m58_lookup_bank(part: u32, address: u32) -> u32;
+        pub fn m58_block_start(part: u32, block: u32) -> u64;
         pub fn m58_report(
             state: *const u64,
             state_count: usize,
@@ -85,6 +86,18 @@ pub fn lookup(part: u32, address: u32) -> (u32, u32, u32) {
             c::m58_lookup_bank(part, address),
         )
     }
+}
+
+/// The block of an address.
+pub fn lookup_block(part: u32, address: u32) -> u32 {
+    // SAFETY: plain numbers go in and out; m58.h allows any of them.
+    unsafe { c::m58_lookup_block(part, address) }
+}
+
+/// The lowest location of a block, with a refusal from bit 32.
+pub fn block_start(part: u32, block: u32) -> u64 {
+    // SAFETY: plain numbers go in and out; m58.h allows any of them.
+    unsafe { c::m58_block_start(part, block) }
 }
 
 /// m58_power_up on state words of any count.

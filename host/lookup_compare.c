@@ -1,9 +1,10 @@
 /*
- * Host bench for the block and bank lookup.
+ * Host bench for the block and bank lookup and the table of block starts.
  *
  * Reads the block map on standard input (see sheet_map.rs for its form),
- * then asks the lookup for every address of every part, and for input it
- * has to refuse, and compares each answer.
+ * then asks for the start of every block of every part, prints them, and
+ * compares each with the map; asks the lookup for every address of every part;
+ * and asks both for input that they have to refuse.
  *
  * Exit status: 0 all equal, 1 a mismatch, 2 the map cannot be used.
  */
@@ -150,6 +151,62 @@ static inline void compare(uint32_t part, uint32_t address, struct answer expect
         mismatch(part, address, expected, got);
 }
 
+/* ---- the table of block starts ---- */
+
+static void compare_start(uint32_t part, uint32_t block, uint32_t refusal, uint32_t location)
+{
+    const uint64_t got = m58_block_start(part, block);
+    if (M58_START_REFUSAL(got) == refusal && M58_START_LOCATION(got) == location)
+        return;
+    fflush(stdout);
+    fprintf(stderr,
+            "lookup_compare: mismatch: start of block %" PRIu32 " of part %" PRIu32 "\n"
+            "  expected refusal %" PRIu32 " location %06" PRIX32 "h\n"
+            "  got      refusal %" PRIu32 " location %06" PRIX32 "h\n",
+            block, part, refusal, location, M58_START_REFUSAL(got), M58_START_LOCATION(got));
+    exit(1);
+}
+
+/* Prints what the library holds, then compares it: a wrong table is seen whole. */
+static uint64_t compare_starts(uint32_t part)
+{
+    enum { COLUMNS = 8 };
+    printf("%s, block starts:\n", part_name[part]);
+    for (uint32_t block = 0; block < M58_BLOCKS; block++) {
+        if (block % COLUMNS == 0)
+            printf("  %3" PRIu32 ":", block);
+        printf(" %06" PRIX32, M58_START_LOCATION(m58_block_start(part, block)));
+        if (block % COLUMNS == COLUMNS - 1 || block == M58_BLOCKS - 1)
+            putchar('\n');
+    }
+    for (uint32_t i = 0; i < M58_BLOCKS; i++)
+        compare_start(part, map[part][i].block, M58_REFUSED_NOTHING, map[part][i].first);
+    return M58_BLOCKS;
+}
+
+static uint64_t compare_no_starts(void)
+{
+    static const uint32_t no_part[] = { 4, 5, 255, 2147483648u, 4294967295u };
+    static const uint32_t no_block[] = { 259, 260, 511, 512, 65536, 2147483648u, 4294967295u };
+    enum {
+        NO_PART = sizeof no_part / sizeof no_part[0],
+        NO_BLOCK = sizeof no_block / sizeof no_block[0]
+    };
+    uint64_t asked = 0;
+    for (uint32_t part = 0; part < M58_PARTS; part++)
+        for (int i = 0; i < NO_BLOCK; i++, asked++)
+            compare_start(part, no_block[i], M58_REFUSED_NOTHING, M58_NO_START);
+    for (int p = 0; p < NO_PART; p++) {
+        for (uint32_t block = 0; block < M58_BLOCKS; block++, asked++)
+            compare_start(no_part[p], block, M58_REFUSED_PART, 0);
+        for (int i = 0; i < NO_BLOCK; i++, asked++)
+            compare_start(no_part[p], no_block[i], M58_REFUSED_PART, 0);
+    }
+    return asked;
+}
+
+/* ---- the lookup ---- */
+
 static uint64_t compare_part(uint32_t part)
 {
     unsigned char seen[M58_BLOCKS] = {0};
@@ -235,8 +292,13 @@ static uint64_t compare_refused(void)
 
 int main(void)
 {
-    uint64_t total = 0;
+    uint64_t total = 0, starts = 0, no_starts;
     read_map();
+    for (uint32_t part = 0; part < M58_PARTS; part++)
+        starts += compare_starts(part);
+    no_starts = compare_no_starts();
+    printf("block starts: %" PRIu64 " equal to the sheet's tables, %" PRIu64
+           " of no part or no block told\n", starts, no_starts);
     for (uint32_t part = 0; part < M58_PARTS; part++)
         total += compare_part(part);
     total += compare_refused();

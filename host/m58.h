@@ -1,7 +1,7 @@
 /*
  * The M58LT256K flash model, for C programs: the lookup of blocks and
- * banks, lists of steps played on a part, counts of its erases, and arrays read
- * from Intel HEX text and written to it.
+ * banks, the table of block starts, lists of steps played on a part, counts of its
+ * erases, and arrays read from Intel HEX text and written to it.
  *
  * THE LOOKUP is three pure functions on plain numbers. Any uint32_t may be passed for
  * either argument. They keep no state, touch no memory of the caller and
@@ -17,6 +17,10 @@
  * Ask for the refusal first. When it is M58_REFUSED_NOTHING, the block is
  * 0 to 258 and the bank 0 to 15. Beside any refusal both are 0, which by
  * itself cannot be told from block 0 or bank 0.
+ *
+ * THE TABLE OF BLOCK STARTS is one more such function, of a part and a block. The lookup
+ * goes through the same table, by halving: the block of an address is the last one
+ * that does not start above it.
  *
  * To link:  cc prog.c libm58.a      (x86-64 Linux only: rt staticlib writes
  * the library for no other machine)
@@ -58,6 +62,18 @@ uint32_t m58_lookup_block(uint32_t part, uint32_t address);
 
 /* The bank the address lies in, 0 to 15; 0 beside a refusal. */
 uint32_t m58_lookup_bank(uint32_t part, uint32_t address);
+
+/*
+ * The lowest location of a block: refusal << 32 | location. M58_REFUSED_PART is the
+ * only refusal, and the location beside it is 0. A number that is no block, M58_BLOCKS
+ * or more, is not refused: its location is M58_NO_START, which no part has.
+ *
+ * The locations rise with the block from 0 on a bottom part, and fall to 0 on a top part.
+ */
+uint64_t m58_block_start(uint32_t part, uint32_t block);
+#define M58_START_REFUSAL(result)  ((uint32_t)((result) >> 32))
+#define M58_START_LOCATION(result) ((uint32_t)(result))
+#define M58_NO_START               M58_ADDRESS_LIMIT
 
 /*
  * PLAYING. The caller keeps the device as M58_STATE_WORDS words with its erase

@@ -1,5 +1,5 @@
 //! Another static library, linked beside the first: benchmark renames its
-//! m58_power_up and m58_run, since two of a name cannot be linked. One from before
+//! m58_power_up, m58_run and m58_lookup_block, since two of a name cannot be linked. One from before
 //! the erase counts (document 02, item 6) takes none; benchmark tells by the name
 //! other_counts that it does.
 
@@ -25,6 +25,16 @@ mod c {
             array_count: usize,
         ) -> usize;
     }
+}
+
+extern "C" {
+    fn other_lookup_block(part: u32, address: u32) -> u32;
+}
+
+/// The block of an address.
+pub fn lookup_block(part: u32, address: u32) -> u32 {
+    // SAFETY: plain numbers go in and out; m58.h allows any of them.
+    unsafe { other_lookup_block(part, address) }
 }
 
 /// Whether it counts erases.

@@ -3,3 +3,4 @@ pub mod Blocks
 pub mod Laws
 pub mod Table
 pub mod Listed
+pub mod TableCases

@@ -526,9 +526,8 @@ fn scale_of(part: Part) -> u32
     ensures { λ r. ⌜ r ≡ scale (geometryOf part) ⌝ }
     ensures positive { λ r. ⌜ 0 < r ⌝ }
 {
-    let full = geometry_of(Part::FullBottom);
     let g = geometry_of(part);
-    full.unit / g.unit
+    65536 / g.unit
 }
 
 // The block that a location lies in, through the table: by mirror and scale, and then the last entry that is not above.

@@ -4,9 +4,9 @@ use Prim.Native.Nat.{ℕ, _+_, _*_, min}
 use mathlib.Core.Bool.{Bool, true, cond, _&&_}
 use mathlib.Core.List.{List}
 use mathlib.Core.Path.{_≡_}
-use lib.Dec.{eqb, leb}
+use lib.Dec.{eqb, leb, ltb}
 use lib.ListN.{length}
-use Rattle.geometry.specs.Blocks.{partNumbered}
+use Rattle.geometry.specs.Blocks.{partNumbered, geometryOf, blocks, startOf}
 use Rattle.semantics.specs.declared.State.{State}
 use Rattle.semantics.specs.declared.Reported.{Reported}
 use Rattle.semantics.specs.State.{powerUp}
@@ -18,6 +18,14 @@ use Rattle.playback.specs.Playback.{playable, machineOf, Played}
 use Rattle.hex.specs.Records.{verdict, arrayRead}
 use Rattle.hex.specs.Text.{written, roomAfter}
 use Rattle.saved.specs.Saved.{savedOf, isSaved, stateOf}
+
+-- the start of a block in one number: its lowest location from bit 0; 7 "part number above 3" from bit 32; and for a number that is no block 16,777,216, which is no
+-- location of any part
+unfoldable pub startCode : ℕ → ℕ → ℕ
+startCode part block =
+    cond (leb part 3)
+    (cond (ltb block (blocks (geometryOf (partNumbered part)))) (startOf (geometryOf (partNumbered part)) block) 16777216)
+    (7 * 4294967296)
 
 -- power-up wants the number of a part, and room for 25 words
 unfoldable pub powersUp : ℕ → List ℕ → Bool

@@ -1,3 +1,4 @@
 pub mod Calls
+pub mod Cases
 pub mod Laws
 pub mod Sequence

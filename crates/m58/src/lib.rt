@@ -8,7 +8,7 @@ ghost use Rattle.semantics.specs.Reading.{bitIf};
 ghost use Rattle.wear.specs.Counts.{lent};
 ghost use Rattle.wear.specs.Steps.{reportedWith, mostWornWith, eraseCountWith};
 ghost use Rattle.saved.specs.Saved.{stateOf};
-ghost use Rattle.m58.specs.Calls.{powersUp, poweredUp, unworn, reportCode, wornCode, countCode, Ran, hexCode, hexVerdict, hexArray, hexWritten, hexRoom};
+ghost use Rattle.m58.specs.Calls.{powersUp, poweredUp, unworn, reportCode, wornCode, countCode, Ran, hexCode, hexVerdict, hexArray, hexWritten, hexRoom, startCode};
 
 // ---- the lookup of an address of a part, by the part's number
 
@@ -37,6 +37,21 @@ pub extern "C" fn m58_lookup_bank(part: u32, address: u32) -> u32
 {
     let found = geometry::look_up(part, address);
     found.bank
+}
+
+// The lowest location of a block of a part, from bit 0, with the refusal 7 from bit 32; 16,777,216, which is no location, for a number that is no block.
+#[no_mangle]
+pub extern "C" fn m58_block_start(part: u32, block: u32) -> u64
+    ensures { λ r. ⌜ r ≡ startCode part block ⌝ }
+{
+    if part > 3 {
+        return 7 * 4294967296;
+    }
+    let p = geometry::part_numbered(part);
+    if block >= geometry::block_count(p) {
+        return 16777216;
+    }
+    geometry::start_by_table(p, block) as u64
 }
 
 // ---- the device

@@ -12,9 +12,6 @@ use Rattle.geometry.proofs.scale_of.Tie as tie
 geometry-of-requires : tie.Need-geometry-of-requires
 geometry-of-requires c κs = search needs
 
-geometry-of-requires-2 : tie.Need-geometry-of-requires-2
-geometry-of-requires-2 c κs = search needs
-
 div-result : tie.Need-div-result
 div-result c = search needs
 
@@ -24,8 +21,7 @@ answer p r e = (e, subst⁻¹ (λ (x : ℕ). 0 < x) e (scaled p .factor))
 
 returns : tie.Need-returns
 returns c =
-    answer (c .before .before .before .before .args .part) _
-    (rw (c .before .before .before .geometry-of .ensures .0, c .before .before .geometry-of2 .ensures .0))
+    answer (c .before .before .args .part) _ (rw (c .before .geometry-of .ensures .0))
 
 pub scale-of-spec : {M : Type 1} → statement M
-scale-of-spec = tie.close (tie.spec geometry-of-requires geometry-of-requires-2 div-result returns)
+scale-of-spec = tie.close (tie.spec geometry-of-requires div-result returns)
