@@ -1080,8 +1080,8 @@ static void check_block_starts(void)
         }
         SAME(M58_NO_START, m58_block_start(part, M58_BLOCKS));
         SAME(M58_NO_START, m58_block_start(part, UINT32_MAX));
-        SAME(M58_REFUSED_PART, M58_START_REFUSAL(m58_block_start(part + M58_PARTS, part)));
-        SAME(0, M58_START_LOCATION(m58_block_start(part + M58_PARTS, M58_BLOCKS)));
+        SAME(UINT64_C(7) << 32, m58_block_start(part + M58_PARTS, 100));
+        SAME(UINT64_C(7) << 32, m58_block_start(part + M58_PARTS, M58_BLOCKS));
     }
 }
 

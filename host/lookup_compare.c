@@ -4,7 +4,7 @@
  * Reads the block map on standard input (see sheet_map.rs for its form),
  * then asks for the start of every block of every part, prints them, and
  * compares each with the map; asks the lookup for every address of every part;
- * and asks both for input that they have to refuse.
+ * and asks both for parts, blocks and addresses that there are not.
  *
  * Exit status: 0 all equal, 1 a mismatch, 2 the map cannot be used.
  */

@@ -21,7 +21,7 @@ unfoldable pub tied : Geometry → ℕ → ℕ → List ℕ → Bool
 tied g b least [] = eqb b (blocks g)
 tied g b least (x ∷ xs) = leb least x && (begins g b x && tied g (suc b) (suc x) xs)
 
--- how many entries are not above l: of a rising table the last of them is the last entry that is not above l
+-- how many entries are not above l; in a rising table they come first, so that the last of them is the entry of one number less
 unfoldable pub notAbove : List ℕ → ℕ → ℕ
 notAbove [] l = 0
 notAbove (x ∷ xs) l = cond (leb x l) 1 0 + notAbove xs l
