@@ -129,37 +129,35 @@ from-on xs l j k r h t i = go (order j k)
     go (inl s) = omega (arith, r .rise j k s h)
     go (inr s) = subst (λ (n : ℕ). l < getD xs n 0) (omega arith) t
 
--- what a search by halving knows: the entries below `low` are not above l, those from `high` on are
-pub record Halved (xs : List ℕ) (l low high : ℕ) : Type 0 where
-  pub order : low ≤ high
-  pub within : high ≤ length xs
+-- what a search by halving knows: the entries below `low` are not above l, those past the `left` after them are
+pub record Halved (xs : List ℕ) (l low left : ℕ) : Type 0 where
+  pub within : low + left ≤ length xs
   pub below : (k : ℕ) → k < low → getD xs k 0 ≤ l
-  pub above : (k : ℕ) → high ≤ k → k < length xs → l < getD xs k 0
+  pub above : (k : ℕ) → low + left ≤ k → k < length xs → l < getD xs k 0
 
 pub halved-first : (xs : List ℕ) (l : ℕ) → Halved xs l 0 (length xs)
-halved-first xs l = record { order = omega arith; within = omega arith; below = λ k t. omega arith; above = λ k t s. omega arith }
+halved-first xs l = record { within = omega arith; below = λ k t. omega arith; above = λ k t s. omega arith }
 
-module _ (xs : List ℕ) (l low high : ℕ) (r : Rises xs) (i : Halved xs l low high) where
-  pub halved-up : (m : ℕ) → m < high → getD xs m 0 ≤ l → Halved xs l (m + 1) high
-  halved-up m h t =
+-- a look at the last entry of the half, and what is left after it on either branch
+module _ (xs : List ℕ) (l low half rest : ℕ) (r : Rises xs) (i : Halved xs l low (half + rest)) (p : 0 < half) where
+  pub halved-up : getD xs (low + half - 1) 0 ≤ l → Halved xs l (low + half) rest
+  halved-up t =
       record {
-        order = omega arith;
-        within = i .within;
-        below = λ k s. up-to xs l k m r (omega (arith, i .within)) t (omega arith);
-        above = i .above;
+        within = omega (arith, i .within);
+        below = λ k s. up-to xs l k (low + half - 1) r (omega (arith, i .within)) t (omega arith);
+        above = λ k a b. i .above k (omega arith) b;
       }
 
-  pub halved-down : (m : ℕ) → low ≤ m → m < high → l < getD xs m 0 → Halved xs l low m
-  halved-down m s h t =
+  pub halved-down : half ≤ suc rest → l < getD xs (low + half - 1) 0 → Halved xs l low rest
+  halved-down h t =
       record {
-        order = s;
         within = omega (arith, i .within);
         below = i .below;
-        above = λ k a b. from-on xs l m k r b t a;
+        above = λ k a b. from-on xs l (low + half - 1) k r b t (omega arith);
       }
 
-  pub halved-last : high ≤ low → low ≡ notAbove xs l
-  halved-last h = sym (split xs l low (omega (arith, i .within, i .order)) (i .below) (λ k t s. i .above k (omega (arith, i .order)) s))
+pub halved-last : (xs : List ℕ) (l low : ℕ) → Halved xs l low 0 → low ≡ notAbove xs l
+halved-last xs l low i = sym (split xs l low (omega (arith, i .within)) (i .below) (λ k t s. i .above k (omega arith) s))
 
 -- the last entry that is not above a location is that of the formula's block
 pub last-block : (g : Geometry) → Sound g → (xs : List ℕ) → tied g 0 0 xs ≡ true → (l : ℕ) → l < words g → notAbove xs l ≡ suc (blockFrom g l)

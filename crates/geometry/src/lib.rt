@@ -503,20 +503,21 @@ fn block_starts() -> [u32; 259]
     STARTS
 }
 
-// How many entries of a rising table are not above a location, in as many looks as the table can be halved.
+// How many entries of a rising table are not above a location, in as many looks as its length can be halved. What is left is the same on both branches, so that a look
+// takes no jump.
 fn not_above(table: &[u32], location: u32) -> usize
     requires { ⌜ Rises (now table) ⌝ }
     ensures { λ r. ⌜ r ≡ notAbove (now (table .entry)) location ⌝ }
 {
     let mut low: usize = 0;
-    let mut high = table.len();
-    while low < high {
-        let middle = low + (high - low) / 2;
-        if table[middle] <= location {
-            low = middle + 1;
-        } else {
-            high = middle;
+    let mut left = table.len();
+    while left > 0 {
+        let rest = left / 2;
+        let half = left - rest;
+        if table[low + half - 1] <= location {
+            low = low + half;
         }
+        left = rest;
     }
     low
 }
