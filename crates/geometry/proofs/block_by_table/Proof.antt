@@ -1,11 +1,9 @@
 -- `geometry::block_by_table` meets its contract: the table that it asks has passed the test, and so gives the formula's block. Assumes nothing.
 use borrow.Author.Needs.{needs}
 use native.Mathlib.Omega.{arith}
-use Prim.Native.Nat.{ℕ, suc, _*_, _-_, _<_}
+use Prim.Native.Nat.{suc, _*_, _-_, _<_}
 use mathlib.Core.Path.{_≡_}
-use lib.ListN.{getD}
-use Rattle.geometry.specs.Blocks.{geometryOf, words, mirror, blockOf}
-use Rattle.geometry.specs.Table.{notAbove, scale}
+use Rattle.geometry.specs.Blocks.{geometryOf, words, blockOf}
 use Rattle.geometry.specs.Laws.{sound, mirror-lt, part-block-lt}
 use Rattle.geometry.specs.Listed.{rises, scaled-lt, table-is-formula}
 use Rattle.geometry.specs.declared.Part.{Part}
