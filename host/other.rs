@@ -1,7 +1,7 @@
 //! Another static library, linked beside the first: benchmark renames its
-//! m58_power_up, m58_run and m58_lookup_block, since two of a name cannot be linked. One from before
-//! the erase counts (document 02, item 6) takes none; benchmark tells by the name
-//! other_counts that it does.
+//! m58_power_up, m58_run and m58_lookup_block, since two of a name cannot be
+//! linked. One from before the erase counts (document 02, item 6) takes none;
+//! benchmark tells by the name other_counts that it does.
 
 use crate::second::model::EraseCounts;
 
