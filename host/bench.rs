@@ -32,7 +32,7 @@ const ROUNDS: usize = 15;
 /// plays in less is played again and again.
 const MEASURED: f64 = 0.01;
 
-/// Steps of a list that is long against a call.
+/// Steps of a list that is long against a call, and addresses that are looked up.
 const LONG: usize = 200_000;
 
 /// The block that is read, programmed and erased where one is enough.

@@ -1,8 +1,8 @@
 /*
  * Checks what m58.h says of its macros, of the table of block starts, of state words
- * that are those of no device, of the write buffer, of the configuration register, of the supply, of the
- * erase counts, and of Intel HEX text. Prints one line; ends with 1 where something is
- * otherwise.
+ * that are those of no device, of the write buffer, of the configuration register, of
+ * the supply, of the erase counts, and of Intel HEX text. Prints one line; ends with 1
+ * where something is otherwise.
  *
  * To build:  cc header_checks.c libm58.a
  */

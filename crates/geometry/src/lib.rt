@@ -1,5 +1,5 @@
 // The words, blocks and banks of a part: document 01, "Words, blocks, banks".
-// Each function takes every number: one that is no block, bank or location has the answer that its definition gives it.
+// Each public function takes every number: one that is no block, bank or location has the answer that its definition gives it.
 ghost use mathlib.Core.Path.{_≡_};
 ghost use mathlib.Core.Bool.{true, cond};
 ghost use Prim.Native.Nat.{_+_, _-_, _<_, _≤_};
@@ -544,7 +544,7 @@ fn block_by_table(part: Part, location: u32) -> u32
     (n - 1) as u32
 }
 
-// The lowest location of a block, through the table.
+// The lowest location of a block, through the table; 0 for a number that is no block.
 pub fn start_by_table(part: Part, block: u32) -> u32
     ensures { λ r. ⌜ r ≡ startOf (geometryOf part) block ⌝ }
     ensures limit { λ r. ⌜ r < 16777216 ⌝ }
