@@ -2,6 +2,7 @@
 // Every function takes any words and any number. When a word is loaded, or in use, is not said here.
 ghost use mathlib.Core.Path.{_≡_};
 ghost use mathlib.Core.Bool.{cond};
+ghost use Prim.Native.Nat.{_≤_};
 ghost use lib.Dec.{ltb, eqb};
 ghost use lib.ListN.{set};
 ghost use Rattle.semantics.specs.State.{emptyBuffer};
@@ -74,21 +75,22 @@ pub fn first_loaded(n: u32, word: u16) -> [u16; 32]
     words
 }
 
-// The words with another at place i; a number that is no place changes nothing.
-fn with_word(mut words: [u16; 32], i: u32, word: u16) -> [u16; 32]
+// The words, past which a word at place i would be. (That there are 32 of them a proof is told of a parameter by value alone.)
+fn unchanged(words: [u16; 32], i: u32, word: u16) -> [u16; 32]
+    requires { ⌜ 32 ≤ i ⌝ }
     ensures { λ r. ⌜ r ≡ set words i word ⌝ }
 {
-    if i < 32 {
-        words[i as usize] = word;
-        return words;
-    }
     words
 }
 
-// Puts a word in at place i.
+// Puts a word in at place i, where it stands. A number that is no place changes nothing: the compiler makes nothing of the copy there.
 pub fn load(words: &mut [u16; 32], i: u32, word: u16)
     ensures { λ _. ⌜ now (words .exit) ≡ set (now (words .entry)) i word ⌝ }
 {
+    if i < 32 {
+        words[i as usize] = word;
+        return;
+    }
     let old = *words;
-    *words = with_word(old, i, word);
+    *words = unchanged(old, i, word);
 }
