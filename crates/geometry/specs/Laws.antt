@@ -122,7 +122,7 @@ module _ (g : Geometry) (w : Sound g) where
   quot-small m h = div-lt-iff-lt-mul (w .small-pos) .1 (omega (arith, w .whole))
 
   -- a location above the first place has a quotient of at least 1
-  quot-main : (m : ℕ) → g .unit ≤ m → 1 ≤ m / g .unit
+  pub quot-main : (m : ℕ) → g .unit ≤ m → 1 ≤ m / g .unit
   quot-main m h = le-div-iff-mul-le (w .unit-pos) .1 (omega (arith, one-mul (g .unit)))
 
   -- a number that is no block has no words

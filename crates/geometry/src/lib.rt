@@ -4,6 +4,7 @@ ghost use mathlib.Core.Path.{_≡_};
 ghost use mathlib.Core.Bool.{true, cond};
 ghost use Prim.Native.Nat.{_+_, _-_, _<_, _≤_};
 ghost use Rattle.geometry.specs.Blocks.{geometryOf, words, blocks, location, mirror, blockOf, bankOf, sizeOf, startOf, bankStart, blockOffset, bankOffset, bankOfBlock, Sound, partNumbered, lookupOf};
+ghost use Rattle.geometry.specs.Bits.{unitBits, smallBits, bankBits};
 ghost use Rattle.geometry.specs.Table.{tied, notAbove, Rises, scale};
 
 // The four parts: full or bench size, with the small blocks at the bottom or at the top.
@@ -101,16 +102,64 @@ pub fn location_of(part: Part, address: u32) -> u32
     address % n
 }
 
+// Whether the small blocks are at the top.
+fn is_top(part: Part) -> bool
+    ensures { λ r. ⌜ r ≡ geometryOf part .top ⌝ }
+{
+    match part {
+        Part::FullBottom => false,
+        Part::FullTop => true,
+        Part::BenchBottom => false,
+        Part::BenchTop => true,
+    }
+}
+
 // The location counted from the end that has the small blocks.
 fn mirror_of(part: Part, location: u32) -> u32
     ensures { λ r. ⌜ r ≡ mirror (geometryOf part) location ⌝ }
 {
-    let g = geometry_of(part);
-    if g.top {
-        let last = g.places * g.unit - 1;
+    if is_top(part) {
+        let last = length_of(part) - 1;
         if location <= last { last - location } else { 0 }
     } else {
         location
+    }
+}
+
+// A place in a main block, in a small block and in a bank as bits of a location: a quotient by bits is a shift, whatever the part, and takes no jump.
+fn unit_bits(part: Part) -> u32
+    ensures { λ r. ⌜ r ≡ unitBits part ⌝ }
+    ensures limit { λ r. ⌜ r < 32 ⌝ }
+{
+    match part {
+        Part::FullBottom => 16,
+        Part::FullTop => 16,
+        Part::BenchBottom => 6,
+        Part::BenchTop => 6,
+    }
+}
+
+fn small_bits(part: Part) -> u32
+    ensures { λ r. ⌜ r ≡ smallBits part ⌝ }
+    ensures limit { λ r. ⌜ r < 32 ⌝ }
+{
+    match part {
+        Part::FullBottom => 14,
+        Part::FullTop => 14,
+        Part::BenchBottom => 4,
+        Part::BenchTop => 4,
+    }
+}
+
+fn bank_bits(part: Part) -> u32
+    ensures { λ r. ⌜ r ≡ bankBits part ⌝ }
+    ensures limit { λ r. ⌜ r < 32 ⌝ }
+{
+    match part {
+        Part::FullBottom => 20,
+        Part::FullTop => 20,
+        Part::BenchBottom => 10,
+        Part::BenchTop => 10,
     }
 }
 
@@ -121,11 +170,11 @@ pub fn block_of(part: Part, location: u32) -> u32
 {
     let g = geometry_of(part);
     let m = mirror_of(part, location);
-    let u = g.unit;
-    if m < u {
-        m / (u / g.smalls)
+    let place = m >> unit_bits(part);
+    if place == 0 {
+        m >> small_bits(part)
     } else {
-        m / u + (g.smalls - 1)
+        place + (g.smalls - 1)
     }
 }
 
@@ -134,9 +183,8 @@ pub fn bank_of(part: Part, location: u32) -> u32
     ensures { λ r. ⌜ r ≡ bankOf (geometryOf part) location ⌝ }
     ensures inside { λ r. ⌜ (location < words (geometryOf part) → r < 16) ⌝ }
 {
-    let g = geometry_of(part);
     let m = mirror_of(part, location);
-    m / (g.group * g.unit)
+    m >> bank_bits(part)
 }
 
 // The words of a block.

@@ -1,37 +1,23 @@
--- `geometry::block_of` meets its contract: each branch is one form of `blockFrom` at the mirror; the bound is a law of the parts.
+-- `geometry::block_of` meets its contract: each branch is one form of `blockFrom` at the mirror, by a shift; the bound is a law of the parts.
 -- Assumes nothing.
 use borrow.Author.Needs.{needs}
 use native.Mathlib.Omega.{arith}
-use Prim.Native.Nat.{ℕ, _<_}
-use mathlib.Core.Path.{_≡_, sym, subst⁻¹}
+use Prim.Native.Nat.{ℕ, _/_, _^_, _<_}
+use mathlib.Core.Path.{_≡_, subst⁻¹}
 use Rattle.geometry.specs.Blocks.{geometryOf, words, blockOf}
+use Rattle.geometry.specs.Bits.{unitBits, past, small-shift, main-shift}
 use Rattle.geometry.specs.Laws as laws
 use Rattle.geometry.specs.declared.Part.{Part}
 use Rattle.geometry.proofs.block_of.Statement.{statement}
 use Rattle.geometry.proofs.block_of.Tie as tie
 
-geometry-of-requires : tie.Need-geometry-of-requires
-geometry-of-requires c κs = search needs
-
-mirror-of-requires : tie.Need-mirror-of-requires
-mirror-of-requires c κs = search needs
-
-div-result : tie.Need-div-result
-div-result c = search needs
-
-div-result-2 : tie.Need-div-result-2
-div-result-2 c = search needs
-
-div-result-3 : tie.Need-div-result-3
-div-result-3 c = search needs
-
-sub-result : tie.Need-sub-result
-sub-result c = search needs
-
 add-result : tie.Need-add-result
 add-result c =
-    let h = laws.block-le _ (c .before .before .before .geometry-of .ensures .1) _ (c .before .if1 .left) in
-    omega (arith, h, c .before .before .mirror-of .ok)
+    let p : Part = c .before .before .before .before .before .args .part in
+    let m : ℕ = c .before .before .before .mirror-of .result in
+    let e : m / 2 ^ unitBits p ≡ 0 → ⊥ = rw (c .before .before .unit-bits .ensures .0) at (c .before .if1 .left) in
+    rw (c .before .before .unit-bits .ensures .0, c .before .before .before .before .geometry-of .ensures .0)
+    (omega (arith, main-shift p m e, laws.block-main (geometryOf p) m (past p m e), laws.block-le (geometryOf p) (laws.sound p) m (past p m e), c .before .before .before .mirror-of .ok))
 
 -- both clauses from the first
 answer : (p : Part) (l r : ℕ) → r ≡ blockOf (geometryOf p) l → (r ≡ blockOf (geometryOf p) l) × (l < words (geometryOf p) → r < 259)
@@ -40,25 +26,21 @@ answer p l r e = (e, λ h. subst⁻¹ (λ (x : ℕ). x < 259) e (laws.part-block
 returns : tie.Need-returns
 unfolding blockOf
 returns c =
-    answer (c .before .before .before .before .args .part) (c .before .before .before .before .args .location) _
-    (rw (← c .before .before .mirror-of .ensures, ← c .before .before .before .geometry-of .ensures .0) (sym (laws.block-small _ _ (c .before .if1 .taken))))
+    let a = c .before .before .before .before .before .args in
+    let m = c .before .before .before .mirror-of in
+    answer (a .part) (a .location) _
+    (rw (c .small-bits .ensures .0, ← m .ensures) (small-shift (a .part) (m .result) (rw (c .before .before .unit-bits .ensures .0) at (c .before .if1 .taken))))
 
 returns-2 : tie.Need-returns-2
 unfolding blockOf
 returns-2 c =
-    answer (c .before .before .before .before .args .part) (c .before .before .before .before .args .location) _
-    (rw (← c .before .before .mirror-of .ensures, ← c .before .before .before .geometry-of .ensures .0) (sym (laws.block-main _ _ (c .before .if1 .left))))
+    let a = c .before .before .before .before .before .args in
+    let m = c .before .before .before .mirror-of in
+    let u = c .before .before .unit-bits .ensures .0 in
+    answer (a .part) (a .location) _
+    (rw (u, c .before .before .before .before .geometry-of .ensures .0, ← m .ensures) (main-shift (a .part) (m .result) (rw u at (c .before .if1 .left))))
 
 pub block-of-spec : {M : Type 1} → statement M
 block-of-spec =
     tie.close
-    (tie.spec
-    geometry-of-requires
-    mirror-of-requires
-    div-result
-    div-result-2
-    div-result-3
-    sub-result
-    add-result
-    returns
-    returns-2)
+    (tie.spec (λ c κs. search needs) (λ c κs. search needs) (λ c κs. search needs) (λ c. search needs) (λ c κs. search needs) (λ c. search needs) (λ c. search needs) add-result returns returns-2)
