@@ -1,12 +1,15 @@
 -- Laws of playing a list step by step. Assumes nothing.
-use Prim.Native.Nat.{ℕ, zero, suc, _≤_, _<_}
+use Prim.Native.Nat.{ℕ, zero, suc, _+_, _≤_, _<_}
 use mathlib.Core.List.{List, [], _∷_, _++_}
 use mathlib.Core.Path.{_≡_, refl, sym, ap, _∙_, subst}
 use mathlib.Core.Bool.{Bool}
 use native.Mathlib.Omega.{arith}
+use native.Mathlib.Numerals.{add-one}
 use lib.ListN.{length, getD, take, set, length-set}
 use lib.Seq.{take-length}
+use borrow.Author.Tests.{ne-eqb}
 use Rattle.geometry.specs.declared.Part.{Part}
+use Rattle.geometry.specs.declared.Geometry.{Geometry}
 use Rattle.geometry.specs.Blocks.{geometryOf}
 use Rattle.geometry.specs.Laws.{sound, location-lt, part-bank-lt}
 use Rattle.semantics.specs.declared.Control.{Control}
@@ -19,7 +22,7 @@ use Rattle.semantics.specs.declared.Step.the-variants.{Read, Write, Work, Suppl
 use Rattle.semantics.specs.declared.Place.{Place}
 use Rattle.semantics.specs.declared.Decoded.{Decoded}
 use Rattle.semantics.specs.declared.Decoded.the-variants.{Valid, Invalid}
-use Rattle.semantics.specs.Steps.{switchedTo, Machine}
+use Rattle.semantics.specs.Steps.{switchedTo, firstRefusal, Machine}
 use Rattle.semantics.specs.Supply.{switched}
 use Rattle.semantics.specs.Encoding.{decode}
 use Rattle.semantics.specs.Demand.{Demand3}
@@ -177,6 +180,11 @@ sofar-end d₀ k₀ codes room xs i d k answers array s e =
       wear = subst (λ (y : Counts). CountsJournaled m₀ l y) (sym w) (counts-journaled m₀ l);
     }
 
+-- the end by other names
+pub played-as : (d : Device) (k : Counts) (codes room xs : List ℕ) (i i′ : ℕ) (s s′ : State) (l l′ : Counts) (a a′ y y′ : List ℕ) → i ≡ i′ → s ≡ s′ → l ≡ l′ → a ≡ a′ → y ≡ y′
+    → Played d k codes room xs (record { played = i′; device = holding s′ }) l′ a′ y′ → Played d k codes room xs (record { played = i; device = holding s }) l a y
+played-as d k codes room xs i i′ s s′ l l′ a a′ y y′ e f g h j p = rw (e, f, g, h, j) p
+
 -- ---- the loop, with the one test of the state, its counts and the array
 
 pub record Going (c : ℕ) (s₀ : State) (k₀ : Counts) (codes room xs : List ℕ) (i : ℕ) (s : State) (k : Counts) (answers array : List ℕ) : Type 0 where
@@ -206,6 +214,22 @@ going-on c s₀ k₀ codes room xs i s k answers array t a ys l g p q f =
       room-long = length-set answers i (answerCode a) ∙ g .room-long;
       array-long = ap length (d .1) ∙ length-with s k array x ∙ g .array-long;
     }
+
+-- as the code says it: the next place is one more, and the number r that is written is the answer's
+pub going-turn : (c : ℕ) (s₀ : State) (k₀ : Counts) (codes room xs : List ℕ) (i : ℕ) (s : State) (k : Counts) (answers array : List ℕ) (t : State) (a : Answer) (ys : List ℕ) (l : Counts) (r : ℕ)
+    → r ≡ answerCode a → Going c s₀ k₀ codes room xs i s k answers array → i < length codes → i < length room → Plays s k array (getD codes i 0) t a ys l → Going c s₀ k₀ codes room xs (i + 1) t l (set answers i r) ys
+going-turn c s₀ k₀ codes room xs i s k answers array t a ys l r e g p q f = rw (add-one, e) (going-on c s₀ k₀ codes room xs i s k answers array t a ys l g p q f)
+
+-- a number that encodes a step, on a device that is refused whatever the step is
+pub all-refused : (c : ℕ) (g : Geometry) (code : ℕ) (x : Step) → decode code ≡ Valid x → (c ≡ 0 → ⊥) → Means c g code (task.Refused c)
+unfolding firstRefusal
+all-refused c g code x e h = (x, (e, rw (ne-eqb c 0 h), h))
+
+-- a reset, piece by piece: the part stays
+pub reset-pieces : (q : Part) (z : State) (on : Bool) → z ≡ withSupply (powerUp q) on
+    → _≡_ {A = State} (record { part = q; banks = z .banks; unprotected = z .unprotected; control = z .control; buffer = z .buffer }) (withSupply (powerUp q) on)
+unfolding powerUp
+reset-pieces q z on e = λ j. record { part = q; banks = (e j) .banks; unprotected = (e j) .unprotected; control = (e j) .control; buffer = (e j) .buffer }
 
 -- a write names a bank of the part
 pub write-bank : (c : ℕ) (q : Part) (code : ℕ) (p : Place) (w : ℕ) → Means c (geometryOf q) code (task.Write p w) → p .bank < 16

@@ -15,12 +15,17 @@ use semantics::Step;
 use semantics::View;
 use working::Progress;
 use writing::Change;
+ghost use mathlib.Core.List.{List};
 ghost use mathlib.Core.Path.{_≡_};
+ghost use Prim.Native.Nat.{ℕ};
 ghost use Rattle.geometry.specs.Blocks.{geometryOf};
 ghost use Rattle.semantics.specs.State.{setActivity, withSetup, withRunning};
 ghost use Rattle.semantics.specs.Encoding.{decode};
 ghost use Rattle.writing.specs.Changes.{settledIn};
-ghost use Rattle.wear.specs.Counts.{lent};
+ghost use Rattle.wear.specs.Counts.{Counts, lent};
+ghost use Rattle.wear.specs.Held.{Held};
+ghost use Rattle.device.specs.Outcomes.{holding};
+ghost use Rattle.semantics.specs.declared.State.{State};
 ghost use Rattle.playback.specs.Playback.{answerCode, Played};
 ghost use Rattle.playback.specs.Tasks.{allowed, taskOf};
 
@@ -200,9 +205,42 @@ fn ended(played: usize, state: State) -> RunEnd
     }
 }
 
+// The pieces of a state, put together.
+fn state_of(
+    part: Part,
+    banks: [Bank; 16],
+    unprotected: [u64; 5],
+    control: Control,
+    buffer: [u16; 32],
+) -> State
+    ensures { λ r. ⌜ r ≡ record { part = part; banks = banks; unprotected = unprotected; control = control; buffer = buffer } ⌝ }
+{
+    State {
+        part,
+        banks,
+        unprotected,
+        control,
+        buffer,
+    }
+}
+
+// A list on a device that is refused whatever the step is: each number that encodes a step is answered by that refusal, up to the first that encodes none. How many there are.
+fn refuse(refused: u32, steps: &[u64], answers: &mut [u64]) -> usize
+    ensures { λ r. ⌜ ((s : State) (k : Counts) (xs : List ℕ) → Held refused s k xs → (refused ≡ 0 → ⊥) → Played (holding s) k (now (steps .entry)) (now (answers .entry)) xs (record { played = r; device = holding s }) k (now (answers .exit)) xs) ⌝ }
+{
+    let n = working::least(steps.len(), answers.len());
+    for i in 0..n {
+        let Decoded::Valid(x) = decoded(steps[i]) else {
+            return i;
+        };
+        answers[i] = answer_code(Answer::Refused(refused));
+    }
+    n
+}
+
 // Plays the steps that the numbers encode, one after the other, and writes the answer of each into its place of the room; stops at the first number that
 // encodes no step, and where the room ends. A list goes on with the device that is given back. What is refused whatever the step is, is tested once; the
-// state stands once, and is changed where it stands, no more of it than the step changes.
+// pieces of the state stand apart, so that the compiler keeps the control in registers, and each is changed where it stands.
 pub fn run(
     device: Device,
     main: &mut [[u16; 16]; 16],
@@ -213,53 +251,85 @@ pub fn run(
 ) -> RunEnd
     ensures { λ r. ⌜ Played device (lent (now (main .entry)) (now (small .entry))) (now (steps .entry)) (now (answers .entry)) (now (array .entry)) r (lent (now (main .exit)) (now (small .exit))) (now (answers .exit)) (now (array .exit)) ⌝ }
 {
-    let mut s = device.state;
-    let refused = device::refusal_of(s, main, array.len());
+    let before = device.state;
+    let part = before.part;
+    let mut banks = before.banks;
+    let mut unprotected = before.unprotected;
+    let mut control = before.control;
+    let mut buffer = before.buffer;
+    let formed = state::formed_of(part, control, unprotected, buffer) & wear::shared_zero(main);
+    let refused = state::refusal_beside(part, formed, array.len());
     let n = working::least(steps.len(), answers.len());
-    for i in 0..n {
-        let part = s.part;
-        let task = task_of(refused, part, steps[i]);
-        let mut answer = Answer::Done;
-        match task {
-            Task::End => return ended(i, s),
-            Task::Refused(e) => answer = Answer::Refused(e),
-            Task::Read(address) => answer = Answer::Word(reading::read_word(s, array, address)),
-            Task::Write(p, word) => {
-                let change = writing::change_of(activity_in(s.control), s.control.supply, p, word);
-                match change {
-                    Change::First(mode, x) => {
-                        s.control = with_setup(s.control, x);
-                        s.banks[p.bank as usize] = Bank { mode };
-                    }
-                    Change::Activity(a) => s.control = with_activity(s.control, a),
-                    Change::Ended(a) => {
-                        let c = with_activity(s.control, a);
-                        s.control = state::end_running(c, &mut s.buffer);
-                    }
-                    Change::View => {
-                        let v = writing::told_view(s, p, word);
-                        writing::load_buffer(part, s.control, p, word, v, &mut s.buffer);
-                        s.control = settled(s.control, v);
-                        s.banks[p.bank as usize] = bank_in(v);
-                        protection::set_block(&mut s.unprotected, p.block, v.unprotected);
+    let mut i: usize = 0;
+    if refused != 0 {
+        i = refuse(refused, steps, answers);
+    } else {
+        while i < n {
+            let task = task_of(0, part, steps[i]);
+            let mut answer = Answer::Done;
+            match task {
+                Task::End => break,
+                Task::Refused(e) => answer = Answer::Refused(e),
+                Task::Read(address) => {
+                    let location = geometry::location_of(part, address);
+                    let bank = geometry::bank_of(part, location);
+                    let b = banks[bank as usize];
+                    let mode = b.mode;
+                    answer = Answer::Word(reading::read_at(
+                        part,
+                        mode,
+                        control,
+                        &unprotected,
+                        array,
+                        location,
+                        bank,
+                    ));
+                }
+                Task::Write(p, word) => {
+                    let change = writing::change_of(activity_in(control), control.supply, p, word);
+                    match change {
+                        Change::First(mode, x) => {
+                            control = with_setup(control, x);
+                            banks[p.bank as usize] = Bank { mode };
+                        }
+                        Change::Activity(a) => control = with_activity(control, a),
+                        Change::Ended(a) => {
+                            let c = with_activity(control, a);
+                            control = state::end_running(c, &mut buffer);
+                        }
+                        Change::View => {
+                            let b = banks[p.bank as usize];
+                            let mode = b.mode;
+                            let on = protection::is_unprotected(&unprotected, p.block);
+                            let v = writing::told_view(part, mode, on, control, p, word);
+                            writing::load_buffer(part, control, p, word, v, &mut buffer);
+                            control = settled(control, v);
+                            banks[p.bank as usize] = bank_in(v);
+                            protection::set_block(&mut unprotected, p.block, v.unprotected);
+                        }
                     }
                 }
+                Task::Work(count) => {
+                    let was = running_in(control);
+                    let o = working::advance(part, was, &mut buffer, array, count);
+                    let left = o.running;
+                    wear::count_finished(main, small, was, left);
+                    let a = advanced(control, o);
+                    control = with_activity(control, a);
+                    answer = Answer::Units(o.units);
+                }
+                Task::Supply(on) => control = state::switch_supply(control, on, &mut buffer),
+                Task::Reset => {
+                    let z = state::reset(state_of(part, banks, unprotected, control, buffer));
+                    banks = z.banks;
+                    unprotected = z.unprotected;
+                    control = z.control;
+                    buffer = z.buffer;
+                }
             }
-            Task::Work(count) => {
-                let was = running_in(s.control);
-                let o = working::advance(part, was, &mut s.buffer, array, count);
-                let left = o.running;
-                wear::count_finished(main, small, was, left);
-                // by a local copy: a control that a function gives back was slower by half here
-                let mut c = s.control;
-                c.activity = advanced(s.control, o);
-                s.control = c;
-                answer = Answer::Units(o.units);
-            }
-            Task::Supply(on) => s.control = state::switch_supply(s.control, on, &mut s.buffer),
-            Task::Reset => s = state::reset(s),
+            answers[i] = answer_code(answer);
+            i += 1;
         }
-        answers[i] = answer_code(answer);
     }
-    ended(n, s)
+    ended(i, state_of(part, banks, unprotected, control, buffer))
 }

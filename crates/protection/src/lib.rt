@@ -13,9 +13,9 @@ pub struct Report {
     pub lowest: u32,
 }
 
-// Whether a block is unprotected.
-pub fn is_unprotected(words: [u64; 5], block: u32) -> bool
-    ensures { λ r. ⌜ r ≡ isUnprotected words block ⌝ }
+// Whether a block is unprotected. The words are lent: an index by a variable would copy them all.
+pub fn is_unprotected(words: &[u64; 5], block: u32) -> bool
+    ensures { λ r. ⌜ r ≡ isUnprotected (now (words .entry)) block ⌝ }
 {
     if block >= BLOCKS {
         return false;
@@ -24,20 +24,26 @@ pub fn is_unprotected(words: [u64; 5], block: u32) -> bool
     (w >> (block % 64)) % 2 == 1
 }
 
-// Unprotects a block, or protects it.
+// Unprotects a block, or protects it; one that is so already is left, and where the compiler sees that it is, there is nothing to do.
 pub fn set_block(words: &mut [u64; 5], block: u32, value: bool)
     ensures { λ _. ⌜ now (words .exit) ≡ withUnprotected (now (words .entry)) block value ⌝ }
 {
     if block >= BLOCKS {
         return;
     }
+    let on = is_unprotected(words, block);
     let i = (block / 64) as usize;
     let m: u64 = 1 << (block % 64);
     let w = words[i] | m;
     if value {
+        if on {
+            return;
+        }
         words[i] = w;
     } else {
-        words[i] = w ^ m;
+        if on {
+            words[i] = w ^ m;
+        }
     }
 }
 

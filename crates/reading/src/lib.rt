@@ -2,6 +2,7 @@
 // Each function takes every number: a location past the array reads 0.
 use geometry::Part;
 use semantics::Activity;
+use semantics::Control;
 use semantics::Flags;
 use semantics::Mode;
 use semantics::Running;
@@ -9,11 +10,12 @@ use semantics::State;
 use semantics::View;
 ghost use mathlib.Core.Path.{_≡_};
 ghost use mathlib.Core.Bool.{not, _&&_};
-ghost use Prim.Native.Nat.{_≤_};
+ghost use Prim.Native.Nat.{ℕ, _≤_};
 ghost use lib.ListN.{getD};
 ghost use Rattle.geometry.specs.Blocks.{geometryOf};
 ghost use Rattle.semantics.specs.State.{runs};
-ghost use Rattle.semantics.specs.Reading.{runsIn, bitIf, statusWord, deviceCode, signatureWord, queryWord, shown, readWord};
+ghost use Rattle.semantics.specs.Reading.{runsIn, bitIf, statusWord, deviceCode, signatureWord, queryWord, shown, readIn, readWord};
+ghost use Rattle.reading.specs.Shown.{seen, placed};
 
 // `n` where `on` holds, and else 0. The bound is what a sum of them asks.
 fn bit_if(on: bool, n: u16) -> u16
@@ -129,25 +131,49 @@ fn shown(part: Part, mode: Mode, running: Running, bank: u32) -> Mode
     }
 }
 
-// The word that a read at an address shows, by the mode of the bank. Of the place only the bank is looked up for every read: the block is for the signature.
+// The word that a read at a location of a bank shows, by the bank's mode. The protection is lent, and looked up for the signature alone.
+pub fn read_at(
+    part: Part,
+    mode: Mode,
+    control: Control,
+    unprotected: &[u64; 5],
+    array: &[u16],
+    location: u32,
+    bank: u32,
+) -> u16
+    ensures { λ r. ⌜ ((a : ℕ) → r ≡ readIn (geometryOf part) (seen (geometryOf part) mode control (now (unprotected .entry)) location) (now (array .entry)) (placed (geometryOf part) a location bank)) ⌝ }
+{
+    let a = control.activity;
+    let flags = control.flags;
+    let running = a.running;
+    let by = shown(part, mode, running, bank);
+    match by {
+        Mode::Array => word_at(array, location),
+        Mode::Status => status_word(part, a, flags, bank),
+        Mode::Signature => {
+            let block = geometry::block_of(part, location);
+            let on = protection::is_unprotected(unprotected, block);
+            let v = View {
+                mode,
+                unprotected: on,
+                control,
+            };
+            signature_word(part, v, location)
+        }
+        Mode::Query => query_word(geometry::bank_offset(part, location)),
+    }
+}
+
+// At an address of a state.
 pub fn read_word(s: State, array: &[u16], address: u32) -> u16
     ensures { λ r. ⌜ r ≡ readWord s (now (array .entry)) address ⌝ }
 {
     let part = s.part;
     let banks = s.banks;
-    let a = s.control.activity;
-    let flags = s.control.flags;
-    let running = a.running;
+    let words = s.unprotected;
+    let control = s.control;
     let location = geometry::location_of(part, address);
     let bank = geometry::bank_of(part, location);
-    let by = shown(part, state::mode_of(banks, bank), running, bank);
-    match by {
-        Mode::Array => word_at(array, location),
-        Mode::Status => status_word(part, a, flags, bank),
-        Mode::Signature => {
-            let p = state::place_of(part, address);
-            signature_word(part, state::view_at(s, p), location)
-        }
-        Mode::Query => query_word(geometry::bank_offset(part, location)),
-    }
+    let mode = state::mode_of(banks, bank);
+    read_at(part, mode, control, &words, array, location, bank)
 }

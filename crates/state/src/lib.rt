@@ -14,11 +14,13 @@ use semantics::Step;
 use semantics::SuspendedErase;
 use semantics::SuspendedProgram;
 use semantics::View;
+ghost use mathlib.Core.List.{List};
 ghost use mathlib.Core.Path.{_≡_};
 ghost use mathlib.Core.Bool.{cond};
 ghost use Prim.Native.Nat.{_<_};
 ghost use lib.Dec.{eqb};
 ghost use Rattle.geometry.specs.Blocks.{geometryOf, words};
+ghost use Rattle.semantics.specs.declared.Bank.{Bank};
 ghost use Rattle.semantics.specs.State.{withProtection, withSupply, modeIn, flagsOf, noFlags, joined, powerUp};
 ghost use Rattle.semantics.specs.View.{placeOf, viewAt, withView};
 ghost use Rattle.semantics.specs.Register.{withoutReserved, reservedZero};
@@ -83,7 +85,7 @@ pub fn view_at(s: State, p: Place) -> View
     let control = s.control;
     View {
         mode: mode_of(banks, p.bank),
-        unprotected: protection::is_unprotected(words, p.block),
+        unprotected: protection::is_unprotected(&words, p.block),
         control,
     }
 }
@@ -251,24 +253,31 @@ pub fn reset(s: State) -> State
 
 // ---- refusals
 
-// Whether the state is well formed (document 01: well made). Where nothing runs, is suspended or is loaded, only the spare storage and the register are left to test.
-pub fn well_formed(s: State) -> bool
-    ensures { λ r. ⌜ r ≡ wellFormed s ⌝ }
+// Whether a state of these pieces is well formed (document 01: well made), whatever the modes are. Where nothing runs, is suspended or is loaded, only the spare storage and the
+// register are left to test.
+pub fn formed_of(part: Part, c: Control, words: [u64; 5], buffer: [u16; 32]) -> bool
+    ensures { λ r. ⌜ ((bs : List Bank) → r ≡ wellFormed (record { part = part; banks = bs; unprotected = words; control = c; buffer = buffer })) ⌝ }
 {
-    let part = s.part;
-    let a = s.control.activity;
-    let words = s.unprotected;
-    let buffer = s.buffer;
-    let register = s.control.configuration;
-    let c = s.control;
+    let a = c.activity;
     if operation::at_rest(a) {
         return protection::spare_zero(words)
-            & (buffer::zero_from(buffer, 0) & reserved_zero(register));
+            & (buffer::zero_from(buffer, 0) & reserved_zero(c.configuration));
     }
     operation::activity_formed(part, a)
         & (protection::spare_zero(words)
             & (buffer::zero_from(buffer, operation::places_used(a))
-                & (reserved_zero(register) & runs_supplied(c))))
+                & (reserved_zero(c.configuration) & runs_supplied(c))))
+}
+
+// And of a whole state.
+pub fn well_formed(s: State) -> bool
+    ensures { λ r. ⌜ r ≡ wellFormed s ⌝ }
+{
+    let part = s.part;
+    let c = s.control;
+    let words = s.unprotected;
+    let buffer = s.buffer;
+    formed_of(part, c, words, buffer)
 }
 
 // The refusal beside an array of n words of a state of the part that is well formed or not, 0 where there is none: 1 for the length, or else 2 for the state.

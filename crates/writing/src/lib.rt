@@ -19,7 +19,7 @@ ghost use Rattle.geometry.specs.Blocks.{geometryOf};
 ghost use Rattle.semantics.specs.Supply.{ended};
 ghost use Rattle.semantics.specs.View.{withControl, withActivity, withMode, raise};
 ghost use Rattle.semantics.specs.Writing.{commandOf, pend, clearStatus, firstCycle, programRuns, eraseCycle, lockCommandOf, lockCycle, settle, wrong, loads, countRight, firstRight, laterRight, confirmRight, confirmCycle, wordsCycle, cycle, wordsLoaded, heldAfter, loaded, cycleAt, written};
-ghost use Rattle.writing.specs.Changes.{setUpChange, resumeChange, commandChange, changeOf, toldCycle, toldAt};
+ghost use Rattle.writing.specs.Changes.{setUpChange, resumeChange, commandChange, changeOf, toldCycle};
 
 // What a write changes of a state, where that is little: the mode of the addressed bank and the set-up; or what is under way, which of a write that is ignored is as
 // it was; or the same, and what runs then ends for want of supply. Any other write is told by its view: 50h, and every cycle that goes on with a set-up or ends it.
@@ -394,12 +394,23 @@ pub fn change_of(a: Activity, supply: bool, p: Place, word: u16) -> Change
     command_change(a, supply, p, command_of(word % 256))
 }
 
-// What such a cycle makes of what it sees of a state. Of a write that is no such cycle (`Change`) it says nothing: with no set-up pending it is that of 50h.
-pub fn told_view(s: State, p: Place, word: u16) -> View
-    ensures { λ r. ⌜ r ≡ toldAt s p word ⌝ }
+// What such a cycle makes of what it sees: a mode, a block's protection and the control. Of a write that is no such cycle (`Change`) it says nothing: with no set-up pending it is that of 50h.
+pub fn told_view(
+    part: Part,
+    mode: Mode,
+    unprotected: bool,
+    control: Control,
+    p: Place,
+    word: u16,
+) -> View
+    ensures { λ r. ⌜ r ≡ toldCycle (geometryOf part) (record { mode = mode; unprotected = unprotected; control = control }) (control .activity .setup) p word ⌝ }
 {
-    let part = s.part;
-    told_cycle(part, state::view_at(s, p), p, word)
+    let v = View {
+        mode,
+        unprotected,
+        control,
+    };
+    told_cycle(part, v, p, word)
 }
 
 // The cycle at a place.

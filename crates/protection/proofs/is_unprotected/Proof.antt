@@ -15,8 +15,8 @@ cast-w c = search needs
 mul-w : tie.Need-mul-w
 mul-w c = search needs
 
-array-read-w : tie.Need-array-read-w
-array-read-w c = search needs
+element-copy-out-w : tie.Need-element-copy-out-w
+element-copy-out-w c = search needs
 
 cast-result : tie.Need-cast-result
 cast-result c = search needs
@@ -26,8 +26,8 @@ shr-result c = search needs
 
 returns-2 : tie.Need-returns-2
 unfolding isUnprotected bitAt bit
-returns-2 c = rw (lt-ltb _ _ (c .if1 .left))
+returns-2 c = rw (lt-ltb _ _ (c .before .if1 .left))
 
 pub is-unprotected-spec : {M : Type 1} → statement M
 is-unprotected-spec =
-    tie.close (tie.spec returns cast-w mul-w array-read-w cast-result shr-result returns-2)
+    tie.close (tie.spec returns cast-w mul-w element-copy-out-w cast-result shr-result returns-2)

@@ -10,7 +10,7 @@ is-unprotected-requires : tie.Need-is-unprotected-requires
 is-unprotected-requires c κs = search needs
 
 returns : tie.Need-returns
-returns c = simp (c .is-unprotected .ensures, c .before .mode-of .ensures)
+returns c = simp (c .is-unprotected .ensures, c .before .before .mode-of .ensures)
 
 pub view-at-spec : {M : Type 1} → statement M
 view-at-spec = tie.close (tie.spec mode-of-requires is-unprotected-requires returns)
