@@ -2,8 +2,9 @@
 use Prim.Native.Nat.{ℕ, zero, suc, _≤_}
 use mathlib.Core.Bool.{Bool, true, false, cond}
 use mathlib.Core.List.{List}
-use mathlib.Core.Path.{_≡_, refl, ap, _∙_, subst}
+use mathlib.Core.Path.{_≡_, refl, sym, ap, _∙_, subst}
 use native.Mathlib.Omega.{arith}
+use lib.Dec.{leb}
 use lib.ListN.{length}
 use borrow.Author.Tests.{eq-eqb}
 use Rattle.geometry.specs.Blocks.{partNumbered}
@@ -14,12 +15,14 @@ use Rattle.semantics.specs.declared.Reported.{Reported}
 use Rattle.semantics.specs.State.{powerUp}
 use Rattle.wear.specs.declared.Worn.{Worn}
 use Rattle.wear.specs.Counts.{Counts, countOf, noCounts, mostWorn}
-use Rattle.wear.specs.Steps.{formedWith, reportedWith, mostWornWith}
+use Rattle.semantics.specs.Engine.{and-true-r}
+use Rattle.wear.specs.Steps.{Counted, formedWith, reportedWith, mostWornWith}
 use Rattle.device.specs.Outcomes.{holding}
 use Rattle.playback.specs.declared.RunEnd.{RunEnd}
-use Rattle.playback.specs.Playback.{Played}
+use Rattle.playback.specs.Playback.{machineOf, Played}
+use Rattle.playback.specs.Reads.{fewReads, reads-leave}
 use Rattle.saved.specs.Saved.{savedOf, isSaved, stateOf, putInto}
-use Rattle.saved.specs.Laws.{Fitting, saved-length, saved-is, state-back, power-up-fitting}
+use Rattle.saved.specs.Laws.{Fitting, saved-length, saved-is, state-back, saved-back, power-up-fitting}
 use Rattle.m58.specs.Calls.{powersUp, poweredUp, unworn, stateAfter, Ran}
 
 -- ---- power-up
@@ -82,6 +85,19 @@ module _ (ws : List ℕ) {k : Counts} {codes room xs : List ℕ} {s : State} {r 
     journal = on-words .journal;
     wear = on-words .wear;
   }
+
+  -- a few reads were played, which leave the words: they are those of the state after them, or were no saved state
+  pub ran-reads : fewReads codes ≡ true → Ran ws k codes room xs (r .played) ws counts answers array
+  unfolding fewReads stateAfter
+  ran-reads h =
+      let still : stateAfter ws k codes room xs ≡ stateOf ws =
+      ap (λ (y : Counted). y .machine .state) (reads-leave codes (length room) (machineOf (holding (stateOf ws)) k xs) (and-true-r (leb (length codes) 8) _ h))
+      in
+      record { played = played-as; kept = go (isSaved ws) refl still; goes-on = λ q. (q, sym still) }
+    where
+      go : (b : Bool) → isSaved ws ≡ b → stateAfter ws k codes room xs ≡ stateOf ws → ws ≡ cond b (savedOf (stateAfter ws k codes room xs)) ws
+      go true e still = sym (ap savedOf still ∙ saved-back ws e)
+      go false e still = refl
 
   -- the words were no saved state
   pub ran-unsaved : isSaved ws ≡ false → Ran ws k codes room xs (r .played) ws counts answers array

@@ -1,3 +1,4 @@
 pub mod Playback
 pub mod Tasks
 pub mod Laws
+pub mod Reads

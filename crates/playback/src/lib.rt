@@ -28,6 +28,7 @@ ghost use Rattle.device.specs.Outcomes.{holding};
 ghost use Rattle.semantics.specs.declared.State.{State};
 ghost use Rattle.playback.specs.Playback.{answerCode, Played};
 ghost use Rattle.playback.specs.Tasks.{allowed, taskOf};
+ghost use Rattle.playback.specs.Reads.{fewReads};
 
 // How many steps were played, and the device after them.
 pub struct RunEnd {
@@ -222,6 +223,25 @@ fn state_of(
         control,
         buffer,
     }
+}
+
+// Whether there are at most eight numbers, each of which encodes a read: then the state after them is the state before them (`reads-leave` of specs/Reads). Of a longer list, what it
+// costs to save the state is little beside the steps.
+pub fn few_reads(steps: &[u64]) -> bool
+    ensures { λ r. ⌜ r ≡ fewReads (now (steps .entry)) ⌝ }
+{
+    let n = steps.len();
+    if n > 8 {
+        return false;
+    }
+    let mut i: usize = 0;
+    while i < n {
+        if steps[i] >= 4294967296 {
+            return false;
+        }
+        i += 1;
+    }
+    true
 }
 
 // A list on a device that is refused whatever the step is: each number that encodes a step is answered by that refusal, up to the first that encodes none. How many there are.

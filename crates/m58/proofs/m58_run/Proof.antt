@@ -2,21 +2,27 @@
 use mathlib.Core.Path.{sym, ap, _∙_}
 use borrow.Author.Needs.{needs}
 use Rattle.saved.specs.declared.Found.{Found}
-use Rattle.m58.specs.Laws.{ran-saved, ran-unsaved}
+use Rattle.m58.specs.Laws.{ran-reads, ran-saved, ran-unsaved}
 use Rattle.m58.proofs.m58_run.Statement.{statement}
 use Rattle.m58.proofs.m58_run.Tie as tie
 
 returns : tie.Need-returns
 returns c =
-    let run = c .before .before .before .before .before .before .before .before .before .before .before in
+    let run = c .before .before .before .before .before .before in
     let found = run .before .before .before .before .before .before .found-in .ensures in
-    ran-saved _ (ap (λ (f : Found). f .state) found) (run .run .ensures) (sym (ap (λ (f : Found). f .saved) found) ∙ c .before .before .before .before .before .before .if1 .taken) (c .before .before .save .ensures .1) (c .before .before .save .ensures .0)
+    ran-reads _ (ap (λ (f : Found). f .state) found) (run .run .ensures) (sym (c .before .few-reads .ensures) ∙ c .if1 .taken)
 
 returns-2 : tie.Need-returns-2
 returns-2 c =
-    let run = c .before .before .before .before .before in
+    let run = c .before .before .before .before .before .before .before .before .before .before .before .before .before in
     let found = run .before .before .before .before .before .before .found-in .ensures in
-    ran-unsaved _ (ap (λ (f : Found). f .state) found) (run .run .ensures) (sym (ap (λ (f : Found). f .saved) found) ∙ c .if1 .left)
+    ran-saved _ (ap (λ (f : Found). f .state) found) (run .run .ensures) (sym (ap (λ (f : Found). f .saved) found) ∙ c .before .before .before .before .before .before .if2 .taken) (c .before .before .save .ensures .1) (c .before .before .save .ensures .0)
+
+returns-3 : tie.Need-returns-3
+returns-3 c =
+    let run = c .before .before .before .before .before .before .before in
+    let found = run .before .before .before .before .before .before .found-in .ensures in
+    ran-unsaved _ (ap (λ (f : Found). f .state) found) (run .run .ensures) (sym (ap (λ (f : Found). f .saved) found) ∙ c .if2 .left)
 
 pub m58-run-spec : {M : Type 1} → statement M
 m58-run-spec =
@@ -29,7 +35,12 @@ m58-run-spec =
     (λ c. search needs)
     (λ c. search needs)
     returns
+    (λ c κs. search needs)
     (λ c. search needs)
     (λ c. search needs)
     (λ c. search needs)
-    returns-2)
+    returns-2
+    (λ c. search needs)
+    (λ c. search needs)
+    (λ c. search needs)
+    returns-3)
