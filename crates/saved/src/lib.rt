@@ -292,10 +292,10 @@ fn activity_of(words: &[u64]) -> Activity
 }
 
 // Whether the words of what is under way are those that it is saved as.
-fn activity_same(words: &[u64]) -> bool
+fn activity_same(words: &[u64], a: Activity) -> bool
+    requires { ⌜ a ≡ activityOf (now words) ⌝ }
     ensures { λ r. ⌜ r ≡ activitySame (now (words .entry)) ⌝ }
 {
-    let a = activity_of(words);
     let setup = a.setup;
     let running = a.running;
     let program = a.program;
@@ -323,7 +323,8 @@ fn bytes_below(m: u64, n: usize, w: u64) -> bool
 }
 
 // Whether the words are what the state that they say is saved as: what is under way is compared, of the rest the range of each word is tested.
-pub fn is_saved(words: &[u64]) -> bool
+fn is_saved(words: &[u64], a: Activity) -> bool
+    requires { ⌜ a ≡ activityOf (now words) ⌝ }
     ensures { λ r. ⌜ r ≡ isSaved (now (words .entry)) ⌝ }
 {
     if words.len() != 25 {
@@ -338,7 +339,7 @@ pub fn is_saved(words: &[u64]) -> bool
     if !bytes_below(4, 7, words[2]) {
         return false;
     }
-    if !activity_same(words) {
+    if !activity_same(words, a) {
         return false;
     }
     let w = words[11];
@@ -419,7 +420,8 @@ fn buffer_of(words: &[u64]) -> [u16; 32]
 }
 
 // The state that words say.
-pub fn load(words: &[u64]) -> State
+fn load(words: &[u64], a: Activity) -> State
+    requires { ⌜ a ≡ activityOf (now words) ⌝ }
     ensures { λ r. ⌜ r ≡ loadedOf (now (words .entry)) ⌝ }
 {
     let w = word_at(words, 11);
@@ -428,7 +430,7 @@ pub fn load(words: &[u64]) -> State
         banks: banks_of(words),
         unprotected: protection_of(words),
         control: Control {
-            activity: activity_of(words),
+            activity: a,
             flags: flags_of(w % HALF),
             configuration: (w / HALF % 65536) as u16,
             supply: flag_numbered(w / HALF / 65536),
@@ -438,20 +440,21 @@ pub fn load(words: &[u64]) -> State
 }
 
 // The state for words that are no saved state: the device refuses every step on it.
-pub fn no_state(words: &[u64]) -> State
+fn no_state(words: &[u64]) -> State
     ensures { λ r. ⌜ r ≡ noState (now (words .entry)) ⌝ }
 {
     state::with_protection(state::power_up(part_in(words)), [0, 0, 0, 0, 8])
 }
 
-// Tests the words, once, and gives their state: of a saved state that which was saved.
+// Tests the words, once, and gives their state: of a saved state that which was saved. What is under way is read once, for the test and for the state.
 pub fn found_in(words: &[u64]) -> Found
     ensures { λ r. ⌜ r ≡ foundOf (now (words .entry)) ⌝ }
 {
-    if is_saved(words) {
+    let a = activity_of(words);
+    if is_saved(words, a) {
         return Found {
             saved: true,
-            state: load(words),
+            state: load(words, a),
         };
     }
     Found {
