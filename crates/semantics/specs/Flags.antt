@@ -1,20 +1,16 @@
 -- "Flags once set stay until 50h or reset, and never block a later command."
 -- Assumes nothing.
-use mathlib.Core.Path.{_≡_, refl, sym, ap, _∙_}
+use mathlib.Core.Path.{_≡_, refl, sym, ap, _∙_, subst}
 use mathlib.Core.List.{List}
-use mathlib.Core.Bool.{Bool, true, false, cond, not, _||_, true≢false}
-use Prim.Native.Nat.{ℕ, _+_, _-_, _%_}
+use mathlib.Core.Bool.{Bool, true, false, _||_, true≢false}
+use Prim.Native.Nat.{ℕ, _%_}
 use lib.Dec.{eqb}
-use lib.ListN.{length, set}
+use lib.ListN.{length}
 use Rattle.geometry.specs.declared.Geometry.{Geometry}
 use Rattle.semantics.specs.declared.Setup.{Setup}
 use Rattle.semantics.specs.declared.Setup.the-variants as setup
-use Rattle.semantics.specs.declared.Command.{Command}
 use Rattle.semantics.specs.declared.Command.the-variants as command
-use Rattle.semantics.specs.declared.LockCommand.{LockCommand}
-use Rattle.semantics.specs.declared.LockCommand.the-variants as lock
 use Rattle.semantics.specs.declared.Running.{Running}
-use Rattle.semantics.specs.declared.Running.the-variants as running
 use Rattle.semantics.specs.declared.Flags.{Flags}
 use Rattle.semantics.specs.declared.Control.{Control}
 use Rattle.semantics.specs.declared.State.{State}
@@ -22,18 +18,20 @@ use Rattle.semantics.specs.declared.Step.{Step}
 use Rattle.semantics.specs.declared.Step.the-variants.{Read, Write, Work, Supply, Reset}
 use Rattle.semantics.specs.declared.Answer.{Answer}
 use Rattle.semantics.specs.declared.Answer.the-variants.{Word, Units, Done, Refused}
-use Rattle.semantics.specs.declared.Mode.the-variants.{Status}
+use Rattle.semantics.specs.declared.Next.{Next}
 use Rattle.semantics.specs.declared.Place.{Place}
 use Rattle.semantics.specs.declared.View.{View}
-use Rattle.semantics.specs.State.{geometry, setFlags, setSupply, withControl, runs, withFlags, withBuffer, withSetup, noFlags, joined}
+use Rattle.semantics.specs.Branches.{of-cond, by-cond₂}
+use Rattle.semantics.specs.State.{geometry, setFlags, setSupply, withControl, withFlags, withBuffer, noFlags, joined}
 use Rattle.semantics.specs.View as view
-use Rattle.semantics.specs.View.{placeOf, viewAt, withView, withActivity, withMode}
-use Rattle.semantics.specs.Supply.{ended, endedIfUnsupplied, switched}
-use Rattle.semantics.specs.Supplied.{awake, of-resume, of-switched, switched-on, switched-off}
-use Rattle.semantics.specs.WellFormed.{pending, erasing, runsSupplied, wellFormed}
-use Rattle.semantics.specs.Writing.{commandOf, resume, accepts, setUp, clearStatus, firstCycle, pend, programRuns, eraseCycle, lockCommandOf, lockCycle, settle, loads, countRight, firstRight, laterRight, confirmRight, confirmCycle, wordsCycle, cycle, loadedAt, writtenAt, written}
+use Rattle.semantics.specs.View.{placeOf, viewAt, withView}
+use Rattle.semantics.specs.Supply.{ended, switched}
+use Rattle.semantics.specs.Cycles.{of-cycle, both-cycle}
+use Rattle.semantics.specs.Supplied.{of-switched, switched-on, switched-off}
+use Rattle.semantics.specs.WellFormed.{runsSupplied, wellFormed}
+use Rattle.semantics.specs.Writing.{commandOf, settle, loads, cycle, loadedAt, writtenAt, written}
 use Rattle.semantics.specs.Working.{bufferAfter, workedOn, worked, workedArray}
-use Rattle.semantics.specs.Steps.{stateRefusal, refusalOf, next, switchedTo, accepted, acceptedArray, stepOf, arrayOf, numberOf}
+use Rattle.semantics.specs.Steps.{stateRefusal, refusalOf, switchedTo, accepted, acceptedArray, stepOf, arrayOf, numberOf}
 use Rattle.semantics.specs.Refusals.{answer-number}
 
 -- each flag that is set in f is set in g
@@ -58,43 +56,9 @@ stay-joined f g h e = record {
   sr1 = λ k. ap (λ (i : Flags). i .sr1) e ∙ or-left (f .sr1) (g .sr1) k;
 }
 
-stay-cond : (f : Flags) (b : Bool) (x y : View) → Stay f (x .control .flags) → Stay f (y .control .flags) → Stay f ((cond b x y) .control .flags)
-stay-cond f true x y p q = p
-stay-cond f false x y p q = q
-
-stay-setup : (v : View) (c : Setup) → Stay (v .control .flags) (setUp v c .control .flags)
-unfolding setUp
-stay-setup v c = stay-cond (v .control .flags) (accepts (v .control .activity) c) (withMode (withActivity v (withSetup (v .control .activity) c)) Status) v (stay-same _ _ refl) (stay-same _ _ refl)
-
-stay-resume : (c : Control) → Stay (c .flags) (resume c .flags)
-unfolding ended
-stay-resume c = of-resume (λ (x : Control). Stay (c .flags) (x .flags)) c (stay-same _ _ refl) (stay-same _ _ refl) (stay-joined _ _ _ refl)
-
 stay-switched : (c : Control) (on : Bool) → Stay (c .flags) (switched c on .flags)
 unfolding ended
 stay-switched c on = of-switched (λ (x : Control). Stay (c .flags) (x .flags)) c on (stay-same _ _ refl) (stay-joined _ _ _ refl)
-
-stay-first : (v : View) (p : Place) (c : Command) → (c ≡ command.ClearStatus → ⊥) → Stay (v .control .flags) (firstCycle v p c .control .flags)
-unfolding firstCycle
-stay-first v p command.ReadArray n = stay-same _ _ refl
-stay-first v p command.ReadStatus n = stay-same _ _ refl
-stay-first v p command.ReadSignature n = stay-same _ _ refl
-stay-first v p command.ReadQuery n = stay-same _ _ refl
-stay-first v p command.Suspend n = stay-same _ _ refl
-stay-first v p command.Resume n = stay-resume (v .control)
-stay-first v p command.ClearStatus n = absurd (n refl)
-stay-first v p command.SetUpProgram n = stay-setup v setup.Program
-stay-first v p command.SetUpErase n = stay-setup v setup.Erase
-stay-first v p command.SetUpLock n = stay-setup v setup.Lock
-stay-first v p command.SetUpBuffer n = stay-setup v (setup.BufferCount (p .block))
-stay-first v p command.Unknown n = stay-same _ _ refl
-
-stay-lock : (v : View) (p : Place) (c : LockCommand) → Stay (v .control .flags) (lockCycle (settle v) p c .control .flags)
-unfolding lockCycle settle
-stay-lock v p lock.Protect = stay-same _ _ refl
-stay-lock v p lock.Unprotect = stay-same _ _ refl
-stay-lock v p lock.Configure = stay-same _ _ refl
-stay-lock v p lock.Unknown = stay-joined _ _ _ refl
 
 -- the write is 50h with no set-up pending
 abbrev pub ClearCommand : Setup → ℕ → Type 0
@@ -106,32 +70,24 @@ ClearCommand (setup.BufferCount b) w = ⊥
 ClearCommand (setup.BufferFirst b n) w = ⊥
 ClearCommand (setup.BufferWords l n due) w = ⊥
 
-stay-program : (v : View) (p : Place) (r : Running) → Stay (v .control .flags) (programRuns (settle v) p r .control .flags)
-unfolding programRuns settle
-stay-program v p r =
-    stay-cond _ (not (v .control .supply)) _ _ (stay-joined _ _ _ refl)
-    (stay-cond _ (not (v .unprotected)) _ _ (stay-joined _ _ _ refl) (stay-cond _ (erasing (v .control .activity .erase) (p .block)) _ _ (stay-joined _ _ _ refl) (stay-same _ _ refl)))
-
-stay-loads : (b : Bool) (v : View) (c : Setup) → Stay (v .control .flags) (loads b v c .control .flags)
-unfolding loads settle
-stay-loads b v c = stay-cond _ b (pend v c) _ (stay-same _ _ refl) (stay-joined _ _ _ refl)
-
-stay-words : (g : Geometry) (v : View) (l n due : ℕ) (p : Place) (w : ℕ) → Stay (v .control .flags) (wordsCycle g v l n due p w .control .flags)
-unfolding wordsCycle confirmCycle settle
-stay-words g v l n due p w =
-    stay-cond _ (eqb due 0) _ _ (stay-cond _ (confirmRight g l p w) _ _ (stay-program v p (running.Buffer l n 0)) (stay-joined _ _ _ refl)) (stay-loads (laterRight l n p) v (setup.BufferWords l n (due - 1)))
-
+-- flags are only set, but by 50h
 stay-cycle : (g : Geometry) (v : View) (c : Setup) (p : Place) (w : ℕ) → (ClearCommand c w → ⊥) → Stay (v .control .flags) (cycle g v c p w .control .flags)
-unfolding cycle eraseCycle settle
-stay-cycle g v setup.Nothing p w n = stay-first v p (commandOf (w % 256)) n
-stay-cycle g v setup.Program p w n = stay-program v p (running.Program (p .location) w)
-stay-cycle g v (setup.BufferCount b) p w n = stay-loads (countRight b p w) v (setup.BufferFirst b (w + 1))
-stay-cycle g v (setup.BufferFirst b k) p w n = stay-loads (firstRight g b k p) v (setup.BufferWords (p .location) k (k - 1))
-stay-cycle g v (setup.BufferWords l k due) p w n = stay-words g v l k due p w
-stay-cycle g v setup.Erase p w n =
-    stay-cond _ (not (eqb (w % 256) 0xD0)) _ _ (stay-joined _ _ _ refl)
-    (stay-cond _ (not (v .control .supply)) _ _ (stay-joined _ _ _ refl) (stay-cond _ (not (v .unprotected)) _ _ (stay-joined _ _ _ refl) (stay-same _ _ refl)))
-stay-cycle g v setup.Lock p w n = stay-lock v p _
+unfolding ended settle
+stay-cycle g v c p w n =
+    of-cycle (λ (x : View). Stay (v .control .flags) (x .control .flags)) v p g c w
+    (λ e. record {
+      modes = λ i m. same;
+      suspends = λ i. same;
+      wakes = λ i r t. same;
+      ends = λ i r t. stay-joined _ _ _ refl;
+      clears = λ i r. absurd (n (subst (λ (x : Setup). ClearCommand x w) (sym e) i));
+      sets-up = λ i x z. same;
+      stays = same;
+    })
+    (record { fails = λ f. stay-joined _ _ _ refl; starts = λ r t. same; protects = λ b. same; stores = λ i l n. same; loads = λ x. same })
+  where
+    same : Stay (v .control .flags) (v .control .flags)
+    same = stay-same _ _ refl
 
 -- the step may clear the flags: a reset, or 50h with no set-up pending. (Refused, neither does; nor does 50h while something runs.)
 abbrev pub MayClear : State → Step → Type 0
@@ -152,11 +108,8 @@ stay-accepted s xs Reset n = absurd (n tt)
 -- "Flags once set stay until 50h or reset"
 pub flags-stay : (s : State) (xs : List ℕ) (x : Step) → (MayClear s x → ⊥) → Stay (s .control .flags) (stepOf s xs x .state .control .flags)
 unfolding stepOf
-flags-stay s xs x n = go (eqb (refusalOf s (length xs) x) 0)
-  where
-    go : (b : Bool) → Stay (s .control .flags) ((cond b (accepted s xs x) (next s (Refused (refusalOf s (length xs) x)))) .state .control .flags)
-    go true = stay-accepted s xs x n
-    go false = stay-same _ _ refl
+flags-stay s xs x n =
+    of-cond (λ (y : Next). Stay (s .control .flags) (y .state .control .flags)) (eqb (refusalOf s (length xs) x) 0) _ _ (stay-accepted s xs x n) (stay-same _ _ refl)
 
 -- ---- ".. and never block a later command."
 
@@ -167,14 +120,6 @@ unflagged s = withFlags s noFlags
 abbrev unflaggedView : View → View
 unflaggedView v = view.withFlags v noFlags
 
-alike-cond : (b : Bool) (x y u v : View) → unflaggedView x ≡ unflaggedView u → unflaggedView y ≡ unflaggedView v → unflaggedView (cond b x y) ≡ unflaggedView (cond b u v)
-alike-cond true x y u v p q = p
-alike-cond false x y u v p q = q
-
-alike-setup : (v : View) (f : Flags) (c : Setup) → unflaggedView (setUp (view.withFlags v f) c) ≡ unflaggedView (setUp v c)
-unfolding setUp
-alike-setup v f c = alike-cond (accepts (v .control .activity) c) _ _ _ _ refl refl
-
 -- a control but for its flags
 abbrev unflaggedControl : Control → Control
 unflaggedControl c = setFlags c noFlags
@@ -183,65 +128,16 @@ alike-ended : (c : Control) (f : Flags) → unflaggedControl (ended (setFlags c 
 unfolding ended
 alike-ended c f = refl
 
-alike-resume : (c : Control) (f : Flags) → unflaggedControl (resume (setFlags c f)) ≡ unflaggedControl (resume c)
-unfolding resume endedIfUnsupplied
-alike-resume c f = go (runs (c .activity .running)) (c .supply)
-  where
-    go : (b t : Bool) → unflaggedControl (cond b (setFlags c f) (cond t (awake (setFlags c f)) (ended (awake (setFlags c f))))) ≡ unflaggedControl (cond b c (cond t (awake c) (ended (awake c))))
-    go true t = refl
-    go false true = refl
-    go false false = alike-ended (awake c) f
-
 alike-switched : (c : Control) (f : Flags) (on : Bool) → unflaggedControl (switched (setFlags c f) on) ≡ unflaggedControl (switched c on)
 alike-switched c f true = rw (switched-on c, switched-on (setFlags c f))
 alike-switched c f false = rw (switched-off c, switched-off (setFlags c f)) (alike-ended (setSupply c false) f)
 
-alike-first : (v : View) (f : Flags) (p : Place) (c : Command) → unflaggedView (firstCycle (view.withFlags v f) p c) ≡ unflaggedView (firstCycle v p c)
-unfolding firstCycle clearStatus
-alike-first v f p command.ReadArray = refl
-alike-first v f p command.ReadStatus = refl
-alike-first v f p command.ReadSignature = refl
-alike-first v f p command.ReadQuery = refl
-alike-first v f p command.Suspend = refl
-alike-first v f p command.Resume = ap (λ (c : Control). unflaggedView (view.withControl v c)) (alike-resume (v .control) f)
-alike-first v f p command.ClearStatus = alike-cond (runs (v .control .activity .running)) _ _ _ _ refl refl
-alike-first v f p command.SetUpProgram = alike-setup v f setup.Program
-alike-first v f p command.SetUpErase = alike-setup v f setup.Erase
-alike-first v f p command.SetUpLock = alike-setup v f setup.Lock
-alike-first v f p command.SetUpBuffer = alike-setup v f (setup.BufferCount (p .block))
-alike-first v f p command.Unknown = refl
-
-alike-lock : (v : View) (f : Flags) (p : Place) (c : LockCommand) → unflaggedView (lockCycle (settle (view.withFlags v f)) p c) ≡ unflaggedView (lockCycle (settle v) p c)
-unfolding lockCycle settle
-alike-lock v f p lock.Protect = refl
-alike-lock v f p lock.Unprotect = refl
-alike-lock v f p lock.Configure = refl
-alike-lock v f p lock.Unknown = refl
-
-alike-program : (v : View) (f : Flags) (p : Place) (r : Running) → unflaggedView (programRuns (settle (view.withFlags v f)) p r) ≡ unflaggedView (programRuns (settle v) p r)
-unfolding programRuns settle
-alike-program v f p r =
-    alike-cond (not (v .control .supply)) _ _ _ _ refl (alike-cond (not (v .unprotected)) _ _ _ _ refl (alike-cond (erasing (v .control .activity .erase) (p .block)) _ _ _ _ refl refl))
-
-alike-loads : (b : Bool) (v : View) (f : Flags) (c : Setup) → unflaggedView (loads b (view.withFlags v f) c) ≡ unflaggedView (loads b v c)
-unfolding loads settle
-alike-loads b v f c = alike-cond b _ _ _ _ refl refl
-
-alike-words : (g : Geometry) (v : View) (f : Flags) (l n due : ℕ) (p : Place) (w : ℕ) → unflaggedView (wordsCycle g (view.withFlags v f) l n due p w) ≡ unflaggedView (wordsCycle g v l n due p w)
-unfolding wordsCycle confirmCycle settle
-alike-words g v f l n due p w =
-    alike-cond (eqb due 0) _ _ _ _ (alike-cond (confirmRight g l p w) _ _ _ _ (alike-program v f p (running.Buffer l n 0)) refl) (alike-loads (laterRight l n p) v f (setup.BufferWords l n (due - 1)))
-
 alike-cycle : (g : Geometry) (v : View) (f : Flags) (c : Setup) (p : Place) (w : ℕ) → unflaggedView (cycle g (view.withFlags v f) c p w) ≡ unflaggedView (cycle g v c p w)
-unfolding cycle eraseCycle settle
-alike-cycle g v f setup.Nothing p w = alike-first v f p (commandOf (w % 256))
-alike-cycle g v f setup.Program p w = alike-program v f p (running.Program (p .location) w)
-alike-cycle g v f (setup.BufferCount b) p w = alike-loads (countRight b p w) v f (setup.BufferFirst b (w + 1))
-alike-cycle g v f (setup.BufferFirst b n) p w = alike-loads (firstRight g b n p) v f (setup.BufferWords (p .location) n (n - 1))
-alike-cycle g v f (setup.BufferWords l n due) p w = alike-words g v f l n due p w
-alike-cycle g v f setup.Erase p w =
-    alike-cond (not (eqb (w % 256) 0xD0)) _ _ _ _ refl (alike-cond (not (v .control .supply)) _ _ _ _ refl (alike-cond (not (v .unprotected)) _ _ _ _ refl refl))
-alike-cycle g v f setup.Lock p w = alike-lock v f p (lockCommandOf (w % 256))
+unfolding ended settle
+alike-cycle g v f c p w =
+    both-cycle (λ x y. unflaggedView y ≡ unflaggedView x) g v f p w c
+    (λ e. record { modes = λ i m. refl; suspends = λ i. refl; wakes = λ i r t. refl; ends = λ i r t. refl; clears = λ i r. refl; sets-up = λ i x z. refl; stays = refl })
+    (record { fails = λ x. refl; starts = λ r t. refl; protects = λ b. refl; stores = λ i l n. refl; loads = λ x. refl })
 
 alike-accepted : (s : State) (f : Flags) (xs : List ℕ) (x : Step) → unflagged (accepted (withFlags s f) xs x .state) ≡ unflagged (accepted s xs x .state)
 unfolding accepted switchedTo written writtenAt workedOn worked
@@ -286,23 +182,14 @@ pub flags-never-block : (s : State) (f : Flags) (xs : List ℕ) (x : Step)
     × (numberOf (stepOf (withFlags s f) xs x .answer) ≡ numberOf (stepOf s xs x .answer)) × (toldBy (stepOf (withFlags s f) xs x .answer) ≡ toldBy (stepOf s xs x .answer))
 unfolding stepOf arrayOf
 flags-never-block s f xs x = (
-  rw (alike-refusal s f (length xs) x) (go (eqb n 0)),
-  rw (alike-refusal s f (length xs) x) (go₂ (eqb n 0)),
-  answer-number (withFlags s f) xs x ∙ alike-refusal s f (length xs) x ∙ sym (answer-number s xs x),
-  rw (alike-refusal s f (length xs) x) (go₃ (eqb n 0)),
+  rw e (by-cond₂ (λ (y z : Next). unflagged (y .state) ≡ unflagged (z .state)) (eqb n 0) _ _ _ _ (λ i. alike-accepted s f xs x) (λ i. refl)),
+  rw e (by-cond₂ (λ (y z : List ℕ). y ≡ z) (eqb n 0) _ _ _ _ (λ i. alike-array s f xs x) (λ i. refl)),
+  answer-number (withFlags s f) xs x ∙ e ∙ sym (answer-number s xs x),
+  rw e (by-cond₂ (λ (y z : Next). toldBy (y .answer) ≡ toldBy (z .answer)) (eqb n 0) _ _ _ _ (λ i. alike-told s f xs x) (λ i. refl)),
 )
   where
     n : ℕ
     n = refusalOf s (length xs) x
 
-    go : (b : Bool) → unflagged ((cond b (accepted (withFlags s f) xs x) (next (withFlags s f) (Refused n))) .state) ≡ unflagged ((cond b (accepted s xs x) (next s (Refused n))) .state)
-    go true = alike-accepted s f xs x
-    go false = refl
-
-    go₂ : (b : Bool) → cond b (acceptedArray (withFlags s f) xs x) xs ≡ cond b (acceptedArray s xs x) xs
-    go₂ true = alike-array s f xs x
-    go₂ false = refl
-
-    go₃ : (b : Bool) → toldBy ((cond b (accepted (withFlags s f) xs x) (next (withFlags s f) (Refused n))) .answer) ≡ toldBy ((cond b (accepted s xs x) (next s (Refused n))) .answer)
-    go₃ true = alike-told s f xs x
-    go₃ false = refl
+    e : refusalOf (withFlags s f) (length xs) x ≡ n
+    e = alike-refusal s f (length xs) x

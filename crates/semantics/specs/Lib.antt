@@ -9,6 +9,7 @@ pub mod WellFormed
 pub mod Reading
 pub mod StatusBits
 pub mod Writing
+pub mod Cycles
 pub mod Supplied
 pub mod RegisterBits
 pub mod Working
