@@ -110,24 +110,26 @@ module _ (R : View → View → Type 0) (v : View) (f : Flags) (p : Place) where
       by-cond₂ R (not (v .control .supply)) _ _ _ _ (λ e. h _) (λ e. by-cond₂ R (not (v .unprotected)) _ _ _ _ (λ i. h _)
       (λ i. by-cond₂ R (erasing (v .control .activity .erase) (p .block)) _ _ _ _ (λ j. h _) (λ j. k (not-off _ e))))
 
-  both-erase : (c : ℕ) → ((x : Flags) → R (raise v x) (raise u x)) → ((r : Running) → v .control .supply ≡ true → R (started v r) (started u r)) → R (eraseCycle v p c) (eraseCycle u p c)
+  both-erase : (c : ℕ) → ((x : Flags) → R (raise v x) (raise u x)) → (v .control .supply ≡ true → R (started v (running.Erase (p .block) 0)) (started u (running.Erase (p .block) 0)))
+      → R (eraseCycle v p c) (eraseCycle u p c)
   unfolding eraseCycle
   both-erase c h k =
       by-cond₂ R (not (eqb c 0xD0)) _ _ _ _ (λ e. h _) (λ e. by-cond₂ R (not (v .control .supply)) _ _ _ _ (λ i. h _)
-      (λ i. by-cond₂ R (not (v .unprotected)) _ _ _ _ (λ j. h _) (λ j. k (running.Erase (p .block) 0) (not-off _ i))))
+      (λ i. by-cond₂ R (not (v .unprotected)) _ _ _ _ (λ j. h _) (λ j. k (not-off _ i))))
+
+  both-lock : (k : LockCommand) → ((x : Flags) → R (raise v x) (raise u x)) → ((b : Bool) → R (withProtection v b) (withProtection u b))
+      → (k ≡ lock.Configure → (n : ℕ) → R (withConfiguration v n) (withConfiguration u n)) → R (lockCycle v p k) (lockCycle u p k)
+  unfolding lockCycle
+  both-lock lock.Protect h i j = i false
+  both-lock lock.Unprotect h i j = i true
+  both-lock lock.Configure h i j = j refl _
+  both-lock lock.Unknown h i j = h _
 
   both-loads : (right : Bool) (x : Setup) → R (pend v x) (pend u x) → ((x : Flags) → R (raise (settle v) x) (raise (settle u) x)) → R (loads right v x) (loads right u x)
   unfolding loads
   both-loads right x h k = by-cond₂ R right _ _ _ _ (λ e. h) (λ e. k _)
 
 module _ (R : View → View → Type 0) (g : Geometry) (v : View) (f : Flags) (p : Place) (w : ℕ) where
-  both-lock : (k : LockCommand) → lockCommandOf (w % 256) ≡ k → Second R v (withFlags v f) setup.Lock w → R (lockCycle (settle v) p k) (lockCycle (settle (withFlags v f)) p k)
-  unfolding lockCycle
-  both-lock lock.Protect e h = h .protects false
-  both-lock lock.Unprotect e h = h .protects true
-  both-lock lock.Configure e h = h .stores refl e _
-  both-lock lock.Unknown e h = h .fails _
-
   both-confirm : (c : Setup) (l n : ℕ) → Second R v (withFlags v f) c w → R (confirmCycle g v l n p w) (confirmCycle g (withFlags v f) l n p w)
   unfolding confirmCycle settle
   both-confirm c l n h =
@@ -137,8 +139,8 @@ module _ (R : View → View → Type 0) (g : Geometry) (v : View) (f : Flags) (p
   unfolding cycle wordsCycle settle
   both-cycle setup.Nothing h k = both-first R v f p (commandOf (w % 256)) (h refl)
   both-cycle setup.Program h k = both-program R (settle v) f p (running.Program (p .location) w) (k .fails) (k .starts (running.Program (p .location) w))
-  both-cycle setup.Erase h k = both-erase R (settle v) f p (w % 256) (k .fails) (k .starts)
-  both-cycle setup.Lock h k = both-lock (lockCommandOf (w % 256)) refl k
+  both-cycle setup.Erase h k = both-erase R (settle v) f p (w % 256) (k .fails) (k .starts (running.Erase (p .block) 0))
+  both-cycle setup.Lock h k = both-lock R (settle v) f p (lockCommandOf (w % 256)) (k .fails) (k .protects) (k .stores refl)
   both-cycle (setup.BufferCount b) h k = both-loads R v f p (countRight b p w) (setup.BufferFirst b (w + 1)) (k .loads _) (k .fails)
   both-cycle (setup.BufferFirst b n) h k = both-loads R v f p (firstRight g b n p) (setup.BufferWords (p .location) n (n - 1)) (k .loads _) (k .fails)
   both-cycle (setup.BufferWords l n due) h k =
@@ -146,6 +148,15 @@ module _ (R : View → View → Type 0) (g : Geometry) (v : View) (f : Flags) (p
       (λ e. both-loads R v f p (laterRight l n p) (setup.BufferWords l n (due - 1)) (k .loads _) (k .fails))
 
 -- ---- one view
+
+pub nothing-pending : (c : Setup) → pending c ≡ false → c ≡ setup.Nothing
+nothing-pending setup.Nothing h = refl
+nothing-pending setup.Program h = absurd (true≢false h)
+nothing-pending setup.Erase h = absurd (true≢false h)
+nothing-pending setup.Lock h = absurd (true≢false h)
+nothing-pending (setup.BufferCount b) h = absurd (true≢false h)
+nothing-pending (setup.BufferFirst b n) h = absurd (true≢false h)
+nothing-pending (setup.BufferWords l n d) h = absurd (true≢false h)
 
 -- a predicate of what comes of it
 abbrev pub Of : (View → Type 0) → View → View → Type 0
@@ -157,6 +168,12 @@ module _ (P : View → Type 0) (v : View) (p : Place) where
 
   pub of-program : (r : Running) → ((x : Flags) → P (raise v x)) → P (started v r) → P (programRuns v p r)
   of-program r h k = both-program (Of P) v (v .control .flags) p r h (λ e. k)
+
+  pub of-erase : (c : ℕ) → ((x : Flags) → P (raise v x)) → P (started v (running.Erase (p .block) 0)) → P (eraseCycle v p c)
+  of-erase c h k = both-erase (Of P) v (v .control .flags) p c h (λ e. k)
+
+  pub of-lock : (k : LockCommand) → ((x : Flags) → P (raise v x)) → ((b : Bool) → P (withProtection v b)) → ((n : ℕ) → P (withConfiguration v n)) → P (lockCycle v p k)
+  of-lock k h i j = both-lock (Of P) v (v .control .flags) p k h i (λ e. j)
 
   pub of-cycle : (g : Geometry) (c : Setup) (w : ℕ) → (c ≡ setup.Nothing → First (Of P) v v (commandOf (w % 256))) → Second (Of P) v v c w → P (cycle g v c p w)
   of-cycle g c w = both-cycle (Of P) g v (v .control .flags) p w c

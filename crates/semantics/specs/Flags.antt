@@ -2,7 +2,7 @@
 -- Assumes nothing.
 use mathlib.Core.Path.{_≡_, refl, sym, ap, _∙_, subst}
 use mathlib.Core.List.{List}
-use mathlib.Core.Bool.{Bool, true, false, _||_, true≢false}
+use mathlib.Core.Bool.{Bool, true, false}
 use Prim.Native.Nat.{ℕ, _%_}
 use lib.Dec.{eqb}
 use lib.ListN.{length}
@@ -29,7 +29,7 @@ use Rattle.semantics.specs.Supply.{ended, switched}
 use Rattle.semantics.specs.Cycles.{of-cycle, both-cycle}
 use Rattle.semantics.specs.Supplied.{of-switched, switched-on, switched-off}
 use Rattle.semantics.specs.WellFormed.{runsSupplied, wellFormed}
-use Rattle.semantics.specs.Writing.{commandOf, settle, loads, cycle, loadedAt, writtenAt, written}
+use Rattle.semantics.specs.Writing.{commandOf, settle, cycle, loadedAt, writtenAt, written}
 use Rattle.semantics.specs.Working.{bufferAfter, workedOn, worked, workedArray}
 use Rattle.semantics.specs.Steps.{stateRefusal, refusalOf, switchedTo, accepted, acceptedArray, stepOf, arrayOf, numberOf}
 use Rattle.semantics.specs.Refusals.{answer-number}
@@ -41,24 +41,15 @@ pub record Stay (f g : Flags) : Type 0 where
   pub sr3 : f .sr3 ≡ true → g .sr3 ≡ true
   pub sr1 : f .sr1 ≡ true → g .sr1 ≡ true
 
-stay-same : (f g : Flags) → g ≡ f → Stay f g
-stay-same f g e = record { sr5 = λ h. ap (λ (k : Flags). k .sr5) e ∙ h; sr4 = λ h. ap (λ (k : Flags). k .sr4) e ∙ h; sr3 = λ h. ap (λ (k : Flags). k .sr3) e ∙ h; sr1 = λ h. ap (λ (k : Flags). k .sr1) e ∙ h }
+stay-same : (f : Flags) → Stay f f
+stay-same f = record { sr5 = λ h. h; sr4 = λ h. h; sr3 = λ h. h; sr1 = λ h. h }
 
-or-left : (a b : Bool) → a ≡ true → (a || b) ≡ true
-or-left true b h = refl
-or-left false b h = absurd (true≢false (sym h))
-
-stay-joined : (f g h : Flags) → h ≡ joined f g → Stay f h
-stay-joined f g h e = record {
-  sr5 = λ k. ap (λ (i : Flags). i .sr5) e ∙ or-left (f .sr5) (g .sr5) k;
-  sr4 = λ k. ap (λ (i : Flags). i .sr4) e ∙ or-left (f .sr4) (g .sr4) k;
-  sr3 = λ k. ap (λ (i : Flags). i .sr3) e ∙ or-left (f .sr3) (g .sr3) k;
-  sr1 = λ k. ap (λ (i : Flags). i .sr1) e ∙ or-left (f .sr1) (g .sr1) k;
-}
+stay-joined : (f g : Flags) → Stay f (joined f g)
+stay-joined f g = record { sr5 = λ h. rw h; sr4 = λ h. rw h; sr3 = λ h. rw h; sr1 = λ h. rw h }
 
 stay-switched : (c : Control) (on : Bool) → Stay (c .flags) (switched c on .flags)
 unfolding ended
-stay-switched c on = of-switched (λ (x : Control). Stay (c .flags) (x .flags)) c on (stay-same _ _ refl) (stay-joined _ _ _ refl)
+stay-switched c on = of-switched (λ (x : Control). Stay (c .flags) (x .flags)) c on (stay-same _) (stay-joined _ _)
 
 -- the write is 50h with no set-up pending
 abbrev pub ClearCommand : Setup → ℕ → Type 0
@@ -79,15 +70,15 @@ stay-cycle g v c p w n =
       modes = λ i m. same;
       suspends = λ i. same;
       wakes = λ i r t. same;
-      ends = λ i r t. stay-joined _ _ _ refl;
+      ends = λ i r t. stay-joined _ _;
       clears = λ i r. absurd (n (subst (λ (x : Setup). ClearCommand x w) (sym e) i));
       sets-up = λ i x z. same;
       stays = same;
     })
-    (record { fails = λ f. stay-joined _ _ _ refl; starts = λ r t. same; protects = λ b. same; stores = λ i l n. same; loads = λ x. same })
+    (record { fails = λ f. stay-joined _ _; starts = λ r t. same; protects = λ b. same; stores = λ i l n. same; loads = λ x. same })
   where
     same : Stay (v .control .flags) (v .control .flags)
-    same = stay-same _ _ refl
+    same = stay-same _
 
 -- the step may clear the flags: a reset, or 50h with no set-up pending. (Refused, neither does; nor does 50h while something runs.)
 abbrev pub MayClear : State → Step → Type 0
@@ -99,9 +90,9 @@ MayClear s Reset = Unit {0}
 
 stay-accepted : (s : State) (xs : List ℕ) (x : Step) → (MayClear s x → ⊥) → Stay (s .control .flags) (accepted s xs x .state .control .flags)
 unfolding accepted switchedTo written writtenAt workedOn worked
-stay-accepted s xs (Read a) n = stay-same _ _ refl
+stay-accepted s xs (Read a) n = stay-same _
 stay-accepted s xs (Write a w) n = stay-cycle (geometry s) (viewAt s (placeOf (geometry s) a)) (s .control .activity .setup) (placeOf (geometry s) a) w n
-stay-accepted s xs (Work k) n = stay-same _ _ refl
+stay-accepted s xs (Work k) n = stay-same _
 stay-accepted s xs (Supply on) n = stay-switched (s .control) on
 stay-accepted s xs Reset n = absurd (n tt)
 
@@ -109,7 +100,7 @@ stay-accepted s xs Reset n = absurd (n tt)
 pub flags-stay : (s : State) (xs : List ℕ) (x : Step) → (MayClear s x → ⊥) → Stay (s .control .flags) (stepOf s xs x .state .control .flags)
 unfolding stepOf
 flags-stay s xs x n =
-    of-cond (λ (y : Next). Stay (s .control .flags) (y .state .control .flags)) (eqb (refusalOf s (length xs) x) 0) _ _ (stay-accepted s xs x n) (stay-same _ _ refl)
+    of-cond (λ (y : Next). Stay (s .control .flags) (y .state .control .flags)) (eqb (refusalOf s (length xs) x) 0) _ _ (stay-accepted s xs x n) (stay-same _)
 
 -- ---- ".. and never block a later command."
 

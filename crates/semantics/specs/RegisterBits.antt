@@ -32,7 +32,7 @@ use Rattle.semantics.specs.StatusBits.{lines-bit, bankAt}
 use Rattle.semantics.specs.Supply.{ended}
 use Rattle.semantics.specs.Branches.{of-cond}
 use Rattle.semantics.specs.Cycles.{of-cycle}
-use Rattle.semantics.specs.Writing.{lockCommandOf, lockCycle, settle, loads, cycle}
+use Rattle.semantics.specs.Writing.{lockCommandOf, lockCycle, settle, cycle}
 use Rattle.semantics.specs.Engine.{and-true-l, and-true-r}
 
 -- ---- the mask
