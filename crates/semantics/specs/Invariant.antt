@@ -2,22 +2,20 @@
 -- the words are the journal's. So the state is well formed on the way and the array as long as it was, and of all refusals only 3 and 4 can come.
 -- Assumes nothing.
 use mathlib.Core.Path.{_≡_, refl, sym, ap, _∙_, subst, subst₂, fun-ext}
-use mathlib.Core.List.{List, [], _∷_, foldl, reverse, reverseAux}
-use mathlib.Core.Bool.{Bool, true, false, cond, not, _&&_, true≢false}
+use mathlib.Core.List.{List, [], _∷_}
+use mathlib.Core.Bool.{Bool, true, false, true≢false}
 use mathlib.Core.Logic.{_⊎_, inl, inr}
-use Prim.Native.Nat.{ℕ, zero, suc, _+_, _-_, _≤_, _<_, _%_, min}
+use Prim.Native.Nat.{ℕ, suc, _≤_, _<_, _%_}
 use native.Mathlib.Omega.{arith}
-use lib.Dec.{ltb, leb, eqb, eqb·suc-zero}
-use lib.Bits.{bitAnd}
+use lib.Dec.{eqb, eqb·suc-zero}
 use lib.ListN.{length, getD, length-set}
-use borrow.Author.Tests.{ltb-true, ltb-false, lt-ltb, le-ltb, le-leb, lt-leb, eqb-true, eqb-false, eq-eqb}
+use borrow.Author.Tests.{lt-ltb, le-ltb, le-leb, lt-leb, eq-eqb}
 use Rattle.geometry.specs.declared.Part.{Part}
 use Rattle.geometry.specs.declared.Geometry.{Geometry}
-use Rattle.geometry.specs.Blocks.{Sound, geometryOf, words, blocks, location, blockOf, bankOf, startOf, sizeOf}
+use Rattle.geometry.specs.Blocks.{Sound, geometryOf, words, blocks, location, blockOf}
 use Rattle.geometry.specs.Laws as laws
 use Rattle.protection.specs.Words.{spareZero}
 use Rattle.protection.specs.Laws as protection
-use Rattle.semantics.specs.declared.Activity.{Activity}
 use Rattle.semantics.specs.declared.Setup.{Setup}
 use Rattle.semantics.specs.declared.Setup.the-variants as setup
 use Rattle.semantics.specs.declared.Running.{Running}
@@ -26,28 +24,28 @@ use Rattle.semantics.specs.declared.Control.{Control}
 use Rattle.semantics.specs.declared.State.{State}
 use Rattle.semantics.specs.declared.Step.{Step}
 use Rattle.semantics.specs.declared.Step.the-variants.{Read, Write, Work, Supply, Reset}
-use Rattle.semantics.specs.declared.Answer.{Answer}
-use Rattle.semantics.specs.declared.Answer.the-variants.{Word, Units, Done, Refused}
+use Rattle.semantics.specs.declared.Answer.the-variants.{Refused}
 use Rattle.semantics.specs.declared.Next.{Next}
 use Rattle.semantics.specs.declared.Place.{Place}
 use Rattle.semantics.specs.declared.View.{View}
+use Rattle.semantics.specs.Branches.{of-cond}
 use Rattle.semantics.specs.State.{geometry, setActivity, withRunning, withSupply, withBuffer, powerUp, runs}
 use Rattle.semantics.specs.Supply.{ended, endedIfUnsupplied, switched}
 use Rattle.semantics.specs.Supplied.{of-switched, switched-supplied, cycle-supplied, idle-supplied, on-supplied, unsupplied-idle}
 use Rattle.semantics.specs.View.{placeOf, viewAt, withView}
 use Rattle.semantics.specs.Register.{reservedZero}
 use Rattle.semantics.specs.RegisterBits.{default-zero, cycle-zero}
-use Rattle.semantics.specs.WellFormed.{wellFormed, activityFormed, placesUsed, zeroFrom, runsSupplied}
+use Rattle.semantics.specs.WellFormed.{wellFormed, activityFormed, runsSupplied}
 use Rattle.semantics.specs.Writing.{cycleAt, written, writtenAt}
 use Rattle.semantics.specs.Working.{unitsDone, runningAfter, bufferAfter, workedOn, worked, workedArray}
 use Rattle.semantics.specs.Arrays.{array-length, array-word}
 use Rattle.semantics.specs.Steps.{locationRefusal, addressRefusal, countRefusal, stepRefusal, stateRefusal, firstRefusal, refusalOf, next, switchedTo, accepted, acceptedArray, stepOf, arrayOf, Machine, after, afterAll, fresh}
 use Rattle.semantics.specs.Entries as entries
-use Rattle.semantics.specs.Entries.{Entry, entry}
+use Rattle.semantics.specs.Entries.{Entry}
 use Rattle.semantics.specs.Recorder as recorder
-use Rattle.semantics.specs.Recorder.{Operation, Event, nothing, supplied, was-reset, units, Conditions, conditions-after, Recorder, beginning, recorded, recordedAll, journalOf, event, journal-after, reading, applied, base, len, put, kinds}
-use Rattle.semantics.specs.Engine.{Engine, busy, stack, held?, engine-after, words-after, Ready, Ok, rule-ok, Sim, sim-do, words-after-ok, rules-agree, Matches, After}
-use Rattle.semantics.specs.Follows.{conditions, underWay, underWayOf, setupOf, eventOf, Together, Lacking, Follows, follows-written, under-way-worked, under-way-off, words-under-way}
+use Rattle.semantics.specs.Recorder.{Operation, Event, nothing, supplied, was-reset, Conditions, conditions-after, Recorder, beginning, recorded, recordedAll, event, journal-after}
+use Rattle.semantics.specs.Engine.{busy, held?, engine-after, words-after, Ready, Ok, rule-ok, Sim, sim-do, words-after-ok, rules-agree, After}
+use Rattle.semantics.specs.Follows.{conditions, underWay, setupOf, eventOf, Together, Lacking, Follows, follows-written, under-way-worked, under-way-off, words-under-way}
 use Rattle.semantics.specs.Formed.{together, lacking, formed}
 use Rattle.semantics.specs.Buffer.{zero-empty}
 use Rattle.semantics.specs.Spare.{Spared, length-empty, length-loaded, length-held, length-after, buffer-on, spared-written, spared-worked, spared-ended}
@@ -108,11 +106,7 @@ length-accepted s xs Reset = refl
 
 pub length-kept : (s : State) (xs : List ℕ) (x : Step) → length (arrayOf s xs x) ≡ length xs
 unfolding arrayOf
-length-kept s xs x = go (eqb (refusalOf s (length xs) x) 0)
-  where
-    go : (b : Bool) → length (cond b (acceptedArray s xs x) xs) ≡ length xs
-    go true = length-accepted s xs x
-    go false = refl
+length-kept s xs x = of-cond (λ (l : List ℕ). length l ≡ length xs) (eqb (refusalOf s (length xs) x) 0) _ _ (length-accepted s xs x) refl
 
 -- ---- each step is an event, in the state and in every word
 
@@ -228,11 +222,7 @@ module _ (s : State) (xs : List ℕ) (good : stateRefusal s (length xs) ≡ 0) (
 
   pub spared-step : (x : Step) → Spared (s .control .activity) (s .buffer) → Spared (stepOf s xs x .state .control .activity) (stepOf s xs x .state .buffer)
   unfolding stepOf
-  spared-step x h = go (eqb (refusalOf s (length xs) x) 0)
-    where
-      go : (b : Bool) → Spared ((cond b (accepted s xs x) (next s (Refused (refusalOf s (length xs) x)))) .state .control .activity) ((cond b (accepted s xs x) (next s (Refused (refusalOf s (length xs) x)))) .state .buffer)
-      go true = spared-accepted x h
-      go false = h
+  spared-step x h = of-cond (λ (y : Next). Spared (y .state .control .activity) (y .state .buffer)) (eqb (refusalOf s (length xs) x) 0) _ _ (spared-accepted x h) h
 
 -- ---- what no step changes
 
@@ -293,11 +283,8 @@ kept-accepted s xs Reset h = record { part = refl; sixteen = λ z. refl; five = 
 
 pub kept-step : (s : State) (xs : List ℕ) (x : Step) → length (s .unprotected) ≡ 5 → Kept s (stepOf s xs x .state)
 unfolding stepOf
-kept-step s xs x h = go (eqb (refusalOf s (length xs) x) 0)
-  where
-    go : (b : Bool) → Kept s ((cond b (accepted s xs x) (next s (Refused (refusalOf s (length xs) x)))) .state)
-    go true = kept-accepted s xs x h
-    go false = kept s s refl refl refl refl (λ z. z) (λ z. z)
+kept-step s xs x h =
+    of-cond (λ (y : Next). Kept s (y .state)) (eqb (refusalOf s (length xs) x) 0) _ _ (kept-accepted s xs x h) (kept s s refl refl refl refl (λ z. z) (λ z. z))
 
 -- ---- the invariant: the device and the recorder agree, and the words are the journal's
 
