@@ -16,3 +16,8 @@ by-cond P false x y h k = k refl
 pub by-cond₂ : {A B : Type 0} (R : A → B → Type 0) (b : Bool) (x y : A) (u v : B) → (b ≡ true → R x u) → (b ≡ false → R y v) → R (cond b x y) (cond b u v)
 by-cond₂ R true x y u v h k = h refl
 by-cond₂ R false x y u v h k = k refl
+
+-- a test comes to one of the two
+pub by-test : {P : Type 0} (b : Bool) → (b ≡ true → P) → (b ≡ false → P) → P
+by-test true h k = h refl
+by-test false h k = k refl

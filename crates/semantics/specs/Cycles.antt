@@ -33,8 +33,8 @@ abbrev pub awake : Control → Control
 awake c = setActivity c (resumed (c .activity) (c .activity .program))
 
 -- the view with what runs suspended, and with an operation running
-abbrev pub asleep : View → View
-asleep v = withActivity v (suspended (v .control .activity) (v .control .activity .running))
+abbrev pub suspendedIn : View → View
+suspendedIn v = withActivity v (suspended (v .control .activity) (v .control .activity .running))
 
 abbrev pub started : View → Running → View
 started v r = withActivity v (withRunning (v .control .activity) r)
@@ -54,26 +54,41 @@ ChangesMode x command.SetUpLock = accepts x setup.Lock ≡ true
 ChangesMode x command.SetUpBuffer = accepts x setup.Program ≡ true
 ChangesMode x command.Unknown = ⊥
 
--- R holds after each change that a first cycle may make of the views v and u: a mode; B0h; D0h that resumes, and that ends what it would have resumed; 50h; a set-up, none of which uses a place of
--- the buffer; nothing
+-- R holds of two views after each change that a first cycle may make of them, with what is known where it does: a mode; B0h; D0h that resumes, and that ends what it would have resumed; 50h; a set-up, of
+-- which none uses a place of the buffer; nothing
 pub record First (R : View → View → Type 0) (v u : View) (c : Command) : Type 0 where
   pub modes : ChangesMode (v .control .activity) c → (m : Mode) → R (withMode v m) (withMode u m)
-  pub suspends : c ≡ command.Suspend → R (asleep v) (asleep u)
-  pub wakes : c ≡ command.Resume → runs (v .control .activity .running) ≡ false → v .control .supply ≡ true → R (withControl v (awake (v .control))) (withControl u (awake (u .control)))
+  pub suspends : c ≡ command.Suspend → R (suspendedIn v) (suspendedIn u)
+  pub resumes : c ≡ command.Resume → runs (v .control .activity .running) ≡ false → v .control .supply ≡ true → R (withControl v (awake (v .control))) (withControl u (awake (u .control)))
   pub ends : c ≡ command.Resume → runs (v .control .activity .running) ≡ false → v .control .supply ≡ false
     → R (withControl v (ended (awake (v .control)))) (withControl u (ended (awake (u .control))))
   pub clears : c ≡ command.ClearStatus → runs (v .control .activity .running) ≡ false → R (withFlags v noFlags) (withFlags u noFlags)
   pub sets-up : ChangesMode (v .control .activity) c → (x : Setup) → setupPlaces x ≡ 0 → R (pend v x) (pend u x)
   pub stays : R v u
 
--- and after each that a cycle of the word w may make after the set-up c: flags set beside those that were; an operation that starts, which only supply lets it do; the block's protection; 03h; the
--- next cycle of a load
+-- and after each that a cycle of the word w may make after the set-up c: flags set beside those that were; an operation that starts, with supply on; the block's protection; 03h; the next cycle of a
+-- load
 pub record Second (R : View → View → Type 0) (v u : View) (c : Setup) (w : ℕ) : Type 0 where
-  pub fails : (f : Flags) → R (raise (settle v) f) (raise (settle u) f)
+  pub raises : (f : Flags) → R (raise (settle v) f) (raise (settle u) f)
   pub starts : (r : Running) → v .control .supply ≡ true → R (started (settle v) r) (started (settle u) r)
   pub protects : (b : Bool) → R (withProtection (settle v) b) (withProtection (settle u) b)
   pub stores : c ≡ setup.Lock → lockCommandOf (w % 256) ≡ lock.Configure → (n : ℕ) → R (withConfiguration (settle v) n) (withConfiguration (settle u) n)
   pub loads : (x : Setup) → R (pend v x) (pend u x)
+
+pub nothing-pending : (c : Setup) → pending c ≡ false → c ≡ setup.Nothing
+nothing-pending setup.Nothing h = refl
+nothing-pending setup.Program h = absurd (true≢false h)
+nothing-pending setup.Erase h = absurd (true≢false h)
+nothing-pending setup.Lock h = absurd (true≢false h)
+nothing-pending (setup.BufferCount b) h = absurd (true≢false h)
+nothing-pending (setup.BufferFirst b n) h = absurd (true≢false h)
+nothing-pending (setup.BufferWords l n d) h = absurd (true≢false h)
+
+pub nothing-running : (r : Running) → runs r ≡ false → r ≡ running.Idle
+nothing-running running.Idle h = refl
+nothing-running (running.Program l w) h = absurd (true≢false h)
+nothing-running (running.Erase b n) h = absurd (true≢false h)
+nothing-running (running.Buffer l n d) h = absurd (true≢false h)
 
 not-off : (b : Bool) → not b ≡ false → b ≡ true
 not-off true h = refl
@@ -96,7 +111,7 @@ module _ (R : View → View → Type 0) (v : View) (f : Flags) (p : Place) where
   both-first command.Suspend h = h .suspends refl
   both-first command.Resume h =
       by-cond₂ (λ (x y : Control). R (withControl v x) (withControl u y)) (runs (v .control .activity .running)) _ _ _ _ (λ e. h .stays)
-      (λ e. by-cond₂ (λ (x y : Control). R (withControl v x) (withControl u y)) (v .control .supply) _ _ _ _ (h .wakes refl e) (h .ends refl e))
+      (λ e. by-cond₂ (λ (x y : Control). R (withControl v x) (withControl u y)) (v .control .supply) _ _ _ _ (h .resumes refl e) (h .ends refl e))
   both-first command.ClearStatus h = by-cond₂ R (runs (v .control .activity .running)) _ _ _ _ (λ e. h .stays) (h .clears refl)
   both-first command.SetUpProgram h = both-set-up setup.Program (λ e. h .sets-up e setup.Program refl) (h .stays)
   both-first command.SetUpErase h = both-set-up setup.Erase (λ e. h .sets-up e setup.Erase refl) (h .stays)
@@ -133,32 +148,23 @@ module _ (R : View → View → Type 0) (g : Geometry) (v : View) (f : Flags) (p
   both-confirm : (c : Setup) (l n : ℕ) → Second R v (withFlags v f) c w → R (confirmCycle g v l n p w) (confirmCycle g (withFlags v f) l n p w)
   unfolding confirmCycle settle
   both-confirm c l n h =
-      by-cond₂ R (confirmRight g l p w) _ _ _ _ (λ e. both-program R (settle v) f p (running.Buffer l n 0) (h .fails) (h .starts (running.Buffer l n 0))) (λ e. h .fails _)
+      by-cond₂ R (confirmRight g l p w) _ _ _ _ (λ e. both-program R (settle v) f p (running.Buffer l n 0) (h .raises) (h .starts (running.Buffer l n 0))) (λ e. h .raises _)
 
   pub both-cycle : (c : Setup) → (c ≡ setup.Nothing → First R v (withFlags v f) (commandOf (w % 256))) → Second R v (withFlags v f) c w → R (cycle g v c p w) (cycle g (withFlags v f) c p w)
   unfolding cycle wordsCycle settle
   both-cycle setup.Nothing h k = both-first R v f p (commandOf (w % 256)) (h refl)
-  both-cycle setup.Program h k = both-program R (settle v) f p (running.Program (p .location) w) (k .fails) (k .starts (running.Program (p .location) w))
-  both-cycle setup.Erase h k = both-erase R (settle v) f p (w % 256) (k .fails) (k .starts (running.Erase (p .block) 0))
-  both-cycle setup.Lock h k = both-lock R (settle v) f p (lockCommandOf (w % 256)) (k .fails) (k .protects) (k .stores refl)
-  both-cycle (setup.BufferCount b) h k = both-loads R v f p (countRight b p w) (setup.BufferFirst b (w + 1)) (k .loads _) (k .fails)
-  both-cycle (setup.BufferFirst b n) h k = both-loads R v f p (firstRight g b n p) (setup.BufferWords (p .location) n (n - 1)) (k .loads _) (k .fails)
+  both-cycle setup.Program h k = both-program R (settle v) f p (running.Program (p .location) w) (k .raises) (k .starts (running.Program (p .location) w))
+  both-cycle setup.Erase h k = both-erase R (settle v) f p (w % 256) (k .raises) (k .starts (running.Erase (p .block) 0))
+  both-cycle setup.Lock h k = both-lock R (settle v) f p (lockCommandOf (w % 256)) (k .raises) (k .protects) (k .stores refl)
+  both-cycle (setup.BufferCount b) h k = both-loads R v f p (countRight b p w) (setup.BufferFirst b (w + 1)) (k .loads _) (k .raises)
+  both-cycle (setup.BufferFirst b n) h k = both-loads R v f p (firstRight g b n p) (setup.BufferWords (p .location) n (n - 1)) (k .loads _) (k .raises)
   both-cycle (setup.BufferWords l n due) h k =
       by-cond₂ R (eqb due 0) _ _ _ _ (λ e. both-confirm (setup.BufferWords l n due) l n k)
-      (λ e. both-loads R v f p (laterRight l n p) (setup.BufferWords l n (due - 1)) (k .loads _) (k .fails))
+      (λ e. both-loads R v f p (laterRight l n p) (setup.BufferWords l n (due - 1)) (k .loads _) (k .raises))
 
 -- ---- one view
 
-pub nothing-pending : (c : Setup) → pending c ≡ false → c ≡ setup.Nothing
-nothing-pending setup.Nothing h = refl
-nothing-pending setup.Program h = absurd (true≢false h)
-nothing-pending setup.Erase h = absurd (true≢false h)
-nothing-pending setup.Lock h = absurd (true≢false h)
-nothing-pending (setup.BufferCount b) h = absurd (true≢false h)
-nothing-pending (setup.BufferFirst b n) h = absurd (true≢false h)
-nothing-pending (setup.BufferWords l n d) h = absurd (true≢false h)
-
--- a predicate of what comes of it
+-- P of what comes of it
 abbrev pub Of : (View → Type 0) → View → View → Type 0
 Of P x y = P x
 

@@ -21,7 +21,7 @@ use Rattle.semantics.specs.declared.Answer.the-variants.{Word, Units, Do
 use Rattle.semantics.specs.declared.Next.{Next}
 use Rattle.semantics.specs.declared.Place.{Place}
 use Rattle.semantics.specs.declared.View.{View}
-use Rattle.semantics.specs.Branches.{of-cond, by-cond₂}
+use Rattle.semantics.specs.Branches.{by-cond₂}
 use Rattle.semantics.specs.State.{geometry, setFlags, setSupply, withControl, withFlags, withBuffer, noFlags, joined}
 use Rattle.semantics.specs.View as view
 use Rattle.semantics.specs.View.{placeOf, viewAt, withView}
@@ -32,7 +32,7 @@ use Rattle.semantics.specs.WellFormed.{runsSupplied, wellFormed}
 use Rattle.semantics.specs.Writing.{commandOf, settle, cycle, loadedAt, writtenAt, written}
 use Rattle.semantics.specs.Working.{bufferAfter, workedOn, worked, workedArray}
 use Rattle.semantics.specs.Steps.{stateRefusal, refusalOf, switchedTo, accepted, acceptedArray, stepOf, arrayOf, numberOf}
-use Rattle.semantics.specs.Refusals.{answer-number}
+use Rattle.semantics.specs.Refusals.{of-step, answer-number}
 
 -- each flag that is set in f is set in g
 pub record Stay (f g : Flags) : Type 0 where
@@ -69,13 +69,13 @@ stay-cycle g v c p w n =
     (λ e. record {
       modes = λ i m. same;
       suspends = λ i. same;
-      wakes = λ i r t. same;
+      resumes = λ i r t. same;
       ends = λ i r t. stay-joined _ _;
       clears = λ i r. absurd (n (subst (λ (x : Setup). ClearCommand x w) (sym e) i));
       sets-up = λ i x z. same;
       stays = same;
     })
-    (record { fails = λ f. stay-joined _ _; starts = λ r t. same; protects = λ b. same; stores = λ i l n. same; loads = λ x. same })
+    (record { raises = λ f. stay-joined _ _; starts = λ r t. same; protects = λ b. same; stores = λ i l n. same; loads = λ x. same })
   where
     same : Stay (v .control .flags) (v .control .flags)
     same = stay-same _
@@ -98,9 +98,7 @@ stay-accepted s xs Reset n = absurd (n tt)
 
 -- "Flags once set stay until 50h or reset"
 pub flags-stay : (s : State) (xs : List ℕ) (x : Step) → (MayClear s x → ⊥) → Stay (s .control .flags) (stepOf s xs x .state .control .flags)
-unfolding stepOf
-flags-stay s xs x n =
-    of-cond (λ (y : Next). Stay (s .control .flags) (y .state .control .flags)) (eqb (refusalOf s (length xs) x) 0) _ _ (stay-accepted s xs x n) (stay-same _)
+flags-stay s xs x n = of-step (λ (y : Next). Stay (s .control .flags) (y .state .control .flags)) s xs x (stay-accepted s xs x n) (stay-same _)
 
 -- ---- ".. and never block a later command."
 
@@ -127,26 +125,8 @@ alike-cycle : (g : Geometry) (v : View) (f : Flags) (c : Setup) (p : Place) (w :
 unfolding ended settle
 alike-cycle g v f c p w =
     both-cycle (λ x y. unflaggedView y ≡ unflaggedView x) g v f p w c
-    (λ e. record { modes = λ i m. refl; suspends = λ i. refl; wakes = λ i r t. refl; ends = λ i r t. refl; clears = λ i r. refl; sets-up = λ i x z. refl; stays = refl })
-    (record { fails = λ x. refl; starts = λ r t. refl; protects = λ b. refl; stores = λ i l n. refl; loads = λ x. refl })
-
-alike-accepted : (s : State) (f : Flags) (xs : List ℕ) (x : Step) → unflagged (accepted (withFlags s f) xs x .state) ≡ unflagged (accepted s xs x .state)
-unfolding accepted switchedTo written writtenAt workedOn worked
-alike-accepted s f xs (Read a) = refl
-alike-accepted s f xs (Write a w) = let p : Place = placeOf (geometry s) a in
-    ap (λ (v : View). withBuffer (withView s p v) (loadedAt s p w (v .control .activity))) (alike-cycle (geometry s) (viewAt s p) f (s .control .activity .setup) p w)
-alike-accepted s f xs (Work n) = refl
-alike-accepted s f xs (Supply on) = let r : Running = s .control .activity .running in
-    ap (λ (c : Control). withBuffer (withControl s c) (bufferAfter r (c .activity .running) (s .buffer))) (alike-switched (s .control) f on)
-alike-accepted s f xs Reset = refl
-
-alike-array : (s : State) (f : Flags) (xs : List ℕ) (x : Step) → acceptedArray (withFlags s f) xs x ≡ acceptedArray s xs x
-unfolding acceptedArray workedArray
-alike-array s f xs (Read a) = refl
-alike-array s f xs (Write a w) = refl
-alike-array s f xs (Work n) = refl
-alike-array s f xs (Supply on) = refl
-alike-array s f xs Reset = refl
+    (λ e. record { modes = λ i m. refl; suspends = λ i. refl; resumes = λ i r t. refl; ends = λ i r t. refl; clears = λ i r. refl; sets-up = λ i x z. refl; stays = refl })
+    (record { raises = λ x. refl; starts = λ r t. refl; protects = λ b. refl; stores = λ i l n. refl; loads = λ x. refl })
 
 alike-refusal : (s : State) (f : Flags) (n : ℕ) (x : Step) → refusalOf (withFlags s f) n x ≡ refusalOf s n x
 unfolding refusalOf stateRefusal wellFormed runsSupplied
@@ -159,24 +139,29 @@ toldBy (Units n) = n
 toldBy Done = 0
 toldBy (Refused n) = 0
 
-alike-told : (s : State) (f : Flags) (xs : List ℕ) (x : Step) → toldBy (accepted (withFlags s f) xs x .answer) ≡ toldBy (accepted s xs x .answer)
-unfolding accepted
-alike-told s f xs (Read a) = refl
-alike-told s f xs (Write a w) = refl
-alike-told s f xs (Work n) = refl
-alike-told s f xs (Supply on) = refl
-alike-told s f xs Reset = refl
+-- the state but for its flags, the array, and the units told
+alike-accepted : (s : State) (f : Flags) (xs : List ℕ) (x : Step)
+    → (unflagged (accepted (withFlags s f) xs x .state) ≡ unflagged (accepted s xs x .state)) × (acceptedArray (withFlags s f) xs x ≡ acceptedArray s xs x)
+    × (toldBy (accepted (withFlags s f) xs x .answer) ≡ toldBy (accepted s xs x .answer))
+unfolding accepted acceptedArray switchedTo written writtenAt workedOn worked workedArray
+alike-accepted s f xs (Read a) = (refl, refl, refl)
+alike-accepted s f xs (Write a w) = let p : Place = placeOf (geometry s) a in
+    (ap (λ (v : View). withBuffer (withView s p v) (loadedAt s p w (v .control .activity))) (alike-cycle (geometry s) (viewAt s p) f (s .control .activity .setup) p w), refl, refl)
+alike-accepted s f xs (Work n) = (refl, refl, refl)
+alike-accepted s f xs (Supply on) = let r : Running = s .control .activity .running in
+    (ap (λ (c : Control). withBuffer (withControl s c) (bufferAfter r (c .activity .running) (s .buffer))) (alike-switched (s .control) f on), refl, refl)
+alike-accepted s f xs Reset = (refl, refl, refl)
 
 -- whatever the flags are, a step does the same, but for the flags themselves: the same state, the same array, the same refusal and as many units told
 pub flags-never-block : (s : State) (f : Flags) (xs : List ℕ) (x : Step)
     → (unflagged (stepOf (withFlags s f) xs x .state) ≡ unflagged (stepOf s xs x .state)) × (arrayOf (withFlags s f) xs x ≡ arrayOf s xs x)
     × (numberOf (stepOf (withFlags s f) xs x .answer) ≡ numberOf (stepOf s xs x .answer)) × (toldBy (stepOf (withFlags s f) xs x .answer) ≡ toldBy (stepOf s xs x .answer))
 unfolding stepOf arrayOf
-flags-never-block s f xs x = (
-  rw e (by-cond₂ (λ (y z : Next). unflagged (y .state) ≡ unflagged (z .state)) (eqb n 0) _ _ _ _ (λ i. alike-accepted s f xs x) (λ i. refl)),
-  rw e (by-cond₂ (λ (y z : List ℕ). y ≡ z) (eqb n 0) _ _ _ _ (λ i. alike-array s f xs x) (λ i. refl)),
+flags-never-block s f xs x = let a = alike-accepted s f xs x in (
+  rw e (by-cond₂ (λ (y z : Next). unflagged (y .state) ≡ unflagged (z .state)) (eqb n 0) _ _ _ _ (λ i. a .0) (λ i. refl)),
+  rw e (by-cond₂ (λ (y z : List ℕ). y ≡ z) (eqb n 0) _ _ _ _ (λ i. a .1) (λ i. refl)),
   answer-number (withFlags s f) xs x ∙ e ∙ sym (answer-number s xs x),
-  rw e (by-cond₂ (λ (y z : Next). toldBy (y .answer) ≡ toldBy (z .answer)) (eqb n 0) _ _ _ _ (λ i. alike-told s f xs x) (λ i. refl)),
+  rw e (by-cond₂ (λ (y z : Next). toldBy (y .answer) ≡ toldBy (z .answer)) (eqb n 0) _ _ _ _ (λ i. a .2) (λ i. refl)),
 )
   where
     n : ℕ

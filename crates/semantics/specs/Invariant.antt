@@ -7,7 +7,7 @@ use mathlib.Core.Bool.{Bool, true, false, true≢false}
 use mathlib.Core.Logic.{_⊎_, inl, inr}
 use Prim.Native.Nat.{ℕ, suc, _≤_, _<_, _%_}
 use native.Mathlib.Omega.{arith}
-use lib.Dec.{eqb, eqb·suc-zero}
+use lib.Dec.{eqb·suc-zero}
 use lib.ListN.{length, getD, length-set}
 use borrow.Author.Tests.{lt-ltb, le-ltb, le-leb, lt-leb, eq-eqb}
 use Rattle.geometry.specs.declared.Part.{Part}
@@ -28,7 +28,9 @@ use Rattle.semantics.specs.declared.Answer.the-variants.{Refused}
 use Rattle.semantics.specs.declared.Next.{Next}
 use Rattle.semantics.specs.declared.Place.{Place}
 use Rattle.semantics.specs.declared.View.{View}
-use Rattle.semantics.specs.Branches.{of-cond}
+use Rattle.semantics.specs.Branches.{by-test}
+use Rattle.semantics.specs.Cycles.{nothing-running}
+use Rattle.semantics.specs.Refusals.{of-step, of-array}
 use Rattle.semantics.specs.State.{geometry, setActivity, withRunning, withSupply, withBuffer, powerUp, runs}
 use Rattle.semantics.specs.Supply.{ended, endedIfUnsupplied, switched}
 use Rattle.semantics.specs.Supplied.{of-switched, switched-supplied, cycle-supplied, idle-supplied, on-supplied, unsupplied-idle}
@@ -105,8 +107,7 @@ length-accepted s xs (Supply on) = refl
 length-accepted s xs Reset = refl
 
 pub length-kept : (s : State) (xs : List ℕ) (x : Step) → length (arrayOf s xs x) ≡ length xs
-unfolding arrayOf
-length-kept s xs x = of-cond (λ (l : List ℕ). length l ≡ length xs) (eqb (refusalOf s (length xs) x) 0) _ _ (length-accepted s xs x) refl
+length-kept s xs x = of-array (λ (l : List ℕ). length l ≡ length xs) s xs x (length-accepted s xs x) refl
 
 -- ---- each step is an event, in the state and in every word
 
@@ -221,8 +222,7 @@ module _ (s : State) (xs : List ℕ) (good : stateRefusal s (length xs) ≡ 0) (
   spared-accepted Reset h = zero-empty _
 
   pub spared-step : (x : Step) → Spared (s .control .activity) (s .buffer) → Spared (stepOf s xs x .state .control .activity) (stepOf s xs x .state .buffer)
-  unfolding stepOf
-  spared-step x h = of-cond (λ (y : Next). Spared (y .state .control .activity) (y .state .buffer)) (eqb (refusalOf s (length xs) x) 0) _ _ (spared-accepted x h) h
+  spared-step x h = of-step (λ (y : Next). Spared (y .state .control .activity) (y .state .buffer)) s xs x (spared-accepted x h) h
 
 -- ---- what no step changes
 
@@ -255,17 +255,10 @@ kept-view s p v bs c r o = record {
 -- work leaves nothing running where nothing ran
 idle-after : (g : Geometry) (r : Running) (m : ℕ) → runs r ≡ false → runs (runningAfter g r m) ≡ false
 unfolding runningAfter
-idle-after g running.Idle m h = refl
-idle-after g (running.Program l w) m h = absurd (true≢false h)
-idle-after g (running.Erase b n) m h = absurd (true≢false h)
-idle-after g (running.Buffer l n d) m h = absurd (true≢false h)
+idle-after g r m h = rw (nothing-running r h)
 
 worked-supplied : (g : Geometry) (c : Control) (m : ℕ) → runsSupplied c ≡ true → runsSupplied (setActivity c (withRunning (c .activity) (runningAfter g (c .activity .running) m))) ≡ true
-worked-supplied g c m h = go (c .supply) refl
-  where
-    go : (t : Bool) → c .supply ≡ t → runsSupplied (setActivity c (withRunning (c .activity) (runningAfter g (c .activity .running) m))) ≡ true
-    go true e = on-supplied _ e
-    go false e = idle-supplied _ (idle-after g (c .activity .running) m (unsupplied-idle c h e))
+worked-supplied g c m h = by-test (c .supply) (λ e. on-supplied _ e) (λ e. idle-supplied _ (idle-after g (c .activity .running) m (unsupplied-idle c h e)))
 
 kept-accepted : (s : State) (xs : List ℕ) (x : Step) → length (s .unprotected) ≡ 5 → Kept s (accepted s xs x .state)
 unfolding accepted switchedTo ended written writtenAt workedOn worked powerUp
@@ -282,9 +275,7 @@ kept-accepted s xs (Supply on) h = kept s (switchedTo s on) refl refl refl (of-s
 kept-accepted s xs Reset h = record { part = refl; sixteen = λ z. refl; five = protection.all-length ∙ sym h; spare = λ z. protection.all-spare; thirty-two = λ z. length-empty; reserved = λ z. default-zero (s .part); powered = λ z. idle-supplied _ refl }
 
 pub kept-step : (s : State) (xs : List ℕ) (x : Step) → length (s .unprotected) ≡ 5 → Kept s (stepOf s xs x .state)
-unfolding stepOf
-kept-step s xs x h =
-    of-cond (λ (y : Next). Kept s (y .state)) (eqb (refusalOf s (length xs) x) 0) _ _ (kept-accepted s xs x h) (kept s s refl refl refl refl (λ z. z) (λ z. z))
+kept-step s xs x h = of-step (λ (y : Next). Kept s (y .state)) s xs x (kept-accepted s xs x h) (kept s s refl refl refl refl (λ z. z) (λ z. z))
 
 -- ---- the invariant: the device and the recorder agree, and the words are the journal's
 

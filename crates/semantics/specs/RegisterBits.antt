@@ -30,7 +30,7 @@ use Rattle.semantics.specs.Reading.{bitIf, signatureWord, shown, showsBy
 use Rattle.semantics.specs.Register.{isReserved, registerMask, withoutReserved, reservedZero}
 use Rattle.semantics.specs.StatusBits.{lines-bit, bankAt}
 use Rattle.semantics.specs.Supply.{ended}
-use Rattle.semantics.specs.Branches.{of-cond}
+use Rattle.semantics.specs.Branches.{of-cond, by-cond}
 use Rattle.semantics.specs.Cycles.{of-cycle}
 use Rattle.semantics.specs.Writing.{lockCommandOf, lockCycle, settle, cycle}
 use Rattle.semantics.specs.Engine.{and-true-l, and-true-r}
@@ -86,11 +86,7 @@ unfolding withoutReserved
 masked-same w h = go (reservedZero w) refl
   where
     same : reservedZero w ≡ true → (i : ℕ) → bit (withoutReserved w) i ≡ bit w i
-    same z i = masked-bit w i h ∙ at (isReserved i) refl
-      where
-        at : (b : Bool) → isReserved i ≡ b → cond b 0 (bit w i) ≡ bit w i
-        at true e = sym (zero-each w z i e)
-        at false e = refl
+    same z i = masked-bit w i h ∙ by-cond (λ (x : ℕ). x ≡ bit w i) (isReserved i) _ _ (λ e. sym (zero-each w z i e)) (λ e. refl)
 
     go : (b : Bool) → reservedZero w ≡ b → eqb (withoutReserved w) w ≡ b
     go true e = eq-eqb (withoutReserved w) w (digits-same 16 (withoutReserved w) w (and-lt 16 w registerMask h (lit< tt)) h (same e))
@@ -144,9 +140,9 @@ module _ (g : Geometry) (v : View) (p : Place) (w : ℕ) where
   unfolding ended settle
   register-stays c h =
       of-cycle (λ (x : View). x .control .configuration ≡ v .control .configuration) v p g c w
-      (λ e. record { modes = λ i m. refl; suspends = λ i. refl; wakes = λ i r t. refl; ends = λ i r t. refl; clears = λ i r. refl; sets-up = λ i x z. refl; stays = refl })
+      (λ e. record { modes = λ i m. refl; suspends = λ i. refl; resumes = λ i r t. refl; ends = λ i r t. refl; clears = λ i r. refl; sets-up = λ i x z. refl; stays = refl })
       (record {
-        fails = λ f. refl;
+        raises = λ f. refl;
         starts = λ r t. refl;
         protects = λ b. refl;
         stores = λ i l n. absurd (false≢true (sym h ∙ ap (λ (x : Setup). configures x w) i ∙ ap isConfigure l));

@@ -22,7 +22,7 @@ use Rattle.semantics.specs.declared.Command.{Command}
 use Rattle.semantics.specs.declared.State.{State}
 use Rattle.semantics.specs.declared.Place.{Place}
 use Rattle.semantics.specs.declared.View.{View}
-use Rattle.semantics.specs.Branches.{of-cond}
+use Rattle.semantics.specs.Branches.{of-cond, by-test}
 use Rattle.semantics.specs.Numbers.{within-true}
 use Rattle.semantics.specs.Tabulate.{length-tabulate}
 use Rattle.semantics.specs.State as state
@@ -113,41 +113,41 @@ module _ (g : Geometry) (s : State) (p : Place) (w : ℕ) where
   left : (q : SuspendedProgram) (x a : Activity) → a .program ≡ q → placesUsed a ≡ placesUsed x → Spared x (s .buffer) → Left q a
   left q x a e i h = rw (held-left q a (s .buffer) e) (ap (λ (n : ℕ). zeroFrom n (s .buffer)) i ∙ h)
 
-  left-asleep : (r : Running) (q : SuspendedProgram) (e : SuspendedErase) → Together r q e → Spared (activity setup.Nothing r q e) (s .buffer) → Left q (suspended (activity setup.Nothing r q e) r)
+  left-suspended : (r : Running) (q : SuspendedProgram) (e : SuspendedErase) → Together r q e → Spared (activity setup.Nothing r q e) (s .buffer) → Left q (suspended (activity setup.Nothing r q e) r)
   unfolding heldAfter placesUsed setupPlaces runningPlaces programPlaces
-  left-asleep running.Idle q e m h = left q (activity setup.Nothing running.Idle q e) (activity setup.Nothing running.Idle q e) refl refl h
-  left-asleep (running.Program l w) program.Nothing e m h = h
-  left-asleep (running.Program l w) (program.Program k v) e m h = absurd m
-  left-asleep (running.Program l w) (program.Buffer k v d) e m h = absurd m
-  left-asleep (running.Erase b n) q e m h = left q (activity setup.Nothing (running.Erase b n) q e) (activity setup.Nothing running.Idle q (erase.Erase b n)) refl refl h
-  left-asleep (running.Buffer l n d) program.Nothing e m h = ap (λ (k : ℕ). zeroFrom k (s .buffer)) (omega arith) ∙ h
-  left-asleep (running.Buffer l n d) (program.Program k v) e m h = absurd m
-  left-asleep (running.Buffer l n d) (program.Buffer k v i) e m h = absurd m
+  left-suspended running.Idle q e m h = left q (activity setup.Nothing running.Idle q e) (activity setup.Nothing running.Idle q e) refl refl h
+  left-suspended (running.Program l w) program.Nothing e m h = h
+  left-suspended (running.Program l w) (program.Program k v) e m h = absurd m
+  left-suspended (running.Program l w) (program.Buffer k v d) e m h = absurd m
+  left-suspended (running.Erase b n) q e m h = left q (activity setup.Nothing (running.Erase b n) q e) (activity setup.Nothing running.Idle q (erase.Erase b n)) refl refl h
+  left-suspended (running.Buffer l n d) program.Nothing e m h = ap (λ (k : ℕ). zeroFrom k (s .buffer)) (omega arith) ∙ h
+  left-suspended (running.Buffer l n d) (program.Program k v) e m h = absurd m
+  left-suspended (running.Buffer l n d) (program.Buffer k v i) e m h = absurd m
 
   -- D0h: t tells whether there is supply
-  left-awake : (t : Bool) (r : Running) (q : SuspendedProgram) (e : SuspendedErase) → runs r ≡ false → Spared (activity setup.Nothing r q e) (s .buffer)
+  left-resumed : (t : Bool) (r : Running) (q : SuspendedProgram) (e : SuspendedErase) → runs r ≡ false → Spared (activity setup.Nothing r q e) (s .buffer)
       → Left q (cond t (resumed (activity setup.Nothing r q e) q) (withRunning (resumed (activity setup.Nothing r q e) q) running.Idle))
   unfolding heldAfter keptIf placesUsed setupPlaces runningPlaces programPlaces
-  left-awake true running.Idle (program.Program l w) e i h = h
-  left-awake true running.Idle (program.Buffer l n d) e i h = ap (λ (k : ℕ). zeroFrom k (s .buffer)) (omega arith) ∙ h
-  left-awake true running.Idle program.Nothing erase.Nothing i h = h
-  left-awake true running.Idle program.Nothing (erase.Erase b n) i h = h
-  left-awake false running.Idle (program.Program l w) e i h = h
-  left-awake false running.Idle (program.Buffer l n d) e i h = zero-empty 0
-  left-awake false running.Idle program.Nothing erase.Nothing i h = h
-  left-awake false running.Idle program.Nothing (erase.Erase b n) i h = h
-  left-awake t (running.Program l w) q e i h = absurd (true≢false i)
-  left-awake t (running.Erase b n) q e i h = absurd (true≢false i)
-  left-awake t (running.Buffer l n d) q e i h = absurd (true≢false i)
+  left-resumed true running.Idle (program.Program l w) e i h = h
+  left-resumed true running.Idle (program.Buffer l n d) e i h = ap (λ (k : ℕ). zeroFrom k (s .buffer)) (omega arith) ∙ h
+  left-resumed true running.Idle program.Nothing erase.Nothing i h = h
+  left-resumed true running.Idle program.Nothing (erase.Erase b n) i h = h
+  left-resumed false running.Idle (program.Program l w) e i h = h
+  left-resumed false running.Idle (program.Buffer l n d) e i h = zero-empty 0
+  left-resumed false running.Idle program.Nothing erase.Nothing i h = h
+  left-resumed false running.Idle program.Nothing (erase.Erase b n) i h = h
+  left-resumed t (running.Program l w) q e i h = absurd (true≢false i)
+  left-resumed t (running.Erase b n) q e i h = absurd (true≢false i)
+  left-resumed t (running.Buffer l n d) q e i h = absurd (true≢false i)
 
   spared-first : (r : Running) (q : SuspendedProgram) (e : SuspendedErase) → Together r q e → (c : Command) → Spared (activity setup.Nothing r q e) (s .buffer)
       → Left q (firstCycle (seen setup.Nothing r q e) p c .control .activity)
   unfolding ended placesUsed setupPlaces
   spared-first r q e m c h = of-first (λ (x : View). Left q (x .control .activity)) (seen setup.Nothing r q e) p c (record {
     modes = λ i y. same;
-    suspends = λ i. left-asleep r q e m h;
-    wakes = λ i z t. left-awake true r q e z h;
-    ends = λ i z t. left-awake false r q e z h;
+    suspends = λ i. left-suspended r q e m h;
+    resumes = λ i z t. left-resumed true r q e z h;
+    ends = λ i z t. left-resumed false r q e z h;
     clears = λ i z. same;
     sets-up = λ i x z. left q (activity setup.Nothing r q e) (activity x r q e) refl (ap (λ (n : ℕ). n + (runningPlaces r + programPlaces q)) z) h;
     stays = same;
@@ -213,11 +213,9 @@ module _ (g : Geometry) (s : State) (p : Place) (w : ℕ) where
   spared-cycle : (c : Setup) (r : Running) (q : SuspendedProgram) (e : SuspendedErase) → Together r q e → Ready g (setupOf (s .buffer) c) (runs r) (held? (underWayOf (s .buffer) r q e))
       → Spared (activity c r q e) (s .buffer) → After c r q e
   unfolding cycle loaded
-  spared-cycle c r q e m y h = go (pending c) refl
-    where
-      go : (b : Bool) → pending c ≡ b → After c r q e
-      go true z = alone c z r q e y h
-      go false z = subst (λ (x : Setup). Spared (activity x r q e) (s .buffer) → After x r q e) (sym (nothing-pending c z)) (spared-first r q e m (commandOf (w % 256))) h
+  spared-cycle c r q e m y h =
+      by-test (pending c) (λ z. alone c z r q e y h)
+      (λ z. subst (λ (x : Setup). Spared (activity x r q e) (s .buffer) → After x r q e) (sym (nothing-pending c z)) (spared-first r q e m (commandOf (w % 256))) h)
 
 -- ---- the steps
 

@@ -92,20 +92,20 @@ cycle-supplied g v c p w h =
     of-cycle (λ (x : View). runsSupplied (x .control) ≡ true) v p g c w
     (λ e. record {
       modes = λ i m. h;
-      suspends = λ i. asleep-supplied (v .control .activity .running) refl;
-      wakes = λ i r t. on-supplied (awake (v .control)) t;
+      suspends = λ i. suspended-supplied (v .control .activity .running) refl;
+      resumes = λ i r t. on-supplied (awake (v .control)) t;
       ends = λ i r t. ended-supplied (awake (v .control));
       clears = λ i r. h;
       sets-up = λ i x z. h;
       stays = h;
     })
-    (record { fails = λ f. h; starts = λ r t. on-supplied (started v r .control) t; protects = λ b. h; stores = λ i l n. h; loads = λ x. h })
+    (record { raises = λ f. h; starts = λ r t. on-supplied (started v r .control) t; protects = λ b. h; stores = λ i l n. h; loads = λ x. h })
   where
-    asleep-supplied : (r : Running) → v .control .activity .running ≡ r → runsSupplied (setActivity (v .control) (suspended (v .control .activity) r)) ≡ true
-    asleep-supplied running.Idle e = h
-    asleep-supplied (running.Program l w) e = refl
-    asleep-supplied (running.Erase b n) e = refl
-    asleep-supplied (running.Buffer l n d) e = refl
+    suspended-supplied : (r : Running) → v .control .activity .running ≡ r → runsSupplied (setActivity (v .control) (suspended (v .control .activity) r)) ≡ true
+    suspended-supplied running.Idle e = h
+    suspended-supplied (running.Program l w) e = refl
+    suspended-supplied (running.Erase b n) e = refl
+    suspended-supplied (running.Buffer l n d) e = refl
 
 -- ---- the words of a suspended buffer program
 
@@ -173,7 +173,7 @@ module _ (v : View) (p : Place) (k : programSuspended (v .control .activity .pro
   command-holds c h = of-first (λ (x : View). Holds (x .control .activity)) v p c (record {
     modes = λ i m. still;
     suspends = λ i. suspend-holds (v .control .activity .running);
-    wakes = λ i r t. awake-holds (v .control .activity .program) k;
+    resumes = λ i r t. awake-holds (v .control .activity .program) k;
     ends = λ i r t. absurd (false≢true (rw (r, t) at (h (ap isResume i))));
     clears = λ i r. still;
     sets-up = λ i x z. still;

@@ -26,7 +26,7 @@ use Rattle.semantics.specs.declared.View.{View}
 use Rattle.semantics.specs.State.{geometry, activity, setActivity, withControl, withBuffer, withSetup, withRunning, withActivity, runs}
 use Rattle.semantics.specs.Supply.{ended, endedIfUnsupplied}
 use Rattle.semantics.specs.Branches.{of-cond, by-cond₂}
-use Rattle.semantics.specs.Cycles.{awake, asleep, nothing-pending, of-second}
+use Rattle.semantics.specs.Cycles.{awake, suspendedIn, nothing-pending, of-second}
 use Rattle.semantics.specs.Supplied.{resume-supplied, first-holds, held-left}
 use Rattle.semantics.specs.View.{viewAt, withView, withMode}
 use Rattle.semantics.specs.Modes.{view-back}
@@ -98,8 +98,8 @@ firstBy v change.View = clearStatus v
 -- Q holds of each change that a first cycle may be, with the view that it leaves: a mode; B0h; D0h that resumes, and that ends what it would have resumed; 50h; a set-up; nothing
 record Each (Q : Change → View → Type 0) (v : View) : Type 0 where
   modes : (m : Mode) → Q (change.First m (v .control .activity .setup)) (withMode v m)
-  suspends : Q (change.Activity (asleep v .control .activity)) (asleep v)
-  wakes : runs (v .control .activity .running) ≡ false → v .control .supply ≡ true → Q (change.Activity (awake (v .control) .activity)) (view.withControl v (awake (v .control)))
+  suspends : Q (change.Activity (suspendedIn v .control .activity)) (suspendedIn v)
+  resumes : runs (v .control .activity .running) ≡ false → v .control .supply ≡ true → Q (change.Activity (awake (v .control) .activity)) (view.withControl v (awake (v .control)))
   ends : runs (v .control .activity .running) ≡ false → v .control .supply ≡ false → Q (change.Ended (awake (v .control) .activity)) (view.withControl v (ended (awake (v .control))))
   clears : Q change.View (clearStatus v)
   sets-up : (x : Setup) → Q (change.First Status x) (pend v x)
@@ -119,7 +119,7 @@ module _ (Q : Change → View → Type 0) (v : View) (p : Place) (h : Each Q v) 
   of-command command.Suspend = h .suspends
   of-command command.Resume =
       by-cond₂ (λ (k : Change) (c : Control). Q k (view.withControl v c)) (runs (v .control .activity .running)) _ _ _ _ (λ e. h .stays)
-      (λ e. by-cond₂ (λ (k : Change) (c : Control). Q k (view.withControl v c)) (v .control .supply) _ _ _ _ (h .wakes e) (h .ends e))
+      (λ e. by-cond₂ (λ (k : Change) (c : Control). Q k (view.withControl v c)) (v .control .supply) _ _ _ _ (h .resumes e) (h .ends e))
   of-command command.ClearStatus = h .clears
   of-command command.SetUpProgram = of-set-up setup.Program
   of-command command.SetUpErase = of-set-up setup.Erase
@@ -128,7 +128,7 @@ module _ (Q : Change → View → Type 0) (v : View) (p : Place) (h : Each Q v) 
   of-command command.Unknown = h .stays
 
 pub first-is : (v : View) (p : Place) (c : Command) → firstBy v (commandChange (v .control .activity) (v .control .supply) p c) ≡ firstCycle v p c
-first-is v p = of-command (λ (k : Change) (x : View). firstBy v k ≡ x) v p (record { modes = λ m. refl; suspends = refl; wakes = λ r t. refl; ends = λ r t. refl; clears = refl; sets-up = λ x. refl; stays = refl })
+first-is v p = of-command (λ (k : Change) (x : View). firstBy v k ≡ x) v p (record { modes = λ m. refl; suspends = refl; resumes = λ r t. refl; ends = λ r t. refl; clears = refl; sets-up = λ x. refl; stays = refl })
 
 -- ---- the state after a write that changes little
 
@@ -192,7 +192,7 @@ unfolding firstCycle ended
 buffer-is s p = of-command (λ (k : Change) (x : View). bufferBy s k ≡ heldAfter (s .control .activity .program) (x .control .activity) (s .buffer)) (viewAt s p) p (record {
   modes = λ m. left (s .control .activity) refl;
   suspends = sym (first-holds (viewAt s p) p command.Suspend (s .buffer) (λ k. absurd (false≢true k)));
-  wakes = λ r t. sym (rw (resume-supplied (s .control) r t) at (first-holds (viewAt s p) p command.Resume (s .buffer) (λ k. rw t)));
+  resumes = λ r t. sym (rw (resume-supplied (s .control) r t) at (first-holds (viewAt s p) p command.Resume (s .buffer) (λ k. rw t)));
   ends = λ r t. ended-buffer (s .control .activity) (s .control .activity .program) (s .buffer) r;
   clears = sym (first-holds (viewAt s p) p command.ClearStatus (s .buffer) (λ k. absurd (false≢true k)));
   sets-up = λ x. left (withSetup (s .control .activity) x) refl;
@@ -262,7 +262,7 @@ told-left g v c p w = go (pending c) refl
 
     go : (t : Bool) → pending c ≡ t → Left v (toldCycle g v c p w)
     go true e = rw (told-pending g v c p w e)
-        (of-second (Left v) v p g c w e (record { fails = λ f. same; starts = λ r t. same; protects = λ b. same; stores = λ i l n. same; loads = λ x. same }))
+        (of-second (Left v) v p g c w e (record { raises = λ f. same; starts = λ r t. same; protects = λ b. same; stores = λ i l n. same; loads = λ x. same }))
     go false e = rw (nothing-pending c e) (of-cond (Left v) (runs (v .control .activity .running)) _ _ same same)
 
 pub told-settled : (s : State) (p : Place) (w : ℕ) → settledIn (s .control) (toldAt s p w) ≡ toldAt s p w .control
