@@ -25,8 +25,8 @@ use Rattle.semantics.specs.declared.Place.{Place}
 use Rattle.semantics.specs.declared.View.{View}
 use Rattle.semantics.specs.State.{geometry, activity, setActivity, withControl, withBuffer, withSetup, withRunning, withActivity, runs}
 use Rattle.semantics.specs.Supply.{ended, endedIfUnsupplied}
-use Rattle.semantics.specs.Branches.{of-cond, by-cond₂}
-use Rattle.semantics.specs.Cycles.{awake, suspendedIn, nothing-pending, of-second}
+use Rattle.semantics.specs.Branches.{of-cond, by-cond₂, by-test}
+use Rattle.semantics.specs.Cycles.{awake, suspendedIn, nothing-pending, nothing-running, of-second}
 use Rattle.semantics.specs.Supplied.{resume-supplied, first-holds, held-left}
 use Rattle.semantics.specs.View.{viewAt, withView, withMode}
 use Rattle.semantics.specs.Modes.{view-back}
@@ -176,14 +176,8 @@ ended-buffer a (program.Program l w) bs h = refl
 ended-buffer a (program.Buffer l n d) bs h = refl
 ended-buffer a program.Nothing bs h = by-erase (a .erase)
   where
-    idle : (r : Running) → runs r ≡ false → bufferAfter r running.Idle bs ≡ bs
-    idle running.Idle h = refl
-    idle (running.Program l w) h = refl
-    idle (running.Erase b n) h = refl
-    idle (running.Buffer l n d) h = absurd (true≢false h)
-
     by-erase : (e : SuspendedErase) → bufferAfter (resumedErase a e .running) running.Idle bs ≡ bs
-    by-erase erase.Nothing = idle (a .running) h
+    by-erase erase.Nothing = ap (λ (r : Running). bufferAfter r running.Idle bs) (nothing-running (a .running) h)
     by-erase (erase.Erase b n) = refl
 
 buffer-is : (s : State) (p : Place) (c : Command)
@@ -255,15 +249,13 @@ Left v x =
 
 told-left : (g : Geometry) (v : View) (c : Setup) (p : Place) (w : ℕ) → Left v (toldCycle g v c p w)
 unfolding clearStatus settle
-told-left g v c p w = go (pending c) refl
+told-left g v c p w =
+    by-test (pending c)
+    (λ e. rw (told-pending g v c p w e) (of-second (Left v) v p g c w e (record { raises = λ f. same; starts = λ r t. same; protects = λ b. same; stores = λ i l n. same; loads = λ x. same })))
+    (λ e. rw (nothing-pending c e) (of-cond (Left v) (runs (v .control .activity .running)) _ _ same same))
   where
     same : Left v v
     same = (refl, refl, refl)
-
-    go : (t : Bool) → pending c ≡ t → Left v (toldCycle g v c p w)
-    go true e = rw (told-pending g v c p w e)
-        (of-second (Left v) v p g c w e (record { raises = λ f. same; starts = λ r t. same; protects = λ b. same; stores = λ i l n. same; loads = λ x. same }))
-    go false e = rw (nothing-pending c e) (of-cond (Left v) (runs (v .control .activity .running)) _ _ same same)
 
 pub told-settled : (s : State) (p : Place) (w : ℕ) → settledIn (s .control) (toldAt s p w) ≡ toldAt s p w .control
 told-settled s p w =
