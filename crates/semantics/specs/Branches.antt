@@ -13,7 +13,8 @@ by-cond P true x y h k = h refl
 by-cond P false x y h k = k refl
 
 -- and of two choices by one test
-pub by-cond₂ : {A B : Type 0} (R : A → B → Type 0) (b : Bool) (x y : A) (u v : B) → (b ≡ true → R x u) → (b ≡ false → R y v) → R (cond b x y) (cond b u v)
+pub by-cond₂ : {A B : Type 0} (R : A → B → Type 0) (b : Bool) (x y : A) (u v : B) → (b ≡ true → R x u)
+    → (b ≡ false → R y v) → R (cond b x y) (cond b u v)
 by-cond₂ R true x y u v h k = h refl
 by-cond₂ R false x y u v h k = k refl
 

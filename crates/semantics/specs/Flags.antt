@@ -98,7 +98,9 @@ stay-accepted s xs Reset n = absurd (n tt)
 
 -- "Flags once set stay until 50h or reset"
 pub flags-stay : (s : State) (xs : List ℕ) (x : Step) → (MayClear s x → ⊥) → Stay (s .control .flags) (stepOf s xs x .state .control .flags)
-flags-stay s xs x n = of-step (λ (y : Next). Stay (s .control .flags) (y .state .control .flags)) s xs x (stay-accepted s xs x n) (stay-same _)
+flags-stay s xs x n =
+    of-step (λ (y : Next). Stay (s .control .flags) (y .state .control .flags)) s xs x (stay-accepted s xs x n)
+    (stay-same _)
 
 -- ---- ".. and never block a later command."
 
@@ -141,7 +143,8 @@ toldBy (Refused n) = 0
 
 -- the state but for its flags, the array, and the units told
 alike-accepted : (s : State) (f : Flags) (xs : List ℕ) (x : Step)
-    → (unflagged (accepted (withFlags s f) xs x .state) ≡ unflagged (accepted s xs x .state)) × (acceptedArray (withFlags s f) xs x ≡ acceptedArray s xs x)
+    → (unflagged (accepted (withFlags s f) xs x .state) ≡ unflagged (accepted s xs x .state))
+    × (acceptedArray (withFlags s f) xs x ≡ acceptedArray s xs x)
     × (toldBy (accepted (withFlags s f) xs x .answer) ≡ toldBy (accepted s xs x .answer))
 unfolding accepted acceptedArray switchedTo written writtenAt workedOn worked workedArray
 alike-accepted s f xs (Read a) = (refl, refl, refl)
@@ -158,7 +161,8 @@ pub flags-never-block : (s : State) (f : Flags) (xs : List ℕ) (x : Step)
     × (numberOf (stepOf (withFlags s f) xs x .answer) ≡ numberOf (stepOf s xs x .answer)) × (toldBy (stepOf (withFlags s f) xs x .answer) ≡ toldBy (stepOf s xs x .answer))
 unfolding stepOf arrayOf
 flags-never-block s f xs x = let a = alike-accepted s f xs x in (
-  rw e (by-cond₂ (λ (y z : Next). unflagged (y .state) ≡ unflagged (z .state)) (eqb n 0) _ _ _ _ (λ i. a .0) (λ i. refl)),
+  rw e (by-cond₂ (λ (y z : Next). unflagged (y .state) ≡ unflagged (z .state)) (eqb n 0) _ _ _ _ (λ i. a .0)
+      (λ i. refl)),
   rw e (by-cond₂ (λ (y z : List ℕ). y ≡ z) (eqb n 0) _ _ _ _ (λ i. a .1) (λ i. refl)),
   answer-number (withFlags s f) xs x ∙ e ∙ sym (answer-number s xs x),
   rw e (by-cond₂ (λ (y z : Next). toldBy (y .answer) ≡ toldBy (z .answer)) (eqb n 0) _ _ _ _ (λ i. a .2) (λ i. refl)),

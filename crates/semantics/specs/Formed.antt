@@ -130,7 +130,8 @@ module _ (g : Geometry) (bs : List ℕ) where
   apart-running sound (running.Buffer l n d) (program.Buffer k v f) e m i z h = absurd m
 
   -- a pending set-up means that nothing runs and no program is suspended
-  pub setup-alone : (c : Setup) (r : Running) (p : SuspendedProgram) (e : SuspendedErase) → Ready g (setupOf bs c) (runs r) (held? (underWayOf bs r p e))
+  pub setup-alone : (c : Setup) (r : Running) (p : SuspendedProgram) (e : SuspendedErase)
+      → Ready g (setupOf bs c) (runs r) (held? (underWayOf bs r p e))
       → (pending c ≡ true → (runs r ≡ false) × (programSuspended p ≡ false))
   setup-alone setup.Nothing r p e y z = absurd (false≢true z)
   setup-alone setup.Program r p e y z = (y .0, sym (under-way-program bs r p e) ∙ y .1)

@@ -222,7 +222,8 @@ module _ (s : State) (xs : List ℕ) (good : stateRefusal s (length xs) ≡ 0) (
   spared-accepted Reset h = zero-empty _
 
   pub spared-step : (x : Step) → Spared (s .control .activity) (s .buffer) → Spared (stepOf s xs x .state .control .activity) (stepOf s xs x .state .buffer)
-  spared-step x h = of-step (λ (y : Next). Spared (y .state .control .activity) (y .state .buffer)) s xs x (spared-accepted x h) h
+  spared-step x h =
+      of-step (λ (y : Next). Spared (y .state .control .activity) (y .state .buffer)) s xs x (spared-accepted x h) h
 
 -- ---- what no step changes
 
@@ -258,7 +259,9 @@ unfolding runningAfter
 idle-after g r m h = rw (nothing-running r h)
 
 worked-supplied : (g : Geometry) (c : Control) (m : ℕ) → runsSupplied c ≡ true → runsSupplied (setActivity c (withRunning (c .activity) (runningAfter g (c .activity .running) m))) ≡ true
-worked-supplied g c m h = by-test (c .supply) (λ e. on-supplied _ e) (λ e. idle-supplied _ (idle-after g (c .activity .running) m (unsupplied-idle c h e)))
+worked-supplied g c m h =
+    by-test (c .supply) (λ e. on-supplied _ e)
+    (λ e. idle-supplied _ (idle-after g (c .activity .running) m (unsupplied-idle c h e)))
 
 kept-accepted : (s : State) (xs : List ℕ) (x : Step) → length (s .unprotected) ≡ 5 → Kept s (accepted s xs x .state)
 unfolding accepted switchedTo ended written writtenAt workedOn worked powerUp
@@ -275,7 +278,9 @@ kept-accepted s xs (Supply on) h = kept s (switchedTo s on) refl refl refl (of-s
 kept-accepted s xs Reset h = record { part = refl; sixteen = λ z. refl; five = protection.all-length ∙ sym h; spare = λ z. protection.all-spare; thirty-two = λ z. length-empty; reserved = λ z. default-zero (s .part); powered = λ z. idle-supplied _ refl }
 
 pub kept-step : (s : State) (xs : List ℕ) (x : Step) → length (s .unprotected) ≡ 5 → Kept s (stepOf s xs x .state)
-kept-step s xs x h = of-step (λ (y : Next). Kept s (y .state)) s xs x (kept-accepted s xs x h) (kept s s refl refl refl refl (λ z. z) (λ z. z))
+kept-step s xs x h =
+    of-step (λ (y : Next). Kept s (y .state)) s xs x (kept-accepted s xs x h)
+    (kept s s refl refl refl refl (λ z. z) (λ z. z))
 
 -- ---- the invariant: the device and the recorder agree, and the words are the journal's
 

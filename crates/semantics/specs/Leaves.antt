@@ -36,7 +36,8 @@ same-array s xs x e = of-array (λ (l : List ℕ). l ≡ xs) s xs x e refl
 -- read changes nothing
 pub read-changes-nothing : (s : State) (xs : List ℕ) (a : ℕ) → (stepOf s xs (Read a) .state ≡ s) × (arrayOf s xs (Read a) ≡ xs)
 unfolding accepted acceptedArray
-read-changes-nothing s xs a = (of-step (λ (y : Next). y .state ≡ s) s xs (Read a) refl refl, same-array s xs (Read a) refl)
+read-changes-nothing s xs a =
+    (of-step (λ (y : Next). y .state ≡ s) s xs (Read a) refl refl, same-array s xs (Read a) refl)
 
 -- write, supply and reset change no word
 pub write-changes-no-word : (s : State) (xs : List ℕ) (a w : ℕ) → arrayOf s xs (Write a w) ≡ xs

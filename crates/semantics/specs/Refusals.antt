@@ -23,11 +23,13 @@ use Rattle.semantics.specs.WellFormed.{activityFormed, placesUsed, zeroF
 use Rattle.semantics.specs.Steps.{stateRefusal, firstRefusal, refusalOf, next, accepted, acceptedArray, stepOf, arrayOf, numberOf, reportedOf}
 
 -- what holds of a step that is accepted, and of one that is refused, holds of every step; and so of the array
-pub of-step : (P : Next → Type 0) (s : State) (xs : List ℕ) (x : Step) → P (accepted s xs x) → P (next s (Refused (refusalOf s (length xs) x))) → P (stepOf s xs x)
+pub of-step : (P : Next → Type 0) (s : State) (xs : List ℕ) (x : Step) → P (accepted s xs x)
+    → P (next s (Refused (refusalOf s (length xs) x))) → P (stepOf s xs x)
 unfolding stepOf
 of-step P s xs x = of-cond P (eqb (refusalOf s (length xs) x) 0) _ _
 
-pub of-array : (P : List ℕ → Type 0) (s : State) (xs : List ℕ) (x : Step) → P (acceptedArray s xs x) → P xs → P (arrayOf s xs x)
+pub of-array : (P : List ℕ → Type 0) (s : State) (xs : List ℕ) (x : Step) → P (acceptedArray s xs x) → P xs
+    → P (arrayOf s xs x)
 unfolding arrayOf
 of-array P s xs x = of-cond P (eqb (refusalOf s (length xs) x) 0) _ _
 
@@ -40,7 +42,8 @@ refusal-changes-nothing s xs x n h = (rw (h, eqb·suc-zero n), rw (h, eqb·suc-z
 pub answer-number : (s : State) (xs : List ℕ) (x : Step) → numberOf (stepOf s xs x .answer) ≡ refusalOf s (length xs) x
 unfolding stepOf accepted
 answer-number s xs x =
-    by-cond (λ (y : Next). numberOf (y .answer) ≡ refusalOf s (length xs) x) (eqb (refusalOf s (length xs) x) 0) _ _ (λ e. none x ∙ sym (eqb-true (refusalOf s (length xs) x) 0 e)) (λ e. refl)
+    by-cond (λ (y : Next). numberOf (y .answer) ≡ refusalOf s (length xs) x) (eqb (refusalOf s (length xs) x) 0) _ _
+    (λ e. none x ∙ sym (eqb-true (refusalOf s (length xs) x) 0 e)) (λ e. refl)
   where
     none : (x : Step) → numberOf (accepted s xs x .answer) ≡ 0
     none (Read a) = refl
@@ -69,7 +72,8 @@ report-refused s f = rw f
 pub reserved-unformed : (s : State) (i : ℕ) → isReserved i ≡ true → bit (s .control .configuration) i ≡ 1 → wellFormed s ≡ false
 unfolding wellFormed
 reserved-unformed s i e h =
-    by-test (reservedZero (s .control .configuration)) (λ z. absurd (omega (arith, h, zero-each (s .control .configuration) z i e)))
+    by-test (reservedZero (s .control .configuration))
+    (λ z. absurd (omega (arith, h, zero-each (s .control .configuration) z i e)))
     (λ z. rw (z, and-false (zeroFrom (placesUsed (s .control .activity)) (s .buffer)), and-false (spareZero (s .unprotected)), and-false (activityFormed (geometry s) (s .control .activity))))
 
 -- so every step is refused 2 on it, and gives state and array back as they were, and the report is refused 2

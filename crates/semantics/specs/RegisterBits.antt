@@ -86,7 +86,9 @@ unfolding withoutReserved
 masked-same w h = go (reservedZero w) refl
   where
     same : reservedZero w ≡ true → (i : ℕ) → bit (withoutReserved w) i ≡ bit w i
-    same z i = masked-bit w i h ∙ by-cond (λ (x : ℕ). x ≡ bit w i) (isReserved i) _ _ (λ e. sym (zero-each w z i e)) (λ e. refl)
+    same z i =
+        masked-bit w i h ∙ by-cond (λ (x : ℕ). x ≡ bit w i) (isReserved i) _ _ (λ e. sym (zero-each w z i e))
+        (λ e. refl)
 
     go : (b : Bool) → reservedZero w ≡ b → eqb (withoutReserved w) w ≡ b
     go true e = eq-eqb (withoutReserved w) w (digits-same 16 (withoutReserved w) w (and-lt 16 w registerMask h (lit< tt)) h (same e))
@@ -136,7 +138,8 @@ configures (setup.BufferFirst b n) w = false
 configures (setup.BufferWords l n due) w = false
 
 module _ (g : Geometry) (v : View) (p : Place) (w : ℕ) where
-  register-stays : (c : Setup) → configures c w ≡ false → cycle g v c p w .control .configuration ≡ v .control .configuration
+  register-stays : (c : Setup) → configures c w ≡ false
+      → cycle g v c p w .control .configuration ≡ v .control .configuration
   unfolding ended settle
   register-stays c h =
       of-cycle (λ (x : View). x .control .configuration ≡ v .control .configuration) v p g c w
@@ -149,7 +152,9 @@ module _ (g : Geometry) (v : View) (p : Place) (w : ℕ) where
         loads = λ x. refl;
       })
 
-  lock-register : (k : LockCommand) → lockCycle (settle v) p k .control .configuration ≡ cond (isConfigure k) (withoutReserved (p .address % 65536)) (v .control .configuration)
+  lock-register : (k : LockCommand)
+      → lockCycle (settle v) p k .control .configuration ≡ cond (isConfigure k) (withoutReserved (p .address % 65536))
+      (v .control .configuration)
   unfolding lockCycle settle
   lock-register lock.Protect = refl
   lock-register lock.Unprotect = refl
@@ -170,4 +175,5 @@ cycle-register g v (setup.BufferWords l n due) p w = register-stays g v p w (set
 -- so the reserved bits stay 0
 pub cycle-zero : (g : Geometry) (v : View) (c : Setup) (p : Place) (w : ℕ) → reservedZero (v .control .configuration) ≡ true → reservedZero (cycle g v c p w .control .configuration) ≡ true
 cycle-zero g v c p w h =
-    ap reservedZero (cycle-register g v c p w) ∙ of-cond (λ (x : ℕ). reservedZero x ≡ true) (configures c w) _ _ (masked-zero (p .address % 65536) (omega arith)) h
+    ap reservedZero (cycle-register g v c p w) ∙ of-cond (λ (x : ℕ). reservedZero x ≡ true) (configures c w) _ _
+    (masked-zero (p .address % 65536) (omega arith)) h

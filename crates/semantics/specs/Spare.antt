@@ -1,6 +1,6 @@
 -- "Spare storage, if any, is zero": no step leaves a word in a place of the buffer that is not in use.
 -- Assumes nothing.
-use mathlib.Core.Path.{_≡_, refl, sym, ap, _∙_, subst}
+use mathlib.Core.Path.{_≡_, refl, sym, ap, _∙_, subst, subst₂}
 use mathlib.Core.List.{List}
 use mathlib.Core.Bool.{Bool, true, false, cond, _||_, true≢false, false≢true}
 use Prim.Native.Nat.{ℕ, _+_, _-_, _%_}
@@ -29,7 +29,7 @@ use Rattle.semantics.specs.State as state
 use Rattle.semantics.specs.State.{activity, withRunning, runs, programSuspended, emptyBuffer}
 use Rattle.semantics.specs.View.{viewAt, withActivity}
 use Rattle.semantics.specs.Supply.{ended}
-use Rattle.semantics.specs.Cycles.{nothing-pending, of-first, of-program, of-erase, of-lock}
+use Rattle.semantics.specs.Cycles.{nothing-pending, nothing-running, nothing-suspended, of-first, of-program, of-erase, of-lock}
 use Rattle.semantics.specs.Supplied.{held-left}
 use Rattle.semantics.specs.WellFormed.{pending, setupPlaces, runningPlaces, programPlaces, placesUsed, zeroFrom}
 use Rattle.semantics.specs.Writing.{commandOf, suspended, resumed, firstCycle, lockCommandOf, settle, loads, countRight, firstRight, laterRight, confirmRight, confirmCycle, wordsCycle, cycle, keptIf, firstLoaded, wordsLoaded, heldAfter, loaded, writtenAt}
@@ -66,9 +66,11 @@ length-loaded g setup.Program p w r bs h = h
 length-loaded g setup.Erase p w r bs h = h
 length-loaded g setup.Lock p w r bs h = h
 length-loaded g (setup.BufferCount b) p w r bs h = h
-length-loaded g (setup.BufferFirst b n) p w r bs h = of-cond (λ (l : List ℕ). length l ≡ 32) (firstRight g b n p) _ _ (length-tabulate 32 _) h
+length-loaded g (setup.BufferFirst b n) p w r bs h =
+    of-cond (λ (l : List ℕ). length l ≡ 32) (firstRight g b n p) _ _ (length-tabulate 32 _) h
 length-loaded g (setup.BufferWords l n due) p w r bs h =
-    of-cond (λ (l : List ℕ). length l ≡ 32) (eqb due 0) _ _ (length-kept-if (runs r) bs h) (length-kept-if (laterRight l n p) (set bs (p .location - l) w) (length-set bs (p .location - l) w ∙ h))
+    of-cond (λ (l : List ℕ). length l ≡ 32) (eqb due 0) _ _ (length-kept-if (runs r) bs h)
+    (length-kept-if (laterRight l n p) (set bs (p .location - l) w) (length-set bs (p .location - l) w ∙ h))
 
 pub length-after : (r t : Running) (bs : List ℕ) → length bs ≡ 32 → length (bufferAfter r t bs) ≡ 32
 unfolding bufferAfter
@@ -110,23 +112,30 @@ module _ (g : Geometry) (s : State) (p : Place) (w : ℕ) where
   Left q a = Spared a (heldAfter q a (s .buffer))
 
   -- as many places are used, and the same program is suspended
-  left : (q : SuspendedProgram) (x a : Activity) → a .program ≡ q → placesUsed a ≡ placesUsed x → Spared x (s .buffer) → Left q a
+  left : (q : SuspendedProgram) (x a : Activity) → a .program ≡ q → placesUsed a ≡ placesUsed x
+      → Spared x (s .buffer) → Left q a
   left q x a e i h = rw (held-left q a (s .buffer) e) (ap (λ (n : ℕ). zeroFrom n (s .buffer)) i ∙ h)
 
-  left-suspended : (r : Running) (q : SuspendedProgram) (e : SuspendedErase) → Together r q e → Spared (activity setup.Nothing r q e) (s .buffer) → Left q (suspended (activity setup.Nothing r q e) r)
+  left-suspended : (r : Running) (q : SuspendedProgram) (e : SuspendedErase) → Together r q e
+      → Spared (activity setup.Nothing r q e) (s .buffer) → Left q (suspended (activity setup.Nothing r q e) r)
   unfolding heldAfter placesUsed setupPlaces runningPlaces programPlaces
-  left-suspended running.Idle q e m h = left q (activity setup.Nothing running.Idle q e) (activity setup.Nothing running.Idle q e) refl refl h
+  left-suspended running.Idle q e m h =
+      left q (activity setup.Nothing running.Idle q e) (activity setup.Nothing running.Idle q e) refl refl h
   left-suspended (running.Program l w) program.Nothing e m h = h
   left-suspended (running.Program l w) (program.Program k v) e m h = absurd m
   left-suspended (running.Program l w) (program.Buffer k v d) e m h = absurd m
-  left-suspended (running.Erase b n) q e m h = left q (activity setup.Nothing (running.Erase b n) q e) (activity setup.Nothing running.Idle q (erase.Erase b n)) refl refl h
+  left-suspended (running.Erase b n) q e m h =
+      left q (activity setup.Nothing (running.Erase b n) q e)
+      (activity setup.Nothing running.Idle q (erase.Erase b n)) refl refl h
   left-suspended (running.Buffer l n d) program.Nothing e m h = ap (λ (k : ℕ). zeroFrom k (s .buffer)) (omega arith) ∙ h
   left-suspended (running.Buffer l n d) (program.Program k v) e m h = absurd m
   left-suspended (running.Buffer l n d) (program.Buffer k v i) e m h = absurd m
 
   -- D0h: t tells whether there is supply
-  left-resumed : (t : Bool) (r : Running) (q : SuspendedProgram) (e : SuspendedErase) → runs r ≡ false → Spared (activity setup.Nothing r q e) (s .buffer)
-      → Left q (cond t (resumed (activity setup.Nothing r q e) q) (withRunning (resumed (activity setup.Nothing r q e) q) running.Idle))
+  left-resumed : (t : Bool) (r : Running) (q : SuspendedProgram) (e : SuspendedErase) → runs r ≡ false
+      → Spared (activity setup.Nothing r q e) (s .buffer)
+      → Left q (cond t (resumed (activity setup.Nothing r q e) q)
+      (withRunning (resumed (activity setup.Nothing r q e) q) running.Idle))
   unfolding heldAfter keptIf placesUsed setupPlaces runningPlaces programPlaces
   left-resumed true running.Idle (program.Program l w) e i h = h
   left-resumed true running.Idle (program.Buffer l n d) e i h = ap (λ (k : ℕ). zeroFrom k (s .buffer)) (omega arith) ∙ h
@@ -140,7 +149,8 @@ module _ (g : Geometry) (s : State) (p : Place) (w : ℕ) where
   left-resumed t (running.Erase b n) q e i h = absurd (true≢false i)
   left-resumed t (running.Buffer l n d) q e i h = absurd (true≢false i)
 
-  spared-first : (r : Running) (q : SuspendedProgram) (e : SuspendedErase) → Together r q e → (c : Command) → Spared (activity setup.Nothing r q e) (s .buffer)
+  spared-first : (r : Running) (q : SuspendedProgram) (e : SuspendedErase) → Together r q e → (c : Command)
+      → Spared (activity setup.Nothing r q e) (s .buffer)
       → Left q (firstCycle (seen setup.Nothing r q e) p c .control .activity)
   unfolding ended placesUsed setupPlaces
   spared-first r q e m c h = of-first (λ (x : View). Left q (x .control .activity)) (seen setup.Nothing r q e) p c (record {
@@ -149,7 +159,9 @@ module _ (g : Geometry) (s : State) (p : Place) (w : ℕ) where
     resumes = λ i z t. left-resumed true r q e z h;
     ends = λ i z t. left-resumed false r q e z h;
     clears = λ i z. same;
-    sets-up = λ i x z. left q (activity setup.Nothing r q e) (activity x r q e) refl (ap (λ (n : ℕ). n + (runningPlaces r + programPlaces q)) z) h;
+    sets-up =
+        λ i x z. left q (activity setup.Nothing r q e) (activity x r q e) refl
+        (ap (λ (n : ℕ). n + (runningPlaces r + programPlaces q)) z) h;
     stays = same;
   })
     where
@@ -163,11 +175,14 @@ module _ (g : Geometry) (s : State) (p : Place) (w : ℕ) where
   abbrev Plain : View → Type 0
   Plain x = Spared (x .control .activity) (s .buffer)
 
-  spared-confirm : (l n due : ℕ) (e : SuspendedErase) → zeroFrom n (s .buffer) ≡ true → Confirmed (confirmCycle g (seen (setup.BufferWords l n due) running.Idle program.Nothing e) l n p w)
+  spared-confirm : (l n due : ℕ) (e : SuspendedErase) → zeroFrom n (s .buffer) ≡ true
+      → Confirmed (confirmCycle g (seen (setup.BufferWords l n due) running.Idle program.Nothing e) l n p w)
   unfolding confirmCycle settle keptIf placesUsed setupPlaces runningPlaces programPlaces
   spared-confirm l n due e h =
       of-cond Confirmed (confirmRight g l p w) _ _
-      (of-program Confirmed (settle (seen (setup.BufferWords l n due) running.Idle program.Nothing e)) p (running.Buffer l n 0) (λ f. zero-empty 0) (ap (λ (k : ℕ). zeroFrom k (s .buffer)) (omega arith) ∙ h)) (zero-empty 0)
+      (of-program Confirmed (settle (seen (setup.BufferWords l n due) running.Idle program.Nothing e)) p
+      (running.Buffer l n 0) (λ f. zero-empty 0) (ap (λ (k : ℕ). zeroFrom k (s .buffer)) (omega arith) ∙ h))
+      (zero-empty 0)
 
   spared-words : (l n due : ℕ) (e : SuspendedErase) → zeroFrom n (s .buffer) ≡ true → After (setup.BufferWords l n due) running.Idle program.Nothing e
   unfolding cycle wordsCycle loaded wordsLoaded heldAfter laterRight keptIf setupPlaces
@@ -177,45 +192,61 @@ module _ (g : Geometry) (s : State) (p : Place) (w : ℕ) where
       x = confirmCycle g (seen (setup.BufferWords l n due) running.Idle program.Nothing e) l n p w
 
       y : View
-      y = loads (laterRight l n p) (seen (setup.BufferWords l n due) running.Idle program.Nothing e) (setup.BufferWords l n (due - 1))
+      y =
+          loads (laterRight l n p) (seen (setup.BufferWords l n due) running.Idle program.Nothing e)
+          (setup.BufferWords l n (due - 1))
 
       bs : List ℕ
       bs = set (s .buffer) (p .location - l) w
 
-      go : (b : Bool) → Spared ((cond b x y) .control .activity) (cond b (keptIf (runs ((cond b x y) .control .activity .running)) (s .buffer)) (keptIf (laterRight l n p) bs))
+      go : (b : Bool) → Spared ((cond b x y) .control .activity)
+          (cond b (keptIf (runs ((cond b x y) .control .activity .running)) (s .buffer)) (keptIf (laterRight l n p) bs))
       go true = spared-confirm l n due e h
       go false =
-          spared-loads (viewAt s p) (setup.BufferWords l n due) e (setup.BufferWords l n (due - 1)) (λ o. keptIf o bs) (laterRight l n p)
+          spared-loads (viewAt s p) (setup.BufferWords l n due) e (setup.BufferWords l n (due - 1)) (λ o. keptIf o bs)
+          (laterRight l n p)
           (λ z. zero-set n (p .location - l) w (s .buffer) (omega (arith, within-true l n (p .location) z)) h) (λ z. zero-empty 0)
 
   -- after a set-up nothing runs and no program is suspended
-  spared-second : (c : Setup) (e : SuspendedErase) → pending c ≡ true → Ready g (setupOf (s .buffer) c) false (held? (underWayOf (s .buffer) running.Idle program.Nothing e))
+  spared-second : (c : Setup) (e : SuspendedErase) → pending c ≡ true
+      → Ready g (setupOf (s .buffer) c) false (held? (underWayOf (s .buffer) running.Idle program.Nothing e))
       → Spared (activity c running.Idle program.Nothing e) (s .buffer) → After c running.Idle program.Nothing e
   unfolding cycle settle loaded heldAfter placesUsed setupPlaces runningPlaces programPlaces
   spared-second setup.Nothing e z y h = absurd (false≢true z)
-  spared-second setup.Program e z y h = of-program Plain (settle (seen setup.Program running.Idle program.Nothing e)) p (running.Program (p .location) w) (λ f. h) h
-  spared-second setup.Erase e z y h = of-erase Plain (settle (seen setup.Erase running.Idle program.Nothing e)) p (w % 256) (λ f. h) h
-  spared-second setup.Lock e z y h = of-lock Plain (settle (seen setup.Lock running.Idle program.Nothing e)) p (lockCommandOf (w % 256)) (λ f. h) (λ b. h) (λ n. h)
-  spared-second (setup.BufferCount b) e z y h = spared-loads (viewAt s p) (setup.BufferCount b) e (setup.BufferFirst b (w + 1)) (λ o. s .buffer) (countRight b p w) (λ i. h) (λ i. h)
+  spared-second setup.Program e z y h =
+      of-program Plain (settle (seen setup.Program running.Idle program.Nothing e)) p (running.Program (p .location) w)
+      (λ f. h) h
+  spared-second setup.Erase e z y h =
+      of-erase Plain (settle (seen setup.Erase running.Idle program.Nothing e)) p (w % 256) (λ f. h) h
+  spared-second setup.Lock e z y h =
+      of-lock Plain (settle (seen setup.Lock running.Idle program.Nothing e)) p (lockCommandOf (w % 256)) (λ f. h)
+      (λ b. h) (λ n. h)
+  spared-second (setup.BufferCount b) e z y h =
+      spared-loads (viewAt s p) (setup.BufferCount b) e (setup.BufferFirst b (w + 1)) (λ o. s .buffer)
+      (countRight b p w) (λ i. h) (λ i. h)
   spared-second (setup.BufferFirst b n) e z y h =
-      spared-loads (viewAt s p) (setup.BufferFirst b n) e (setup.BufferWords (p .location) n (n - 1)) (λ o. cond o (firstLoaded n w) (s .buffer)) (firstRight g b n p) (λ i. zero-first n w (y .3)) (λ i. h)
-  spared-second (setup.BufferWords l n due) e z y h = spared-words l n due e (ap (λ (k : ℕ). zeroFrom k (s .buffer)) (omega arith) ∙ h)
+      spared-loads (viewAt s p) (setup.BufferFirst b n) e (setup.BufferWords (p .location) n (n - 1))
+      (λ o. cond o (firstLoaded n w) (s .buffer)) (firstRight g b n p) (λ i. zero-first n w (y .3)) (λ i. h)
+  spared-second (setup.BufferWords l n due) e z y h =
+      spared-words l n due e (ap (λ (k : ℕ). zeroFrom k (s .buffer)) (omega arith) ∙ h)
 
-  alone : (c : Setup) → pending c ≡ true → (r : Running) (q : SuspendedProgram) (e : SuspendedErase) → Ready g (setupOf (s .buffer) c) (runs r) (held? (underWayOf (s .buffer) r q e))
+  alone : (c : Setup) → pending c ≡ true → (r : Running) (q : SuspendedProgram) (e : SuspendedErase)
+      → Ready g (setupOf (s .buffer) c) (runs r) (held? (underWayOf (s .buffer) r q e))
       → Spared (activity c r q e) (s .buffer) → After c r q e
-  alone c z running.Idle program.Nothing e y h = spared-second c e z y h
-  alone c z running.Idle (program.Program l v) e y h = absurd (true≢false (setup-alone g (s .buffer) c running.Idle (program.Program l v) e y z .1))
-  alone c z running.Idle (program.Buffer l n d) e y h = absurd (true≢false (setup-alone g (s .buffer) c running.Idle (program.Buffer l n d) e y z .1))
-  alone c z (running.Program l v) q e y h = absurd (true≢false (setup-alone g (s .buffer) c (running.Program l v) q e y z .0))
-  alone c z (running.Erase b n) q e y h = absurd (true≢false (setup-alone g (s .buffer) c (running.Erase b n) q e y z .0))
-  alone c z (running.Buffer l n d) q e y h = absurd (true≢false (setup-alone g (s .buffer) c (running.Buffer l n d) q e y z .0))
+  alone c z r q e y h =
+      let a = setup-alone g (s .buffer) c r q e y z in
+      subst₂ (λ (t : Running) (v : SuspendedProgram). Ready g (setupOf (s .buffer) c) (runs t) (held? (underWayOf (s .buffer) t v e))
+      → Spared (activity c t v e) (s .buffer) → After c t v e)
+      (sym (nothing-running r (a .0))) (sym (nothing-suspended q (a .1))) (spared-second c e z) y h
 
-  spared-cycle : (c : Setup) (r : Running) (q : SuspendedProgram) (e : SuspendedErase) → Together r q e → Ready g (setupOf (s .buffer) c) (runs r) (held? (underWayOf (s .buffer) r q e))
+  spared-cycle : (c : Setup) (r : Running) (q : SuspendedProgram) (e : SuspendedErase) → Together r q e
+      → Ready g (setupOf (s .buffer) c) (runs r) (held? (underWayOf (s .buffer) r q e))
       → Spared (activity c r q e) (s .buffer) → After c r q e
   unfolding cycle loaded
   spared-cycle c r q e m y h =
       by-test (pending c) (λ z. alone c z r q e y h)
-      (λ z. subst (λ (x : Setup). Spared (activity x r q e) (s .buffer) → After x r q e) (sym (nothing-pending c z)) (spared-first r q e m (commandOf (w % 256))) h)
+      (λ z. subst (λ (x : Setup). Spared (activity x r q e) (s .buffer) → After x r q e) (sym (nothing-pending c z))
+      (spared-first r q e m (commandOf (w % 256))) h)
 
 -- ---- the steps
 
@@ -232,9 +263,12 @@ pub spared-worked : (g : Geometry) (c : Setup) (r : Running) (p : SuspendedProgr
     → Spared (activity c (runningAfter g r m) p e) (bufferAfter r (runningAfter g r m) bs)
 unfolding runningAfter bufferAfter keptIf placesUsed runningPlaces
 spared-worked g c running.Idle p e m bs h = h
-spared-worked g c (running.Program l w) p e m bs h = of-cond (λ (t : Running). Spared (activity c t p e) bs) (ltb m 1) _ _ h h
-spared-worked g c (running.Erase b n) p e m bs h = of-cond (λ (t : Running). Spared (activity c t p e) bs) (ltb (n + m) (sizeOf g b)) _ _ h h
-spared-worked g c (running.Buffer l n d) p e m bs h = of-cond (λ (t : Running). Spared (activity c t p e) (keptIf (runs t) bs)) (ltb (d + m) n) _ _ h (zero-empty _)
+spared-worked g c (running.Program l w) p e m bs h =
+    of-cond (λ (t : Running). Spared (activity c t p e) bs) (ltb m 1) _ _ h h
+spared-worked g c (running.Erase b n) p e m bs h =
+    of-cond (λ (t : Running). Spared (activity c t p e) bs) (ltb (n + m) (sizeOf g b)) _ _ h h
+spared-worked g c (running.Buffer l n d) p e m bs h =
+    of-cond (λ (t : Running). Spared (activity c t p e) (keptIf (runs t) bs)) (ltb (d + m) n) _ _ h (zero-empty _)
 
 -- what runs ends
 pub spared-ended : (c : Setup) (r : Running) (p : SuspendedProgram) (e : SuspendedErase) (bs : List ℕ) → Spared (activity c r p e) bs → Spared (activity c running.Idle p e) (bufferAfter r running.Idle bs)

@@ -101,7 +101,8 @@ cycle-supplied g v c p w h =
     })
     (record { raises = λ f. h; starts = λ r t. on-supplied (started v r .control) t; protects = λ b. h; stores = λ i l n. h; loads = λ x. h })
   where
-    suspended-supplied : (r : Running) → v .control .activity .running ≡ r → runsSupplied (setActivity (v .control) (suspended (v .control .activity) r)) ≡ true
+    suspended-supplied : (r : Running) → v .control .activity .running ≡ r
+        → runsSupplied (setActivity (v .control) (suspended (v .control .activity) r)) ≡ true
     suspended-supplied running.Idle e = h
     suspended-supplied (running.Program l w) e = refl
     suspended-supplied (running.Erase b n) e = refl

@@ -95,12 +95,15 @@ firstBy v (change.Activity a) = view.withActivity v a
 firstBy v (change.Ended a) = view.withControl v (ended (setActivity (v .control) a))
 firstBy v change.View = clearStatus v
 
--- Q holds of each change that a first cycle may be, with the view that it leaves: a mode; B0h; D0h that resumes, and that ends what it would have resumed; 50h; a set-up; nothing
+-- Q holds of each change that a first cycle may be, with the view that it leaves: a mode; B0h; D0h that resumes, and
+-- that ends what it would have resumed; 50h; a set-up; nothing
 record Each (Q : Change → View → Type 0) (v : View) : Type 0 where
   modes : (m : Mode) → Q (change.First m (v .control .activity .setup)) (withMode v m)
   suspends : Q (change.Activity (suspendedIn v .control .activity)) (suspendedIn v)
-  resumes : runs (v .control .activity .running) ≡ false → v .control .supply ≡ true → Q (change.Activity (awake (v .control) .activity)) (view.withControl v (awake (v .control)))
-  ends : runs (v .control .activity .running) ≡ false → v .control .supply ≡ false → Q (change.Ended (awake (v .control) .activity)) (view.withControl v (ended (awake (v .control))))
+  resumes : runs (v .control .activity .running) ≡ false → v .control .supply ≡ true
+      → Q (change.Activity (awake (v .control) .activity)) (view.withControl v (awake (v .control)))
+  ends : runs (v .control .activity .running) ≡ false → v .control .supply ≡ false
+      → Q (change.Ended (awake (v .control) .activity)) (view.withControl v (ended (awake (v .control))))
   clears : Q change.View (clearStatus v)
   sets-up : (x : Setup) → Q (change.First Status x) (pend v x)
   stays : Q (change.Activity (v .control .activity)) v
@@ -118,8 +121,10 @@ module _ (Q : Change → View → Type 0) (v : View) (p : Place) (h : Each Q v) 
   of-command command.ReadQuery = h .modes Query
   of-command command.Suspend = h .suspends
   of-command command.Resume =
-      by-cond₂ (λ (k : Change) (c : Control). Q k (view.withControl v c)) (runs (v .control .activity .running)) _ _ _ _ (λ e. h .stays)
-      (λ e. by-cond₂ (λ (k : Change) (c : Control). Q k (view.withControl v c)) (v .control .supply) _ _ _ _ (h .resumes e) (h .ends e))
+      by-cond₂ (λ (k : Change) (c : Control). Q k (view.withControl v c))
+      (runs (v .control .activity .running)) _ _ _ _ (λ e. h .stays)
+      (λ e. by-cond₂ (λ (k : Change) (c : Control). Q k (view.withControl v c)) (v .control .supply) _ _ _ _
+      (h .resumes e) (h .ends e))
   of-command command.ClearStatus = h .clears
   of-command command.SetUpProgram = of-set-up setup.Program
   of-command command.SetUpErase = of-set-up setup.Erase
@@ -186,14 +191,17 @@ unfolding firstCycle ended
 buffer-is s p = of-command (λ (k : Change) (x : View). bufferBy s k ≡ heldAfter (s .control .activity .program) (x .control .activity) (s .buffer)) (viewAt s p) p (record {
   modes = λ m. left (s .control .activity) refl;
   suspends = sym (first-holds (viewAt s p) p command.Suspend (s .buffer) (λ k. absurd (false≢true k)));
-  resumes = λ r t. sym (rw (resume-supplied (s .control) r t) at (first-holds (viewAt s p) p command.Resume (s .buffer) (λ k. rw t)));
+  resumes =
+      λ r t. sym (rw (resume-supplied (s .control) r t) at
+      (first-holds (viewAt s p) p command.Resume (s .buffer) (λ k. rw t)));
   ends = λ r t. ended-buffer (s .control .activity) (s .control .activity .program) (s .buffer) r;
   clears = sym (first-holds (viewAt s p) p command.ClearStatus (s .buffer) (λ k. absurd (false≢true k)));
   sets-up = λ x. left (withSetup (s .control .activity) x) refl;
   stays = left (s .control .activity) refl;
 })
   where
-    left : (a : Activity) → a .program ≡ s .control .activity .program → s .buffer ≡ heldAfter (s .control .activity .program) a (s .buffer)
+    left : (a : Activity) → a .program ≡ s .control .activity .program
+        → s .buffer ≡ heldAfter (s .control .activity .program) a (s .buffer)
     left a e = sym (held-left (s .control .activity .program) a (s .buffer) e)
 
 -- a write that changes little changes that
