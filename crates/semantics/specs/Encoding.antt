@@ -12,6 +12,7 @@ use Rattle.semantics.specs.declared.Step.{Step}
 use Rattle.semantics.specs.declared.Step.the-variants.{Read, Write, Work, Supply, Reset}
 use Rattle.semantics.specs.declared.Decoded.{Decoded}
 use Rattle.semantics.specs.declared.Decoded.the-variants.{Valid, Invalid}
+use Rattle.semantics.specs.Branches.{by-cond}
 use Rattle.semantics.specs.Reading.{bitIf}
 
 abbrev pub coded : ℕ → ℕ → ℕ → ℕ
@@ -71,10 +72,6 @@ abbrev NumberOf : ℕ → Decoded → Type 0
 NumberOf n (Valid x) = encode x ≡ n
 NumberOf n Invalid = Unit {0}
 
-number-cond : (n : ℕ) (b : Bool) (d e : Decoded) → (b ≡ true → NumberOf n d) → (b ≡ false → NumberOf n e) → NumberOf n (cond b d e)
-number-cond n true d e f g = f refl
-number-cond n false d e f g = g refl
-
 supply-number : (operand : ℕ) → operand < 2 → bitIf (eqb operand 1) 1 ≡ operand
 supply-number operand h = go (eqb operand 1) refl
   where
@@ -85,17 +82,17 @@ supply-number operand h = go (eqb operand 1) refl
 number-as : (kind word operand : ℕ) → NumberOf (coded kind word operand) (decodedAs kind word operand)
 unfolding decodedAs
 number-as kind word operand =
-    number-cond n (eqb kind 1) _ _ (λ e. let k = eqb-true kind 1 e in omega arith)
-    (λ e. number-cond n (not (eqb word 0)) _ _ (λ w. tt)
+    by-cond (NumberOf n) (eqb kind 1) _ _ (λ e. let k = eqb-true kind 1 e in omega arith)
+    (λ e. by-cond (NumberOf n) (not (eqb word 0)) _ _ (λ w. tt)
     (λ w. let z : word ≡ 0 = zero-word (eqb word 0) refl w in
-    number-cond n (eqb kind 0) _ _ (λ k. let j = eqb-true kind 0 k in omega arith)
-    (λ k. number-cond n (eqb kind 2) _ _ (λ k. let j = eqb-true kind 2 k in omega arith)
-    (λ k. number-cond n (eqb kind 3) _ _
+    by-cond (NumberOf n) (eqb kind 0) _ _ (λ k. let j = eqb-true kind 0 k in omega arith)
+    (λ k. by-cond (NumberOf n) (eqb kind 2) _ _ (λ k. let j = eqb-true kind 2 k in omega arith)
+    (λ k. by-cond (NumberOf n) (eqb kind 3) _ _
     (λ k. let j = eqb-true kind 3 k in
-    number-cond n (ltb operand 2) _ _ (λ o. let i = supply-number operand (ltb-true operand 2 o) in omega arith) (λ o. tt))
-    (λ k. number-cond n (eqb kind 4) _ _
+    by-cond (NumberOf n) (ltb operand 2) _ _ (λ o. let i = supply-number operand (ltb-true operand 2 o) in omega arith) (λ o. tt))
+    (λ k. by-cond (NumberOf n) (eqb kind 4) _ _
     (λ k. let j = eqb-true kind 4 k in
-    number-cond n (eqb operand 0) _ _ (λ o. let i = eqb-true operand 0 o in omega arith) (λ o. tt))
+    by-cond (NumberOf n) (eqb operand 0) _ _ (λ o. let i = eqb-true operand 0 o in omega arith) (λ o. tt))
     (λ k. tt))))))
   where
     n : ℕ

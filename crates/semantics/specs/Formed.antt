@@ -2,11 +2,11 @@
 -- Assumes nothing.
 use mathlib.Core.Path.{_≡_, refl, sym, ap, _∙_}
 use mathlib.Core.List.{List, [], _∷_}
-use mathlib.Core.Bool.{Bool, true, false, cond, not, _&&_, _||_, true≢false, false≢true}
+use mathlib.Core.Bool.{Bool, true, false, not, _&&_, true≢false, false≢true}
 use Prim.Native.Nat.{ℕ, _+_, _≤_, _<_}
 use lib.ListN.{length}
 use native.Mathlib.Omega.{arith}
-use lib.Dec.{ltb, leb, eqb}
+use lib.Dec.{ltb, leb}
 use borrow.Author.Tests.{lt-ltb, le-leb, ne-eqb, ltb-true, leb-true, eqb-false}
 use Rattle.geometry.specs.declared.Geometry.{Geometry}
 use Rattle.geometry.specs.Blocks.{Sound, words, blocks, blockOf, startOf, sizeOf}
@@ -23,10 +23,10 @@ use Rattle.semantics.specs.Layout.{inside, only, fits}
 use Rattle.semantics.specs.State.{activity, runs, programSuspended, eraseSuspended}
 use Rattle.semantics.specs.WellFormed.{implies, pending, isEraseSetup, isErase, erasing, runningAlone, programAlone, eraseAlone, eraseFits, wordsFit, bufferFits, setupFits, runningFits, programFits, suspendedEraseFits, allFit, runningApart, programApart, apart, activityFormed}
 use Rattle.semantics.specs.Entries as entries
-use Rattle.semantics.specs.Entries.{Entry, entry, Live, live}
+use Rattle.semantics.specs.Entries.{Entry, entry, Live}
 use Rattle.semantics.specs.Recorder as recorder
-use Rattle.semantics.specs.Recorder.{Operation, Conditions, base, len, put, kinds, isProgram, isAny}
-use Rattle.semantics.specs.Engine.{Engine, busy, stack, held?, Spans, Ready, Order, Inside, Lying, Sim, Matches, buffer-in, and-true-l, and-true-r, not-true, or-false-l}
+use Rattle.semantics.specs.Recorder.{Operation, Conditions, base, len, kinds, isProgram, isAny}
+use Rattle.semantics.specs.Engine.{stack, held?, Spans, Ready, Order, Inside, Lying, Sim, Matches, buffer-in, and-true-l, and-true-r, not-true, or-false-l}
 use Rattle.semantics.specs.Follows.{setupOf, addErase, addProgram, addRunning, underWayOf, under-way-program, under-way-any, Together, Lacking}
 use Rattle.semantics.specs.Buffer.{wordsIn, words-length}
 
@@ -130,7 +130,8 @@ module _ (g : Geometry) (bs : List ℕ) where
   apart-running sound (running.Buffer l n d) (program.Buffer k v f) e m i z h = absurd m
 
   -- a pending set-up means that nothing runs and no program is suspended
-  setup-alone : (c : Setup) (r : Running) (p : SuspendedProgram) (e : SuspendedErase) → Ready g (setupOf bs c) (runs r) (held? (underWayOf bs r p e))
+  pub setup-alone : (c : Setup) (r : Running) (p : SuspendedProgram) (e : SuspendedErase)
+      → Ready g (setupOf bs c) (runs r) (held? (underWayOf bs r p e))
       → (pending c ≡ true → (runs r ≡ false) × (programSuspended p ≡ false))
   setup-alone setup.Nothing r p e y z = absurd (false≢true z)
   setup-alone setup.Program r p e y z = (y .0, sym (under-way-program bs r p e) ∙ y .1)

@@ -2,22 +2,20 @@
 -- the words are the journal's. So the state is well formed on the way and the array as long as it was, and of all refusals only 3 and 4 can come.
 -- Assumes nothing.
 use mathlib.Core.Path.{_≡_, refl, sym, ap, _∙_, subst, subst₂, fun-ext}
-use mathlib.Core.List.{List, [], _∷_, foldl, reverse, reverseAux}
-use mathlib.Core.Bool.{Bool, true, false, cond, not, _&&_, true≢false}
+use mathlib.Core.List.{List, [], _∷_}
+use mathlib.Core.Bool.{Bool, true, false, true≢false}
 use mathlib.Core.Logic.{_⊎_, inl, inr}
-use Prim.Native.Nat.{ℕ, zero, suc, _+_, _-_, _≤_, _<_, _%_, min}
+use Prim.Native.Nat.{ℕ, suc, _≤_, _<_, _%_}
 use native.Mathlib.Omega.{arith}
-use lib.Dec.{ltb, leb, eqb, eqb·suc-zero}
-use lib.Bits.{bitAnd}
+use lib.Dec.{eqb·suc-zero}
 use lib.ListN.{length, getD, length-set}
-use borrow.Author.Tests.{ltb-true, ltb-false, lt-ltb, le-ltb, le-leb, lt-leb, eqb-true, eqb-false, eq-eqb}
+use borrow.Author.Tests.{lt-ltb, le-ltb, le-leb, lt-leb, eq-eqb}
 use Rattle.geometry.specs.declared.Part.{Part}
 use Rattle.geometry.specs.declared.Geometry.{Geometry}
-use Rattle.geometry.specs.Blocks.{Sound, geometryOf, words, blocks, location, blockOf, bankOf, startOf, sizeOf}
+use Rattle.geometry.specs.Blocks.{Sound, geometryOf, words, blocks, location, blockOf}
 use Rattle.geometry.specs.Laws as laws
 use Rattle.protection.specs.Words.{spareZero}
 use Rattle.protection.specs.Laws as protection
-use Rattle.semantics.specs.declared.Activity.{Activity}
 use Rattle.semantics.specs.declared.Setup.{Setup}
 use Rattle.semantics.specs.declared.Setup.the-variants as setup
 use Rattle.semantics.specs.declared.Running.{Running}
@@ -26,28 +24,30 @@ use Rattle.semantics.specs.declared.Control.{Control}
 use Rattle.semantics.specs.declared.State.{State}
 use Rattle.semantics.specs.declared.Step.{Step}
 use Rattle.semantics.specs.declared.Step.the-variants.{Read, Write, Work, Supply, Reset}
-use Rattle.semantics.specs.declared.Answer.{Answer}
-use Rattle.semantics.specs.declared.Answer.the-variants.{Word, Units, Done, Refused}
+use Rattle.semantics.specs.declared.Answer.the-variants.{Refused}
 use Rattle.semantics.specs.declared.Next.{Next}
 use Rattle.semantics.specs.declared.Place.{Place}
 use Rattle.semantics.specs.declared.View.{View}
+use Rattle.semantics.specs.Branches.{by-test}
+use Rattle.semantics.specs.Cycles.{nothing-running}
+use Rattle.semantics.specs.Refusals.{of-step, of-array}
 use Rattle.semantics.specs.State.{geometry, setActivity, withRunning, withSupply, withBuffer, powerUp, runs}
 use Rattle.semantics.specs.Supply.{ended, endedIfUnsupplied, switched}
 use Rattle.semantics.specs.Supplied.{of-switched, switched-supplied, cycle-supplied, idle-supplied, on-supplied, unsupplied-idle}
 use Rattle.semantics.specs.View.{placeOf, viewAt, withView}
 use Rattle.semantics.specs.Register.{reservedZero}
 use Rattle.semantics.specs.RegisterBits.{default-zero, cycle-zero}
-use Rattle.semantics.specs.WellFormed.{wellFormed, activityFormed, placesUsed, zeroFrom, runsSupplied}
+use Rattle.semantics.specs.WellFormed.{wellFormed, activityFormed, runsSupplied}
 use Rattle.semantics.specs.Writing.{cycleAt, written, writtenAt}
 use Rattle.semantics.specs.Working.{unitsDone, runningAfter, bufferAfter, workedOn, worked, workedArray}
 use Rattle.semantics.specs.Arrays.{array-length, array-word}
 use Rattle.semantics.specs.Steps.{locationRefusal, addressRefusal, countRefusal, stepRefusal, stateRefusal, firstRefusal, refusalOf, next, switchedTo, accepted, acceptedArray, stepOf, arrayOf, Machine, after, afterAll, fresh}
 use Rattle.semantics.specs.Entries as entries
-use Rattle.semantics.specs.Entries.{Entry, entry}
+use Rattle.semantics.specs.Entries.{Entry}
 use Rattle.semantics.specs.Recorder as recorder
-use Rattle.semantics.specs.Recorder.{Operation, Event, nothing, supplied, was-reset, units, Conditions, conditions-after, Recorder, beginning, recorded, recordedAll, journalOf, event, journal-after, reading, applied, base, len, put, kinds}
-use Rattle.semantics.specs.Engine.{Engine, busy, stack, held?, engine-after, words-after, Ready, Ok, rule-ok, Sim, sim-do, words-after-ok, rules-agree, Matches, After}
-use Rattle.semantics.specs.Follows.{conditions, underWay, underWayOf, setupOf, eventOf, Together, Lacking, Follows, follows-written, under-way-worked, under-way-off, words-under-way}
+use Rattle.semantics.specs.Recorder.{Operation, Event, nothing, supplied, was-reset, Conditions, conditions-after, Recorder, beginning, recorded, recordedAll, event, journal-after}
+use Rattle.semantics.specs.Engine.{busy, held?, engine-after, words-after, Ready, Ok, rule-ok, Sim, sim-do, words-after-ok, rules-agree, After}
+use Rattle.semantics.specs.Follows.{conditions, underWay, setupOf, eventOf, Together, Lacking, Follows, follows-written, under-way-worked, under-way-off, words-under-way}
 use Rattle.semantics.specs.Formed.{together, lacking, formed}
 use Rattle.semantics.specs.Buffer.{zero-empty}
 use Rattle.semantics.specs.Spare.{Spared, length-empty, length-loaded, length-held, length-after, buffer-on, spared-written, spared-worked, spared-ended}
@@ -107,12 +107,7 @@ length-accepted s xs (Supply on) = refl
 length-accepted s xs Reset = refl
 
 pub length-kept : (s : State) (xs : List ℕ) (x : Step) → length (arrayOf s xs x) ≡ length xs
-unfolding arrayOf
-length-kept s xs x = go (eqb (refusalOf s (length xs) x) 0)
-  where
-    go : (b : Bool) → length (cond b (acceptedArray s xs x) xs) ≡ length xs
-    go true = length-accepted s xs x
-    go false = refl
+length-kept s xs x = of-array (λ (l : List ℕ). length l ≡ length xs) s xs x (length-accepted s xs x) refl
 
 -- ---- each step is an event, in the state and in every word
 
@@ -227,12 +222,8 @@ module _ (s : State) (xs : List ℕ) (good : stateRefusal s (length xs) ≡ 0) (
   spared-accepted Reset h = zero-empty _
 
   pub spared-step : (x : Step) → Spared (s .control .activity) (s .buffer) → Spared (stepOf s xs x .state .control .activity) (stepOf s xs x .state .buffer)
-  unfolding stepOf
-  spared-step x h = go (eqb (refusalOf s (length xs) x) 0)
-    where
-      go : (b : Bool) → Spared ((cond b (accepted s xs x) (next s (Refused (refusalOf s (length xs) x)))) .state .control .activity) ((cond b (accepted s xs x) (next s (Refused (refusalOf s (length xs) x)))) .state .buffer)
-      go true = spared-accepted x h
-      go false = h
+  spared-step x h =
+      of-step (λ (y : Next). Spared (y .state .control .activity) (y .state .buffer)) s xs x (spared-accepted x h) h
 
 -- ---- what no step changes
 
@@ -265,17 +256,12 @@ kept-view s p v bs c r o = record {
 -- work leaves nothing running where nothing ran
 idle-after : (g : Geometry) (r : Running) (m : ℕ) → runs r ≡ false → runs (runningAfter g r m) ≡ false
 unfolding runningAfter
-idle-after g running.Idle m h = refl
-idle-after g (running.Program l w) m h = absurd (true≢false h)
-idle-after g (running.Erase b n) m h = absurd (true≢false h)
-idle-after g (running.Buffer l n d) m h = absurd (true≢false h)
+idle-after g r m h = rw (nothing-running r h)
 
 worked-supplied : (g : Geometry) (c : Control) (m : ℕ) → runsSupplied c ≡ true → runsSupplied (setActivity c (withRunning (c .activity) (runningAfter g (c .activity .running) m))) ≡ true
-worked-supplied g c m h = go (c .supply) refl
-  where
-    go : (t : Bool) → c .supply ≡ t → runsSupplied (setActivity c (withRunning (c .activity) (runningAfter g (c .activity .running) m))) ≡ true
-    go true e = on-supplied _ e
-    go false e = idle-supplied _ (idle-after g (c .activity .running) m (unsupplied-idle c h e))
+worked-supplied g c m h =
+    by-test (c .supply) (λ e. on-supplied _ e)
+    (λ e. idle-supplied _ (idle-after g (c .activity .running) m (unsupplied-idle c h e)))
 
 kept-accepted : (s : State) (xs : List ℕ) (x : Step) → length (s .unprotected) ≡ 5 → Kept s (accepted s xs x .state)
 unfolding accepted switchedTo ended written writtenAt workedOn worked powerUp
@@ -292,12 +278,9 @@ kept-accepted s xs (Supply on) h = kept s (switchedTo s on) refl refl refl (of-s
 kept-accepted s xs Reset h = record { part = refl; sixteen = λ z. refl; five = protection.all-length ∙ sym h; spare = λ z. protection.all-spare; thirty-two = λ z. length-empty; reserved = λ z. default-zero (s .part); powered = λ z. idle-supplied _ refl }
 
 pub kept-step : (s : State) (xs : List ℕ) (x : Step) → length (s .unprotected) ≡ 5 → Kept s (stepOf s xs x .state)
-unfolding stepOf
-kept-step s xs x h = go (eqb (refusalOf s (length xs) x) 0)
-  where
-    go : (b : Bool) → Kept s ((cond b (accepted s xs x) (next s (Refused (refusalOf s (length xs) x)))) .state)
-    go true = kept-accepted s xs x h
-    go false = kept s s refl refl refl refl (λ z. z) (λ z. z)
+kept-step s xs x h =
+    of-step (λ (y : Next). Kept s (y .state)) s xs x (kept-accepted s xs x h)
+    (kept s s refl refl refl refl (λ z. z) (λ z. z))
 
 -- ---- the invariant: the device and the recorder agree, and the words are the journal's
 

@@ -3,49 +3,41 @@
 -- Assumes nothing.
 use mathlib.Core.Path.{_≡_, refl}
 use mathlib.Core.List.{List}
-use mathlib.Core.Bool.{Bool, true, false, cond, not, or-false, true≢false}
-use Prim.Native.Nat.{ℕ, _-_, min}
+use mathlib.Core.Bool.{Bool, true, false, or-false}
+use Prim.Native.Nat.{ℕ, min}
 use native.Mathlib.Omega.{arith}
-use lib.Dec.{eqb}
-use lib.ListN.{length}
 use Rattle.semantics.specs.declared.Command.the-variants as command
-use Rattle.semantics.specs.declared.Running.{Running}
 use Rattle.semantics.specs.declared.Running.the-variants as running
 use Rattle.semantics.specs.declared.State.{State}
 use Rattle.semantics.specs.declared.Step.{Step}
 use Rattle.semantics.specs.declared.Step.the-variants.{Read, Write, Work, Supply, Reset}
-use Rattle.semantics.specs.declared.Answer.the-variants.{Units, Refused}
+use Rattle.semantics.specs.declared.Answer.the-variants.{Units}
+use Rattle.semantics.specs.declared.Next.{Next}
 use Rattle.semantics.specs.declared.Place.{Place}
 use Rattle.semantics.specs.declared.View.{View}
 use Rattle.protection.specs.Words.{spareZero}
-use Rattle.semantics.specs.State.{geometry, runs, withProtection, withSupply}
+use Rattle.semantics.specs.State.{geometry, withProtection, withSupply}
 use Rattle.semantics.specs.View as view
 use Rattle.semantics.specs.Supply.{endFlags, ended, endedIfUnsupplied, switched}
+use Rattle.semantics.specs.Cycles.{nothing-running}
 use Rattle.semantics.specs.Supplied.{unsupplied-idle}
 use Rattle.semantics.specs.Register.{reservedZero}
 use Rattle.semantics.specs.WellFormed.{activityFormed, placesUsed, zeroFrom, wellFormed}
 use Rattle.semantics.specs.Writing.{firstCycle}
 use Rattle.semantics.specs.Working.{unitsLeft, unitsDone, runningAfter, bufferAfter, workedOn, worked, workedArray}
-use Rattle.semantics.specs.Steps.{refusalOf, next, switchedTo, accepted, acceptedArray, stepOf, arrayOf}
+use Rattle.semantics.specs.Steps.{next, switchedTo, accepted, acceptedArray, stepOf, arrayOf}
+use Rattle.semantics.specs.Refusals.{of-step, of-array}
 use Rattle.semantics.specs.Engine.{and-true-r}
 use Rattle.semantics.specs.Spare.{buffer-on}
 
 same-array : (s : State) (xs : List ℕ) (x : Step) → acceptedArray s xs x ≡ xs → arrayOf s xs x ≡ xs
-unfolding arrayOf
-same-array s xs x e = go (eqb (refusalOf s (length xs) x) 0)
-  where
-    go : (b : Bool) → cond b (acceptedArray s xs x) xs ≡ xs
-    go true = e
-    go false = refl
+same-array s xs x e = of-array (λ (l : List ℕ). l ≡ xs) s xs x e refl
 
 -- read changes nothing
 pub read-changes-nothing : (s : State) (xs : List ℕ) (a : ℕ) → (stepOf s xs (Read a) .state ≡ s) × (arrayOf s xs (Read a) ≡ xs)
-unfolding stepOf accepted acceptedArray
-read-changes-nothing s xs a = (go (eqb (refusalOf s (length xs) (Read a)) 0), same-array s xs (Read a) refl)
-  where
-    go : (b : Bool) → (cond b (accepted s xs (Read a)) (next s (Refused (refusalOf s (length xs) (Read a))))) .state ≡ s
-    go true = refl
-    go false = refl
+unfolding accepted acceptedArray
+read-changes-nothing s xs a =
+    (of-step (λ (y : Next). y .state ≡ s) s xs (Read a) refl refl, same-array s xs (Read a) refl)
 
 -- write, supply and reset change no word
 pub write-changes-no-word : (s : State) (xs : List ℕ) (a w : ℕ) → arrayOf s xs (Write a w) ≡ xs
@@ -95,13 +87,7 @@ unfolding wellFormed
 unsupplied s w h =
     let rest = and-true-r (spareZero (s .unprotected)) _ (and-true-r (activityFormed (geometry s) (s .control .activity)) _ w) in
     let last = and-true-r (reservedZero (s .control .configuration)) _ (and-true-r (zeroFrom (placesUsed (s .control .activity)) (s .buffer)) _ rest) in
-    idle (s .control .activity .running) (unsupplied-idle (s .control) last h)
-  where
-    idle : (r : Running) → runs r ≡ false → r ≡ running.Idle
-    idle running.Idle e = refl
-    idle (running.Program l v) e = absurd (true≢false e)
-    idle (running.Erase b n) e = absurd (true≢false e)
-    idle (running.Buffer l n d) e = absurd (true≢false e)
+    nothing-running (s .control .activity .running) (unsupplied-idle (s .control) last h)
 
 -- so supply off when it is off already ends nothing
 pub supply-off-again : (s : State) → wellFormed s ≡ true → s .control .supply ≡ false → switchedTo s false ≡ s

@@ -1,3 +1,4 @@
+pub mod Branches
 pub mod Numbers
 pub mod Tabulate
 pub mod State
@@ -8,6 +9,7 @@ pub mod WellFormed
 pub mod Reading
 pub mod StatusBits
 pub mod Writing
+pub mod Cycles
 pub mod Supplied
 pub mod RegisterBits
 pub mod Working

@@ -2,23 +2,36 @@
 -- Assumes nothing.
 use mathlib.Core.Path.{_≡_, refl, sym, _∙_}
 use mathlib.Core.List.{List}
-use mathlib.Core.Bool.{Bool, true, false, cond, not, and-false}
-use Prim.Native.Nat.{ℕ, suc, _-_}
+use mathlib.Core.Bool.{true, false, and-false}
+use Prim.Native.Nat.{ℕ, suc}
 use native.Mathlib.Omega.{arith}
 use lib.Dec.{eqb, eqb·suc-zero}
 use lib.ListN.{length}
 use borrow.Author.Tests.{eqb-true, eq-eqb, ne-eqb}
-use Rattle.geometry.specs.Blocks.{words, blocks}
+use Rattle.geometry.specs.Blocks.{words}
 use Rattle.protection.specs.Words.{bit, spareZero}
 use Rattle.semantics.specs.declared.State.{State}
 use Rattle.semantics.specs.declared.Step.{Step}
 use Rattle.semantics.specs.declared.Step.the-variants.{Read, Write, Work, Supply, Reset}
 use Rattle.semantics.specs.declared.Answer.the-variants.{Refused}
+use Rattle.semantics.specs.declared.Next.{Next}
+use Rattle.semantics.specs.Branches.{of-cond, by-cond, by-test}
 use Rattle.semantics.specs.State.{geometry, runs}
 use Rattle.semantics.specs.Register.{isReserved, reservedZero}
 use Rattle.semantics.specs.RegisterBits.{zero-each}
 use Rattle.semantics.specs.WellFormed.{activityFormed, placesUsed, zeroFrom, runsSupplied, wellFormed}
-use Rattle.semantics.specs.Steps.{stateRefusal, firstRefusal, refusalOf, next, accepted, stepOf, arrayOf, numberOf, reportedOf}
+use Rattle.semantics.specs.Steps.{stateRefusal, firstRefusal, refusalOf, next, accepted, acceptedArray, stepOf, arrayOf, numberOf, reportedOf}
+
+-- what holds of a step that is accepted, and of one that is refused, holds of every step; and so of the array
+pub of-step : (P : Next → Type 0) (s : State) (xs : List ℕ) (x : Step) → P (accepted s xs x)
+    → P (next s (Refused (refusalOf s (length xs) x))) → P (stepOf s xs x)
+unfolding stepOf
+of-step P s xs x = of-cond P (eqb (refusalOf s (length xs) x) 0) _ _
+
+pub of-array : (P : List ℕ → Type 0) (s : State) (xs : List ℕ) (x : Step) → P (acceptedArray s xs x) → P xs
+    → P (arrayOf s xs x)
+unfolding arrayOf
+of-array P s xs x = of-cond P (eqb (refusalOf s (length xs) x) 0) _ _
 
 -- "A refusal gives its number beside the answer 0, gives back the state it got and leaves all lent memory."
 pub refusal-changes-nothing : (s : State) (xs : List ℕ) (x : Step) (n : ℕ) → refusalOf s (length xs) x ≡ suc n → (stepOf s xs x ≡ next s (Refused (suc n))) × (arrayOf s xs x ≡ xs)
@@ -28,7 +41,9 @@ refusal-changes-nothing s xs x n h = (rw (h, eqb·suc-zero n), rw (h, eqb·suc-z
 -- the number of the answer is the refusal, 0 where there is none
 pub answer-number : (s : State) (xs : List ℕ) (x : Step) → numberOf (stepOf s xs x .answer) ≡ refusalOf s (length xs) x
 unfolding stepOf accepted
-answer-number s xs x = go (eqb (refusalOf s (length xs) x) 0) refl
+answer-number s xs x =
+    by-cond (λ (y : Next). numberOf (y .answer) ≡ refusalOf s (length xs) x) (eqb (refusalOf s (length xs) x) 0) _ _
+    (λ e. none x ∙ sym (eqb-true (refusalOf s (length xs) x) 0 e)) (λ e. refl)
   where
     none : (x : Step) → numberOf (accepted s xs x .answer) ≡ 0
     none (Read a) = refl
@@ -36,10 +51,6 @@ answer-number s xs x = go (eqb (refusalOf s (length xs) x) 0) refl
     none (Work n) = refl
     none (Supply on) = refl
     none Reset = refl
-
-    go : (b : Bool) → eqb (refusalOf s (length xs) x) 0 ≡ b → numberOf ((cond b (accepted s xs x) (next s (Refused (refusalOf s (length xs) x)))) .answer) ≡ refusalOf s (length xs) x
-    go true e = none x ∙ sym (eqb-true (refusalOf s (length xs) x) 0 e)
-    go false e = refl
 
 -- "array length is not 256u": every step is refused 1, whatever the state
 pub refusal-1 : (s : State) (n : ℕ) (x : Step) → (n ≡ words (geometry s) → ⊥) → refusalOf s n x ≡ 1
@@ -60,11 +71,10 @@ report-refused s f = rw f
 -- "a well made state has them 0": a state with one of them set is not well formed
 pub reserved-unformed : (s : State) (i : ℕ) → isReserved i ≡ true → bit (s .control .configuration) i ≡ 1 → wellFormed s ≡ false
 unfolding wellFormed
-reserved-unformed s i e h = go (reservedZero (s .control .configuration)) refl
-  where
-    go : (b : Bool) → reservedZero (s .control .configuration) ≡ b → wellFormed s ≡ false
-    go true z = absurd (omega (arith, h, zero-each (s .control .configuration) z i e))
-    go false z = rw (z, and-false (zeroFrom (placesUsed (s .control .activity)) (s .buffer)), and-false (spareZero (s .unprotected)), and-false (activityFormed (geometry s) (s .control .activity)))
+reserved-unformed s i e h =
+    by-test (reservedZero (s .control .configuration))
+    (λ z. absurd (omega (arith, h, zero-each (s .control .configuration) z i e)))
+    (λ z. rw (z, and-false (zeroFrom (placesUsed (s .control .activity)) (s .buffer)), and-false (spareZero (s .unprotected)), and-false (activityFormed (geometry s) (s .control .activity))))
 
 -- so every step is refused 2 on it, and gives state and array back as they were, and the report is refused 2
 pub reserved-refused : (s : State) (xs : List ℕ) (x : Step) (i : ℕ) → length xs ≡ words (geometry s) → isReserved i ≡ true → bit (s .control .configuration) i ≡ 1

@@ -1,8 +1,8 @@
 -- The configuration register bit by bit: what the mask leaves of a word, over the bit index; that a word has its reserved bits 0 exactly where the mask leaves it as it is; where the
 -- register is read; and what a cycle makes of it.
 -- Assumes nothing.
-use Prim.Native.Nat.{ℕ, _<_, _≤_, _+_, _-_, _%_, min}
-use mathlib.Core.Bool.{Bool, true, false, not, cond, _&&_, _||_}
+use Prim.Native.Nat.{ℕ, _<_, _≤_, _%_, min}
+use mathlib.Core.Bool.{Bool, true, false, not, cond, _&&_, _||_, false≢true}
 use mathlib.Core.List.{List}
 use mathlib.Core.Logic.{_⊎_, inl, inr}
 use mathlib.Core.Path.{_≡_, refl, sym, ap, _∙_}
@@ -17,27 +17,22 @@ use Rattle.geometry.specs.Blocks.{location, bankOffset}
 use Rattle.geometry.specs.Laws.{order}
 use Rattle.protection.specs.Words.{bit}
 use Rattle.protection.specs.Digits.{bit-lt, bit-low, bit-none, bit-and, digits-same}
-use Rattle.semantics.specs.declared.Control.{Control}
-use Rattle.semantics.specs.declared.Command.{Command}
-use Rattle.semantics.specs.declared.Command.the-variants as command
 use Rattle.semantics.specs.declared.LockCommand.{LockCommand}
 use Rattle.semantics.specs.declared.LockCommand.the-variants as lock
 use Rattle.semantics.specs.declared.Mode.the-variants.{Signature}
 use Rattle.semantics.specs.declared.State.{State}
 use Rattle.semantics.specs.declared.Setup.{Setup}
 use Rattle.semantics.specs.declared.Setup.the-variants as setup
-use Rattle.semantics.specs.declared.Running.{Running}
-use Rattle.semantics.specs.declared.Running.the-variants as running
 use Rattle.semantics.specs.declared.Place.{Place}
 use Rattle.semantics.specs.declared.View.{View}
-use Rattle.semantics.specs.State.{geometry, modeOf, runs, powerUp}
+use Rattle.semantics.specs.State.{geometry, modeOf, powerUp}
 use Rattle.semantics.specs.Reading.{bitIf, signatureWord, shown, showsBy, readIn, readWord}
 use Rattle.semantics.specs.Register.{isReserved, registerMask, withoutReserved, reservedZero}
 use Rattle.semantics.specs.StatusBits.{lines-bit, bankAt}
-use Rattle.semantics.specs.WellFormed.{erasing}
 use Rattle.semantics.specs.Supply.{ended}
-use Rattle.semantics.specs.Supplied.{of-resume}
-use Rattle.semantics.specs.Writing.{commandOf, accepts, setUp, clearStatus, firstCycle, programRuns, eraseCycle, lockCommandOf, lockCycle, settle, loads, countRight, firstRight, laterRight, confirmRight, confirmCycle, wordsCycle, cycle}
+use Rattle.semantics.specs.Branches.{of-cond, by-cond}
+use Rattle.semantics.specs.Cycles.{of-cycle}
+use Rattle.semantics.specs.Writing.{lockCommandOf, lockCycle, settle, cycle}
 use Rattle.semantics.specs.Engine.{and-true-l, and-true-r}
 
 -- ---- the mask
@@ -91,11 +86,9 @@ unfolding withoutReserved
 masked-same w h = go (reservedZero w) refl
   where
     same : reservedZero w ≡ true → (i : ℕ) → bit (withoutReserved w) i ≡ bit w i
-    same z i = masked-bit w i h ∙ at (isReserved i) refl
-      where
-        at : (b : Bool) → isReserved i ≡ b → cond b 0 (bit w i) ≡ bit w i
-        at true e = sym (zero-each w z i e)
-        at false e = refl
+    same z i =
+        masked-bit w i h ∙ by-cond (λ (x : ℕ). x ≡ bit w i) (isReserved i) _ _ (λ e. sym (zero-each w z i e))
+        (λ e. refl)
 
     go : (b : Bool) → reservedZero w ≡ b → eqb (withoutReserved w) w ≡ b
     go true e = eq-eqb (withoutReserved w) w (digits-same 16 (withoutReserved w) w (and-lt 16 w registerMask h (lit< tt)) h (same e))
@@ -144,66 +137,43 @@ configures (setup.BufferCount b) w = false
 configures (setup.BufferFirst b n) w = false
 configures (setup.BufferWords l n due) w = false
 
--- a view that has register r
-abbrev Has : ℕ → View → Type 0
-Has r v = v .control .configuration ≡ r
+module _ (g : Geometry) (v : View) (p : Place) (w : ℕ) where
+  register-stays : (c : Setup) → configures c w ≡ false
+      → cycle g v c p w .control .configuration ≡ v .control .configuration
+  unfolding ended settle
+  register-stays c h =
+      of-cycle (λ (x : View). x .control .configuration ≡ v .control .configuration) v p g c w
+      (λ e. record { modes = λ i m. refl; suspends = λ i. refl; resumes = λ i r t. refl; ends = λ i r t. refl; clears = λ i r. refl; sets-up = λ i x z. refl; stays = refl })
+      (record {
+        raises = λ f. refl;
+        starts = λ r t. refl;
+        protects = λ b. refl;
+        stores = λ i l n. absurd (false≢true (sym h ∙ ap (λ (x : Setup). configures x w) i ∙ ap isConfigure l));
+        loads = λ x. refl;
+      })
 
-has-cond : (r : ℕ) (b : Bool) (x y : View) → Has r x → Has r y → Has r (cond b x y)
-has-cond r true x y p q = p
-has-cond r false x y p q = q
-
-loads-has : (v : View) (right : Bool) (c : Setup) → Has (v .control .configuration) (loads right v c)
-unfolding loads settle
-loads-has v right c = has-cond _ right _ _ refl refl
-
-module _ (v : View) (p : Place) where
-  first-has : (c : Command) → Has (v .control .configuration) (firstCycle v p c)
-  unfolding firstCycle setUp clearStatus ended
-  first-has command.ReadArray = refl
-  first-has command.ReadStatus = refl
-  first-has command.ReadSignature = refl
-  first-has command.ReadQuery = refl
-  first-has command.Suspend = refl
-  first-has command.Resume = of-resume (λ (c : Control). c .configuration ≡ v .control .configuration) (v .control) refl refl refl
-  first-has command.ClearStatus = has-cond _ (runs (v .control .activity .running)) _ _ refl refl
-  first-has command.SetUpProgram = has-cond _ (accepts (v .control .activity) setup.Program) _ _ refl refl
-  first-has command.SetUpErase = has-cond _ (accepts (v .control .activity) setup.Erase) _ _ refl refl
-  first-has command.SetUpLock = has-cond _ (accepts (v .control .activity) setup.Lock) _ _ refl refl
-  first-has command.SetUpBuffer = has-cond _ (accepts (v .control .activity) (setup.BufferCount (p .block))) _ _ refl refl
-  first-has command.Unknown = refl
-
-  program-has : (r : Running) → Has (v .control .configuration) (programRuns (settle v) p r)
-  unfolding programRuns settle
-  program-has r =
-      has-cond _ (not (v .control .supply)) _ _ refl (has-cond _ (not (v .unprotected)) _ _ refl (has-cond _ (erasing (v .control .activity .erase) (p .block)) _ _ refl refl))
-
-  erase-has : (c : ℕ) → Has (v .control .configuration) (eraseCycle (settle v) p c)
-  unfolding eraseCycle settle
-  erase-has c = has-cond _ (not (eqb c 0xD0)) _ _ refl (has-cond _ (not (v .control .supply)) _ _ refl (has-cond _ (not (v .unprotected)) _ _ refl refl))
-
-  lock-has : (c : LockCommand) → Has (cond (isConfigure c) (withoutReserved (p .address % 65536)) (v .control .configuration)) (lockCycle (settle v) p c)
+  lock-register : (k : LockCommand)
+      → lockCycle (settle v) p k .control .configuration ≡ cond (isConfigure k) (withoutReserved (p .address % 65536))
+      (v .control .configuration)
   unfolding lockCycle settle
-  lock-has lock.Protect = refl
-  lock-has lock.Unprotect = refl
-  lock-has lock.Configure = refl
-  lock-has lock.Unknown = refl
+  lock-register lock.Protect = refl
+  lock-register lock.Unprotect = refl
+  lock-register lock.Configure = refl
+  lock-register lock.Unknown = refl
 
 -- only 03h after a lock set-up writes the register: what it stores is the address modulo 65,536 without its reserved bits
 pub cycle-register : (g : Geometry) (v : View) (c : Setup) (p : Place) (w : ℕ) → cycle g v c p w .control .configuration ≡ cond (configures c w) (withoutReserved (p .address % 65536)) (v .control .configuration)
-unfolding cycle wordsCycle confirmCycle settle
-cycle-register g v setup.Nothing p w = first-has v p (commandOf (w % 256))
-cycle-register g v setup.Program p w = program-has v p (running.Program (p .location) w)
-cycle-register g v setup.Erase p w = erase-has v p (w % 256)
-cycle-register g v setup.Lock p w = lock-has v p (lockCommandOf (w % 256))
-cycle-register g v (setup.BufferCount b) p w = loads-has v (countRight b p w) (setup.BufferFirst b (w + 1))
-cycle-register g v (setup.BufferFirst b n) p w = loads-has v (firstRight g b n p) (setup.BufferWords (p .location) n (n - 1))
-cycle-register g v (setup.BufferWords l n due) p w =
-    has-cond _ (eqb due 0) _ _ (has-cond _ (confirmRight g l p w) _ _ (program-has v p (running.Buffer l n 0)) refl) (loads-has v (laterRight l n p) (setup.BufferWords l n (due - 1)))
+unfolding cycle
+cycle-register g v setup.Nothing p w = register-stays g v p w setup.Nothing refl
+cycle-register g v setup.Program p w = register-stays g v p w setup.Program refl
+cycle-register g v setup.Erase p w = register-stays g v p w setup.Erase refl
+cycle-register g v setup.Lock p w = lock-register g v p w (lockCommandOf (w % 256))
+cycle-register g v (setup.BufferCount b) p w = register-stays g v p w (setup.BufferCount b) refl
+cycle-register g v (setup.BufferFirst b n) p w = register-stays g v p w (setup.BufferFirst b n) refl
+cycle-register g v (setup.BufferWords l n due) p w = register-stays g v p w (setup.BufferWords l n due) refl
 
 -- so the reserved bits stay 0
 pub cycle-zero : (g : Geometry) (v : View) (c : Setup) (p : Place) (w : ℕ) → reservedZero (v .control .configuration) ≡ true → reservedZero (cycle g v c p w .control .configuration) ≡ true
-cycle-zero g v c p w h = ap reservedZero (cycle-register g v c p w) ∙ go (configures c w)
-  where
-    go : (b : Bool) → reservedZero (cond b (withoutReserved (p .address % 65536)) (v .control .configuration)) ≡ true
-    go true = masked-zero (p .address % 65536) (omega arith)
-    go false = h
+cycle-zero g v c p w h =
+    ap reservedZero (cycle-register g v c p w) ∙ of-cond (λ (x : ℕ). reservedZero x ≡ true) (configures c w) _ _
+    (masked-zero (p .address % 65536) (omega arith)) h

@@ -1,8 +1,8 @@
 -- "Spare storage, if any, is zero": no step leaves a word in a place of the buffer that is not in use.
 -- Assumes nothing.
-use mathlib.Core.Path.{_≡_, refl, sym, ap, _∙_}
+use mathlib.Core.Path.{_≡_, refl, sym, ap, _∙_, subst, subst₂}
 use mathlib.Core.List.{List}
-use mathlib.Core.Bool.{Bool, true, false, cond, not, _||_, true≢false}
+use mathlib.Core.Bool.{Bool, true, false, cond, _||_, true≢false, false≢true}
 use Prim.Native.Nat.{ℕ, _+_, _-_, _%_}
 use native.Mathlib.Omega.{arith}
 use lib.Dec.{ltb, eqb}
@@ -19,26 +19,25 @@ use Rattle.semantics.specs.declared.SuspendedErase.{SuspendedErase}
 use Rattle.semantics.specs.declared.SuspendedErase.the-variants as erase
 use Rattle.semantics.specs.declared.Activity.{Activity}
 use Rattle.semantics.specs.declared.Command.{Command}
-use Rattle.semantics.specs.declared.Command.the-variants as command
-use Rattle.semantics.specs.declared.LockCommand.{LockCommand}
-use Rattle.semantics.specs.declared.LockCommand.the-variants as lock
 use Rattle.semantics.specs.declared.State.{State}
 use Rattle.semantics.specs.declared.Place.{Place}
 use Rattle.semantics.specs.declared.View.{View}
+use Rattle.semantics.specs.Branches.{of-cond, by-test}
 use Rattle.semantics.specs.Numbers.{within-true}
 use Rattle.semantics.specs.Tabulate.{length-tabulate}
 use Rattle.semantics.specs.State as state
-use Rattle.semantics.specs.State.{activity, runs, programSuspended, emptyBuffer, noFlags}
-use Rattle.semantics.specs.View.{viewAt, withActivity, withFlags}
-use Rattle.semantics.specs.Supply.{ended, endedIfUnsupplied}
-use Rattle.semantics.specs.Supplied.{isResume, only-resume, first-holds}
-use Rattle.semantics.specs.WellFormed.{erasing, setupPlaces, runningPlaces, programPlaces, placesUsed, zeroFrom}
-use Rattle.semantics.specs.Writing.{commandOf, suspended, resume, pend, setUp, accepts, clearStatus, firstCycle, programRuns, programCycle, eraseCycle, lockCommandOf, lockCycle, settle, loads, countRight, firstRight, laterRight, confirmRight, confirmCycle, wordsCycle, cycle, keptIf, firstLoaded, wordsLoaded, heldAfter, loaded, writtenAt}
+use Rattle.semantics.specs.State.{activity, withRunning, runs, programSuspended, emptyBuffer}
+use Rattle.semantics.specs.View.{viewAt, withActivity}
+use Rattle.semantics.specs.Supply.{ended}
+use Rattle.semantics.specs.Cycles.{nothing-pending, nothing-running, nothing-suspended, of-first, of-program, of-erase, of-lock}
+use Rattle.semantics.specs.Supplied.{held-left}
+use Rattle.semantics.specs.WellFormed.{pending, setupPlaces, runningPlaces, programPlaces, placesUsed, zeroFrom}
+use Rattle.semantics.specs.Writing.{commandOf, suspended, resumed, firstCycle, lockCommandOf, settle, loads, countRight, firstRight, laterRight, confirmRight, confirmCycle, wordsCycle, cycle, keptIf, firstLoaded, wordsLoaded, heldAfter, loaded, writtenAt}
 use Rattle.semantics.specs.Working.{runningAfter, bufferAfter}
-use Rattle.semantics.specs.Recorder.{isProgram}
 use Rattle.semantics.specs.Engine.{held?, Ready}
 use Rattle.semantics.specs.Buffer.{zero-empty, zero-set, zero-first}
 use Rattle.semantics.specs.Follows.{setupOf, underWay, underWayOf, Together}
+use Rattle.semantics.specs.Formed.{setup-alone}
 
 -- the places of the buffer that are not in use are 0
 abbrev pub Spared : Activity → List ℕ → Type 0
@@ -52,8 +51,7 @@ length-empty = refl
 
 pub length-kept-if : (b : Bool) (bs : List ℕ) → length bs ≡ 32 → length (keptIf b bs) ≡ 32
 unfolding keptIf
-length-kept-if true bs h = h
-length-kept-if false bs h = length-empty
+length-kept-if b bs h = of-cond (λ (l : List ℕ). length l ≡ 32) b _ _ h length-empty
 
 pub length-held : (q : SuspendedProgram) (a : Activity) (bs : List ℕ) → length bs ≡ 32 → length (heldAfter q a bs) ≡ 32
 unfolding heldAfter
@@ -68,16 +66,11 @@ length-loaded g setup.Program p w r bs h = h
 length-loaded g setup.Erase p w r bs h = h
 length-loaded g setup.Lock p w r bs h = h
 length-loaded g (setup.BufferCount b) p w r bs h = h
-length-loaded g (setup.BufferFirst b n) p w r bs h = go (firstRight g b n p)
-  where
-    go : (o : Bool) → length (cond o (firstLoaded n w) bs) ≡ 32
-    go true = length-tabulate 32 _
-    go false = h
-length-loaded g (setup.BufferWords l n due) p w r bs h = go (eqb due 0)
-  where
-    go : (o : Bool) → length (cond o (keptIf (runs r) bs) (keptIf (laterRight l n p) (set bs (p .location - l) w))) ≡ 32
-    go true = length-kept-if (runs r) bs h
-    go false = length-kept-if (laterRight l n p) (set bs (p .location - l) w) (length-set bs (p .location - l) w ∙ h)
+length-loaded g (setup.BufferFirst b n) p w r bs h =
+    of-cond (λ (l : List ℕ). length l ≡ 32) (firstRight g b n p) _ _ (length-tabulate 32 _) h
+length-loaded g (setup.BufferWords l n due) p w r bs h =
+    of-cond (λ (l : List ℕ). length l ≡ 32) (eqb due 0) _ _ (length-kept-if (runs r) bs h)
+    (length-kept-if (laterRight l n p) (set bs (p .location - l) w) (length-set bs (p .location - l) w ∙ h))
 
 pub length-after : (r t : Running) (bs : List ℕ) → length bs ≡ 32 → length (bufferAfter r t bs) ≡ 32
 unfolding bufferAfter
@@ -94,118 +87,18 @@ buffer-on (running.Program l w) bs = refl
 buffer-on (running.Erase b n) bs = refl
 buffer-on (running.Buffer l n d) bs = refl
 
--- ---- cycles that leave the buffer: they use as many places as were used
-
--- as many places are used in y as in x
-abbrev Same : View → View → Type 0
-Same x y = placesUsed (y .control .activity) ≡ placesUsed (x .control .activity)
-
-same-cond : (b : Bool) (x y z : View) → Same x y → Same x z → Same x (cond b y z)
-same-cond true x y z h k = h
-same-cond false x y z h k = k
+-- ---- a cycle
 
 -- a view with these under way
 abbrev at : View → Setup → Running → SuspendedProgram → SuspendedErase → View
 at x c r q e = withActivity x (activity c r q e)
 
-same-suspend : (x : View) (r : Running) (q : SuspendedProgram) (e : SuspendedErase) → Together r q e
-    → Same (at x setup.Nothing r q e) (withActivity x (suspended (activity setup.Nothing r q e) r))
-unfolding placesUsed setupPlaces runningPlaces programPlaces
-same-suspend x running.Idle q e m = refl
-same-suspend x (running.Program l w) program.Nothing e m = refl
-same-suspend x (running.Program l w) (program.Program k v) e m = absurd m
-same-suspend x (running.Program l w) (program.Buffer k v d) e m = absurd m
-same-suspend x (running.Erase b n) q e m = refl
-same-suspend x (running.Buffer l n d) program.Nothing e m = omega arith
-same-suspend x (running.Buffer l n d) (program.Program k v) e m = absurd m
-same-suspend x (running.Buffer l n d) (program.Buffer k v i) e m = absurd m
-
--- D0h: where it ends a buffer program, no place is in use, and the buffer is empty
-spared-resume : (x : View) (bs : List ℕ) (t : Bool) → x .control .supply ≡ t → (r : Running) (q : SuspendedProgram) (e : SuspendedErase) → Together r q e → Spared (activity setup.Nothing r q e) bs
-    → Spared (resume (at x setup.Nothing r q e .control) .activity) (heldAfter q (resume (at x setup.Nothing r q e .control) .activity) bs)
-unfolding resume endedIfUnsupplied ended heldAfter keptIf placesUsed setupPlaces runningPlaces programPlaces
-spared-resume x bs true z running.Idle (program.Program l w) e m h = rw z h
-spared-resume x bs true z running.Idle (program.Buffer l n d) e m h = rw z (ap (λ (k : ℕ). zeroFrom k bs) (omega arith) ∙ h)
-spared-resume x bs true z running.Idle program.Nothing erase.Nothing m h = rw z h
-spared-resume x bs true z running.Idle program.Nothing (erase.Erase b n) m h = rw z h
-spared-resume x bs false z running.Idle (program.Program l w) e m h = rw z h
-spared-resume x bs false z running.Idle (program.Buffer l n d) e m h = rw z (zero-empty 0)
-spared-resume x bs false z running.Idle program.Nothing erase.Nothing m h = rw z h
-spared-resume x bs false z running.Idle program.Nothing (erase.Erase b n) m h = rw z h
-spared-resume x bs t z (running.Program l w) program.Nothing e m h = h
-spared-resume x bs t z (running.Program l w) (program.Program k v) e m h = absurd m
-spared-resume x bs t z (running.Program l w) (program.Buffer k v d) e m h = absurd m
-spared-resume x bs t z (running.Erase b n) program.Nothing e m h = h
-spared-resume x bs t z (running.Erase b n) (program.Program k v) e m h = absurd m
-spared-resume x bs t z (running.Erase b n) (program.Buffer k v d) e m h = absurd m
-spared-resume x bs t z (running.Buffer l n d) program.Nothing e m h = h
-spared-resume x bs t z (running.Buffer l n d) (program.Program k v) e m h = absurd m
-spared-resume x bs t z (running.Buffer l n d) (program.Buffer k v i) e m h = absurd m
-
-same-setup : (x : View) (r : Running) (q : SuspendedProgram) (e : SuspendedErase) (c : Setup) → setupPlaces c ≡ 0 → Same (at x setup.Nothing r q e) (setUp (at x setup.Nothing r q e) c)
-unfolding setUp placesUsed setupPlaces
-same-setup x r q e c h =
-    same-cond (accepts (activity setup.Nothing r q e) c) (at x setup.Nothing r q e) (pend (at x setup.Nothing r q e) c) (at x setup.Nothing r q e)
-    (ap (λ (n : ℕ). n + (runningPlaces r + programPlaces q)) h) refl
-
-same-first : (x : View) (p : Place) (r : Running) (q : SuspendedProgram) (e : SuspendedErase) → Together r q e → (c : Command) → isResume c ≡ false
-    → Same (at x setup.Nothing r q e) (firstCycle (at x setup.Nothing r q e) p c)
-unfolding firstCycle clearStatus setupPlaces
-same-first x p r q e m command.ReadArray n = refl
-same-first x p r q e m command.ReadStatus n = refl
-same-first x p r q e m command.ReadSignature n = refl
-same-first x p r q e m command.ReadQuery n = refl
-same-first x p r q e m command.Suspend n = same-suspend x r q e m
-same-first x p r q e m command.Resume n = absurd (true≢false n)
-same-first x p r q e m command.ClearStatus n = same-cond (runs r) (at x setup.Nothing r q e) (at x setup.Nothing r q e) (withFlags (at x setup.Nothing r q e) noFlags) refl refl
-same-first x p r q e m command.SetUpProgram n = same-setup x r q e setup.Program refl
-same-first x p r q e m command.SetUpErase n = same-setup x r q e setup.Erase refl
-same-first x p r q e m command.SetUpLock n = same-setup x r q e setup.Lock refl
-same-first x p r q e m command.SetUpBuffer n = same-setup x r q e (setup.BufferCount (p .block)) refl
-same-first x p r q e m command.Unknown n = refl
-
-same-program : (x : View) (p : Place) (w : ℕ) (q : SuspendedProgram) (e : SuspendedErase) (t u z : Bool) → x .control .supply ≡ t → x .unprotected ≡ u → erasing e (p .block) ≡ z
-    → Same (at x setup.Program running.Idle q e) (programRuns (settle (at x setup.Program running.Idle q e)) p (running.Program (p .location) w))
-unfolding programRuns settle placesUsed setupPlaces runningPlaces
-same-program x p w q e false u z ht hu hz = rw ht
-same-program x p w q e true false z ht hu hz = rw (ht, hu)
-same-program x p w q e true true true ht hu hz = rw (ht, hu, hz)
-same-program x p w q e true true false ht hu hz = rw (ht, hu, hz)
-
-same-erase : (x : View) (p : Place) (c : ℕ) (q : SuspendedProgram) (e : SuspendedErase) (o t u : Bool) → eqb c 0xD0 ≡ o → x .control .supply ≡ t → x .unprotected ≡ u
-    → Same (at x setup.Erase running.Idle q e) (eraseCycle (settle (at x setup.Erase running.Idle q e)) p c)
-unfolding eraseCycle settle placesUsed setupPlaces runningPlaces
-same-erase x p c q e false t u ho ht hu = rw ho
-same-erase x p c q e true false u ho ht hu = rw (ho, ht)
-same-erase x p c q e true true false ho ht hu = rw (ho, ht, hu)
-same-erase x p c q e true true true ho ht hu = rw (ho, ht, hu)
-
-same-lock : (x : View) (p : Place) (c : LockCommand) (r : Running) (q : SuspendedProgram) (e : SuspendedErase)
-    → Same (at x setup.Lock r q e) (lockCycle (settle (at x setup.Lock r q e)) p c)
-unfolding lockCycle settle placesUsed setupPlaces
-same-lock x p lock.Protect r q e = refl
-same-lock x p lock.Unprotect r q e = refl
-same-lock x p lock.Configure r q e = refl
-same-lock x p lock.Unknown r q e = refl
-
--- ---- the cycles of a load
-
+-- a cycle of a load puts f true into the buffer where it is right, and else f false
 spared-loads : (x : View) (c : Setup) (e : SuspendedErase) (t : Setup) (f : Bool → List ℕ) (b : Bool) → (b ≡ true → zeroFrom (setupPlaces t) (f true) ≡ true) → (b ≡ false → zeroFrom 0 (f false) ≡ true)
     → Spared (loads b (at x c running.Idle program.Nothing e) t .control .activity) (f b)
 unfolding loads settle placesUsed setupPlaces runningPlaces programPlaces
 spared-loads x c e t f true h k = ap (λ (n : ℕ). zeroFrom n (f true)) (omega arith) ∙ h refl
 spared-loads x c e t f false h k = k refl
-
-spared-confirm : (g : Geometry) (x : View) (l n due : ℕ) (e : SuspendedErase) (p : Place) (w : ℕ) (bs : List ℕ) → zeroFrom n bs ≡ true
-    → (o t u z : Bool) → confirmRight g l p w ≡ o → x .control .supply ≡ t → x .unprotected ≡ u → erasing e (p .block) ≡ z
-    → Spared (confirmCycle g (at x (setup.BufferWords l n due) running.Idle program.Nothing e) l n p w .control .activity)
-    (keptIf (runs (confirmCycle g (at x (setup.BufferWords l n due) running.Idle program.Nothing e) l n p w .control .activity .running)) bs)
-unfolding confirmCycle programRuns settle keptIf placesUsed setupPlaces runningPlaces programPlaces
-spared-confirm g x l n due e p w bs h false t u z ho ht hu hz = rw ho (zero-empty 0)
-spared-confirm g x l n due e p w bs h true false u z ho ht hu hz = rw (ho, ht) (zero-empty 0)
-spared-confirm g x l n due e p w bs h true true false z ho ht hu hz = rw (ho, ht, hu) (zero-empty 0)
-spared-confirm g x l n due e p w bs h true true true true ho ht hu hz = rw (ho, ht, hu, hz) (zero-empty 0)
-spared-confirm g x l n due e p w bs h true true true false ho ht hu hz = rw (ho, ht, hu, hz) (ap (λ (k : ℕ). zeroFrom k bs) (omega arith) ∙ h)
 
 module _ (g : Geometry) (s : State) (p : Place) (w : ℕ) where
   abbrev seen : Setup → Running → SuspendedProgram → SuspendedErase → View
@@ -214,69 +107,146 @@ module _ (g : Geometry) (s : State) (p : Place) (w : ℕ) where
   abbrev After : Setup → Running → SuspendedProgram → SuspendedErase → Type 0
   After c r q e = Spared (cycle g (seen c r q e) c p w .control .activity) (heldAfter q (cycle g (seen c r q e) c p w .control .activity) (loaded g c p w (cycle g (seen c r q e) c p w .control .activity .running) (s .buffer)))
 
-  same-spared : (x y : View) → Same x y → Spared (x .control .activity) (s .buffer) → Spared (y .control .activity) (s .buffer)
-  same-spared x y e h = ap (λ (n : ℕ). zeroFrom n (s .buffer)) e ∙ h
+  -- what a first cycle leaves, of which the buffer is as it was, or empty where D0h ended a buffer program
+  abbrev Left : SuspendedProgram → Activity → Type 0
+  Left q a = Spared a (heldAfter q a (s .buffer))
 
-  -- nothing runs and no program is suspended
-  lone : (c : Setup) (r : Running) (q : SuspendedProgram) (e : SuspendedErase) → runs r ≡ false → held? (underWayOf (s .buffer) r q e) isProgram ≡ false
-      → (Spared (activity c running.Idle program.Nothing e) (s .buffer) → After c running.Idle program.Nothing e) → Spared (activity c r q e) (s .buffer) → After c r q e
-  lone c running.Idle program.Nothing e i k f = f
-  lone c running.Idle (program.Program l v) e i k f = absurd (true≢false k)
-  lone c running.Idle (program.Buffer l n d) e i k f = absurd (true≢false k)
-  lone c (running.Program l v) q e i k f = absurd (true≢false i)
-  lone c (running.Erase b n) q e i k f = absurd (true≢false i)
-  lone c (running.Buffer l n d) q e i k f = absurd (true≢false i)
+  -- as many places are used, and the same program is suspended
+  left : (q : SuspendedProgram) (x a : Activity) → a .program ≡ q → placesUsed a ≡ placesUsed x
+      → Spared x (s .buffer) → Left q a
+  left q x a e i h = rw (held-left q a (s .buffer) e) (ap (λ (n : ℕ). zeroFrom n (s .buffer)) i ∙ h)
+
+  left-suspended : (r : Running) (q : SuspendedProgram) (e : SuspendedErase) → Together r q e
+      → Spared (activity setup.Nothing r q e) (s .buffer) → Left q (suspended (activity setup.Nothing r q e) r)
+  unfolding heldAfter placesUsed setupPlaces runningPlaces programPlaces
+  left-suspended running.Idle q e m h =
+      left q (activity setup.Nothing running.Idle q e) (activity setup.Nothing running.Idle q e) refl refl h
+  left-suspended (running.Program l w) program.Nothing e m h = h
+  left-suspended (running.Program l w) (program.Program k v) e m h = absurd m
+  left-suspended (running.Program l w) (program.Buffer k v d) e m h = absurd m
+  left-suspended (running.Erase b n) q e m h =
+      left q (activity setup.Nothing (running.Erase b n) q e)
+      (activity setup.Nothing running.Idle q (erase.Erase b n)) refl refl h
+  left-suspended (running.Buffer l n d) program.Nothing e m h = ap (λ (k : ℕ). zeroFrom k (s .buffer)) (omega arith) ∙ h
+  left-suspended (running.Buffer l n d) (program.Program k v) e m h = absurd m
+  left-suspended (running.Buffer l n d) (program.Buffer k v i) e m h = absurd m
+
+  -- D0h: t tells whether there is supply
+  left-resumed : (t : Bool) (r : Running) (q : SuspendedProgram) (e : SuspendedErase) → runs r ≡ false
+      → Spared (activity setup.Nothing r q e) (s .buffer)
+      → Left q (cond t (resumed (activity setup.Nothing r q e) q)
+      (withRunning (resumed (activity setup.Nothing r q e) q) running.Idle))
+  unfolding heldAfter keptIf placesUsed setupPlaces runningPlaces programPlaces
+  left-resumed true running.Idle (program.Program l w) e i h = h
+  left-resumed true running.Idle (program.Buffer l n d) e i h = ap (λ (k : ℕ). zeroFrom k (s .buffer)) (omega arith) ∙ h
+  left-resumed true running.Idle program.Nothing erase.Nothing i h = h
+  left-resumed true running.Idle program.Nothing (erase.Erase b n) i h = h
+  left-resumed false running.Idle (program.Program l w) e i h = h
+  left-resumed false running.Idle (program.Buffer l n d) e i h = zero-empty 0
+  left-resumed false running.Idle program.Nothing erase.Nothing i h = h
+  left-resumed false running.Idle program.Nothing (erase.Erase b n) i h = h
+  left-resumed t (running.Program l w) q e i h = absurd (true≢false i)
+  left-resumed t (running.Erase b n) q e i h = absurd (true≢false i)
+  left-resumed t (running.Buffer l n d) q e i h = absurd (true≢false i)
+
+  spared-first : (r : Running) (q : SuspendedProgram) (e : SuspendedErase) → Together r q e → (c : Command)
+      → Spared (activity setup.Nothing r q e) (s .buffer)
+      → Left q (firstCycle (seen setup.Nothing r q e) p c .control .activity)
+  unfolding ended placesUsed setupPlaces
+  spared-first r q e m c h = of-first (λ (x : View). Left q (x .control .activity)) (seen setup.Nothing r q e) p c (record {
+    modes = λ i y. same;
+    suspends = λ i. left-suspended r q e m h;
+    resumes = λ i z t. left-resumed true r q e z h;
+    ends = λ i z t. left-resumed false r q e z h;
+    clears = λ i z. same;
+    sets-up =
+        λ i x z. left q (activity setup.Nothing r q e) (activity x r q e) refl
+        (ap (λ (n : ℕ). n + (runningPlaces r + programPlaces q)) z) h;
+    stays = same;
+  })
+    where
+      same : Left q (activity setup.Nothing r q e)
+      same = left q (activity setup.Nothing r q e) (activity setup.Nothing r q e) refl refl h
+
+  -- what a confirming cycle leaves, and a cycle that is none of a load
+  abbrev Confirmed : View → Type 0
+  Confirmed x = Spared (x .control .activity) (keptIf (runs (x .control .activity .running)) (s .buffer))
+
+  abbrev Plain : View → Type 0
+  Plain x = Spared (x .control .activity) (s .buffer)
+
+  spared-confirm : (l n due : ℕ) (e : SuspendedErase) → zeroFrom n (s .buffer) ≡ true
+      → Confirmed (confirmCycle g (seen (setup.BufferWords l n due) running.Idle program.Nothing e) l n p w)
+  unfolding confirmCycle settle keptIf placesUsed setupPlaces runningPlaces programPlaces
+  spared-confirm l n due e h =
+      of-cond Confirmed (confirmRight g l p w) _ _
+      (of-program Confirmed (settle (seen (setup.BufferWords l n due) running.Idle program.Nothing e)) p
+      (running.Buffer l n 0) (λ f. zero-empty 0) (ap (λ (k : ℕ). zeroFrom k (s .buffer)) (omega arith) ∙ h))
+      (zero-empty 0)
 
   spared-words : (l n due : ℕ) (e : SuspendedErase) → zeroFrom n (s .buffer) ≡ true → After (setup.BufferWords l n due) running.Idle program.Nothing e
   unfolding cycle wordsCycle loaded wordsLoaded heldAfter laterRight keptIf setupPlaces
   spared-words l n due e h = go (eqb due 0)
     where
-      go : (b : Bool)
-          → Spared ((cond b (confirmCycle g (seen (setup.BufferWords l n due) running.Idle program.Nothing e) l n p w)
-          (loads (laterRight l n p) (seen (setup.BufferWords l n due) running.Idle program.Nothing e) (setup.BufferWords l n (due - 1)))) .control .activity)
-          (cond b (keptIf (runs ((cond b (confirmCycle g (seen (setup.BufferWords l n due) running.Idle program.Nothing e) l n p w)
-          (loads (laterRight l n p) (seen (setup.BufferWords l n due) running.Idle program.Nothing e) (setup.BufferWords l n (due - 1)))) .control .activity .running)) (s .buffer))
-          (keptIf (laterRight l n p) (set (s .buffer) (p .location - l) w)))
-      go true = spared-confirm g (viewAt s p) l n due e p w (s .buffer) h (confirmRight g l p w) (s .control .supply) (viewAt s p .unprotected) (erasing e (p .block)) refl refl refl refl
+      x : View
+      x = confirmCycle g (seen (setup.BufferWords l n due) running.Idle program.Nothing e) l n p w
+
+      y : View
+      y =
+          loads (laterRight l n p) (seen (setup.BufferWords l n due) running.Idle program.Nothing e)
+          (setup.BufferWords l n (due - 1))
+
+      bs : List ℕ
+      bs = set (s .buffer) (p .location - l) w
+
+      go : (b : Bool) → Spared ((cond b x y) .control .activity)
+          (cond b (keptIf (runs ((cond b x y) .control .activity .running)) (s .buffer)) (keptIf (laterRight l n p) bs))
+      go true = spared-confirm l n due e h
       go false =
-          spared-loads (viewAt s p) (setup.BufferWords l n due) e (setup.BufferWords l n (due - 1)) (λ o. keptIf o (set (s .buffer) (p .location - l) w)) (laterRight l n p)
+          spared-loads (viewAt s p) (setup.BufferWords l n due) e (setup.BufferWords l n (due - 1)) (λ o. keptIf o bs)
+          (laterRight l n p)
           (λ z. zero-set n (p .location - l) w (s .buffer) (omega (arith, within-true l n (p .location) z)) h) (λ z. zero-empty 0)
 
-  spared-first : (r : Running) (q : SuspendedProgram) (e : SuspendedErase) → Together r q e → (c : Command) → Spared (activity setup.Nothing r q e) (s .buffer)
-      → Spared (firstCycle (seen setup.Nothing r q e) p c .control .activity) (heldAfter q (firstCycle (seen setup.Nothing r q e) p c .control .activity) (s .buffer))
-  unfolding firstCycle
-  spared-first r q e m c h = go (isResume c) refl
-    where
-      go : (b : Bool) → isResume c ≡ b → Spared (firstCycle (seen setup.Nothing r q e) p c .control .activity) (heldAfter q (firstCycle (seen setup.Nothing r q e) p c .control .activity) (s .buffer))
-      go true z = rw (only-resume c z) (spared-resume (viewAt s p) (s .buffer) (s .control .supply) refl r q e m h)
-      go false z =
-          rw (first-holds (seen setup.Nothing r q e) p c (s .buffer) (λ k. absurd (true≢false (sym k ∙ z))))
-          (same-spared (seen setup.Nothing r q e) (firstCycle (seen setup.Nothing r q e) p c) (same-first (viewAt s p) p r q e m c z) h)
+  -- after a set-up nothing runs and no program is suspended
+  spared-second : (c : Setup) (e : SuspendedErase) → pending c ≡ true
+      → Ready g (setupOf (s .buffer) c) false (held? (underWayOf (s .buffer) running.Idle program.Nothing e))
+      → Spared (activity c running.Idle program.Nothing e) (s .buffer) → After c running.Idle program.Nothing e
+  unfolding cycle settle loaded heldAfter placesUsed setupPlaces runningPlaces programPlaces
+  spared-second setup.Nothing e z y h = absurd (false≢true z)
+  spared-second setup.Program e z y h =
+      of-program Plain (settle (seen setup.Program running.Idle program.Nothing e)) p (running.Program (p .location) w)
+      (λ f. h) h
+  spared-second setup.Erase e z y h =
+      of-erase Plain (settle (seen setup.Erase running.Idle program.Nothing e)) p (w % 256) (λ f. h) h
+  spared-second setup.Lock e z y h =
+      of-lock Plain (settle (seen setup.Lock running.Idle program.Nothing e)) p (lockCommandOf (w % 256)) (λ f. h)
+      (λ b. h) (λ n. h)
+  spared-second (setup.BufferCount b) e z y h =
+      spared-loads (viewAt s p) (setup.BufferCount b) e (setup.BufferFirst b (w + 1)) (λ o. s .buffer)
+      (countRight b p w) (λ i. h) (λ i. h)
+  spared-second (setup.BufferFirst b n) e z y h =
+      spared-loads (viewAt s p) (setup.BufferFirst b n) e (setup.BufferWords (p .location) n (n - 1))
+      (λ o. cond o (firstLoaded n w) (s .buffer)) (firstRight g b n p) (λ i. zero-first n w (y .3)) (λ i. h)
+  spared-second (setup.BufferWords l n due) e z y h =
+      spared-words l n due e (ap (λ (k : ℕ). zeroFrom k (s .buffer)) (omega arith) ∙ h)
 
-  pub spared-cycle : (c : Setup) (r : Running) (q : SuspendedProgram) (e : SuspendedErase) → Together r q e → Ready g (setupOf (s .buffer) c) (runs r) (held? (underWayOf (s .buffer) r q e))
+  alone : (c : Setup) → pending c ≡ true → (r : Running) (q : SuspendedProgram) (e : SuspendedErase)
+      → Ready g (setupOf (s .buffer) c) (runs r) (held? (underWayOf (s .buffer) r q e))
       → Spared (activity c r q e) (s .buffer) → After c r q e
-  unfolding cycle loaded heldAfter placesUsed setupPlaces runningPlaces programPlaces
-  spared-cycle setup.Nothing r q e m y h = spared-first r q e m (commandOf (w % 256)) h
-  spared-cycle setup.Program r q e m y h =
-      lone setup.Program r q e (y .0) (y .1) (λ z. same-spared (seen setup.Program running.Idle program.Nothing e) (programCycle (settle (seen setup.Program running.Idle program.Nothing e)) p w)
-      (same-program (viewAt s p) p w program.Nothing e (s .control .supply) (viewAt s p .unprotected) (erasing e (p .block)) refl refl refl) z) h
-  spared-cycle setup.Erase running.Idle program.Nothing e m y h = same-spared (seen setup.Erase running.Idle program.Nothing e) (eraseCycle (settle (seen setup.Erase running.Idle program.Nothing e)) p (w % 256))
-      (same-erase (viewAt s p) p (w % 256) program.Nothing e (eqb (w % 256) 0xD0) (s .control .supply) (viewAt s p .unprotected) refl refl refl) h
-  spared-cycle setup.Erase running.Idle (program.Program l v) e m y h = absurd (true≢false (y .1))
-  spared-cycle setup.Erase running.Idle (program.Buffer l n d) e m y h = absurd (true≢false (y .1))
-  spared-cycle setup.Erase (running.Program l v) q e m y h = absurd (true≢false (y .0))
-  spared-cycle setup.Erase (running.Erase b n) q e m y h = absurd (true≢false (y .0))
-  spared-cycle setup.Erase (running.Buffer l n d) q e m y h = absurd (true≢false (y .0))
-  spared-cycle setup.Lock r q e m y h =
-      lone setup.Lock r q e (y .0) (y .1) (λ z. same-spared (seen setup.Lock running.Idle program.Nothing e) (lockCycle (settle (seen setup.Lock running.Idle program.Nothing e)) p (lockCommandOf (w % 256)))
-      (same-lock (viewAt s p) p (lockCommandOf (w % 256)) running.Idle program.Nothing e) z) h
-  spared-cycle (setup.BufferCount b) r q e m y h =
-      lone (setup.BufferCount b) r q e (y .0) (y .1) (λ z. spared-loads (viewAt s p) (setup.BufferCount b) e (setup.BufferFirst b (w + 1)) (λ o. s .buffer) (countRight b p w) (λ i. z) (λ i. z)) h
-  spared-cycle (setup.BufferFirst b n) r q e m y h =
-      lone (setup.BufferFirst b n) r q e (y .0) (y .1)
-      (λ z. spared-loads (viewAt s p) (setup.BufferFirst b n) e (setup.BufferWords (p .location) n (n - 1)) (λ o. cond o (firstLoaded n w) (s .buffer)) (firstRight g b n p) (λ i. zero-first n w (y .3)) (λ i. z)) h
-  spared-cycle (setup.BufferWords l n due) r q e m y h =
-      lone (setup.BufferWords l n due) r q e (y .0) (y .1) (λ z. spared-words l n due e (ap (λ (k : ℕ). zeroFrom k (s .buffer)) (omega arith) ∙ z)) h
+  alone c z r q e y h =
+      let a = setup-alone g (s .buffer) c r q e y z in
+      subst₂ (λ (t : Running) (v : SuspendedProgram). Ready g (setupOf (s .buffer) c) (runs t) (held? (underWayOf (s .buffer) t v e))
+      → Spared (activity c t v e) (s .buffer) → After c t v e)
+      (sym (nothing-running r (a .0))) (sym (nothing-suspended q (a .1))) (spared-second c e z) y h
+
+  spared-cycle : (c : Setup) (r : Running) (q : SuspendedProgram) (e : SuspendedErase) → Together r q e
+      → Ready g (setupOf (s .buffer) c) (runs r) (held? (underWayOf (s .buffer) r q e))
+      → Spared (activity c r q e) (s .buffer) → After c r q e
+  unfolding cycle loaded
+  spared-cycle c r q e m y h =
+      by-test (pending c) (λ z. alone c z r q e y h)
+      (λ z. subst (λ (x : Setup). Spared (activity x r q e) (s .buffer) → After x r q e) (sym (nothing-pending c z))
+      (spared-first r q e m (commandOf (w % 256))) h)
 
 -- ---- the steps
 
@@ -293,21 +263,12 @@ pub spared-worked : (g : Geometry) (c : Setup) (r : Running) (p : SuspendedProgr
     → Spared (activity c (runningAfter g r m) p e) (bufferAfter r (runningAfter g r m) bs)
 unfolding runningAfter bufferAfter keptIf placesUsed runningPlaces
 spared-worked g c running.Idle p e m bs h = h
-spared-worked g c (running.Program l w) p e m bs h = go (ltb m 1)
-  where
-    go : (b : Bool) → Spared (activity c (cond b (running.Program l w) running.Idle) p e) bs
-    go true = h
-    go false = h
-spared-worked g c (running.Erase b n) p e m bs h = go (ltb (n + m) (sizeOf g b))
-  where
-    go : (t : Bool) → Spared (activity c (cond t (running.Erase b (n + m)) running.Idle) p e) bs
-    go true = h
-    go false = h
-spared-worked g c (running.Buffer l n d) p e m bs h = go (ltb (d + m) n)
-  where
-    go : (t : Bool) → Spared (activity c (cond t (running.Buffer l n (d + m)) running.Idle) p e) (keptIf (runs (cond t (running.Buffer l n (d + m)) running.Idle)) bs)
-    go true = h
-    go false = zero-empty (setupPlaces c + (0 + programPlaces p))
+spared-worked g c (running.Program l w) p e m bs h =
+    of-cond (λ (t : Running). Spared (activity c t p e) bs) (ltb m 1) _ _ h h
+spared-worked g c (running.Erase b n) p e m bs h =
+    of-cond (λ (t : Running). Spared (activity c t p e) bs) (ltb (n + m) (sizeOf g b)) _ _ h h
+spared-worked g c (running.Buffer l n d) p e m bs h =
+    of-cond (λ (t : Running). Spared (activity c t p e) (keptIf (runs t) bs)) (ltb (d + m) n) _ _ h (zero-empty _)
 
 -- what runs ends
 pub spared-ended : (c : Setup) (r : Running) (p : SuspendedProgram) (e : SuspendedErase) (bs : List ℕ) → Spared (activity c r p e) bs → Spared (activity c running.Idle p e) (bufferAfter r running.Idle bs)

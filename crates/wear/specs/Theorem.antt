@@ -22,7 +22,7 @@ use Rattle.semantics.specs.declared.SuspendedErase.{SuspendedErase}
 use Rattle.semantics.specs.declared.Step.{Step}
 use Rattle.semantics.specs.declared.Step.the-variants.{Read, Write, Work, Supply, Reset}
 use Rattle.semantics.specs.State.{geometry, runs}
-use Rattle.semantics.specs.Supplied.{of-cond}
+use Rattle.semantics.specs.Branches.{of-cond}
 use Rattle.semantics.specs.Working.{unitsLeft, unitsDone, runningAfter}
 use Rattle.semantics.specs.Steps.{stepRefusal, firstRefusal, Machine, after}
 use Rattle.semantics.specs.Entries as entries

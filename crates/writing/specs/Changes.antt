@@ -1,9 +1,8 @@
 -- What a write changes of a state, where that is little, and that this is what the definition of a write gives. Assumes nothing.
-use Prim.Native.Nat.{ℕ, _+_, _-_, _%_}
-use mathlib.Core.Bool.{Bool, true, false, not, cond, _||_, or-true, true≢false, false≢true}
+use Prim.Native.Nat.{ℕ, _%_}
+use mathlib.Core.Bool.{Bool, true, false, cond, true≢false, false≢true}
 use mathlib.Core.List.{List}
 use mathlib.Core.Path.{_≡_, refl, sym, ap, _∙_}
-use lib.Dec.{eqb}
 use lib.ListN.{set}
 use Rattle.geometry.specs.declared.Geometry.{Geometry}
 use Rattle.protection.specs.Words.{withUnprotected}
@@ -21,19 +20,19 @@ use Rattle.semantics.specs.declared.Activity.{Activity}
 use Rattle.semantics.specs.declared.Control.{Control}
 use Rattle.semantics.specs.declared.Command.{Command}
 use Rattle.semantics.specs.declared.Command.the-variants as command
-use Rattle.semantics.specs.declared.LockCommand.{LockCommand}
-use Rattle.semantics.specs.declared.LockCommand.the-variants as lock
 use Rattle.semantics.specs.declared.State.{State}
 use Rattle.semantics.specs.declared.Place.{Place}
 use Rattle.semantics.specs.declared.View.{View}
-use Rattle.semantics.specs.State.{geometry, activity, setActivity, withControl, withBuffer, withSetup, withRunning, withActivity, runs, flagsOf, noFlags}
+use Rattle.semantics.specs.State.{geometry, activity, setActivity, withControl, withBuffer, withSetup, withRunning, withActivity, runs}
 use Rattle.semantics.specs.Supply.{ended, endedIfUnsupplied}
-use Rattle.semantics.specs.Supplied.{awake, resume-unsupplied, isResume, only-resume, first-holds, held-left}
-use Rattle.semantics.specs.View.{viewAt, withView, withMode, raise}
+use Rattle.semantics.specs.Branches.{of-cond, by-cond₂, by-test}
+use Rattle.semantics.specs.Cycles.{awake, suspendedIn, nothing-pending, nothing-running, of-second}
+use Rattle.semantics.specs.Supplied.{resume-supplied, first-holds, held-left}
+use Rattle.semantics.specs.View.{viewAt, withView, withMode}
 use Rattle.semantics.specs.Modes.{view-back}
 use Rattle.semantics.specs.View as view
-use Rattle.semantics.specs.WellFormed.{pending, erasing}
-use Rattle.semantics.specs.Writing.{commandOf, suspended, resumedErase, resumed, resume, accepts, pend, setUp, clearStatus, firstCycle, programRuns, eraseCycle, lockCycle, lockCommandOf, settle, wrong, loads, countRight, firstRight, laterRight, confirmRight, confirmCycle, wordsCycle, cycle, keptIf, heldAfter, loaded, cycleAt, loadedAt, writtenAt}
+use Rattle.semantics.specs.WellFormed.{pending}
+use Rattle.semantics.specs.Writing.{commandOf, suspended, resumedErase, resumed, resume, accepts, pend, setUp, clearStatus, firstCycle, settle, cycle, keptIf, heldAfter, loaded, cycleAt, loadedAt, writtenAt}
 use Rattle.semantics.specs.Working.{bufferAfter}
 use Rattle.writing.specs.declared.Change.{Change}
 use Rattle.writing.specs.declared.Change.the-variants as change
@@ -84,15 +83,6 @@ told-pending g v (setup.BufferCount b) p w h = refl
 told-pending g v (setup.BufferFirst b n) p w h = refl
 told-pending g v (setup.BufferWords l n d) p w h = refl
 
-pub nothing-pending : (c : Setup) → pending c ≡ false → c ≡ setup.Nothing
-nothing-pending setup.Nothing h = refl
-nothing-pending setup.Program h = absurd (true≢false h)
-nothing-pending setup.Erase h = absurd (true≢false h)
-nothing-pending setup.Lock h = absurd (true≢false h)
-nothing-pending (setup.BufferCount b) h = absurd (true≢false h)
-nothing-pending (setup.BufferFirst b n) h = absurd (true≢false h)
-nothing-pending (setup.BufferWords l n d) h = absurd (true≢false h)
-
 pub cycle-first : (g : Geometry) (v : View) (c : Setup) (p : Place) (w : ℕ) → pending c ≡ false → firstCycle v p (commandOf (w % 256)) ≡ cycle g v c p w
 unfolding cycle
 cycle-first g v c p w h = sym (ap (λ (x : Setup). cycle g v x p w) (nothing-pending c h))
@@ -105,38 +95,45 @@ firstBy v (change.Activity a) = view.withActivity v a
 firstBy v (change.Ended a) = view.withControl v (ended (setActivity (v .control) a))
 firstBy v change.View = clearStatus v
 
-first-set-up : (v : View) (x : Setup) → firstBy v (setUpChange (v .control .activity) x) ≡ setUp v x
-unfolding setUp
-first-set-up v x = go (accepts (v .control .activity) x)
-  where
-    go : (t : Bool) → firstBy v (cond t (change.First Status x) (change.Activity (v .control .activity))) ≡ cond t (pend v x) v
-    go true = refl
-    go false = refl
+-- Q holds of each change that a first cycle may be, with the view that it leaves: a mode; B0h; D0h that resumes, and
+-- that ends what it would have resumed; 50h; a set-up; nothing
+record Each (Q : Change → View → Type 0) (v : View) : Type 0 where
+  modes : (m : Mode) → Q (change.First m (v .control .activity .setup)) (withMode v m)
+  suspends : Q (change.Activity (suspendedIn v .control .activity)) (suspendedIn v)
+  resumes : runs (v .control .activity .running) ≡ false → v .control .supply ≡ true
+      → Q (change.Activity (awake (v .control) .activity)) (view.withControl v (awake (v .control)))
+  ends : runs (v .control .activity .running) ≡ false → v .control .supply ≡ false
+      → Q (change.Ended (awake (v .control) .activity)) (view.withControl v (ended (awake (v .control))))
+  clears : Q change.View (clearStatus v)
+  sets-up : (x : Setup) → Q (change.First Status x) (pend v x)
+  stays : Q (change.Activity (v .control .activity)) v
 
-first-resume : (v : View) → firstBy v (resumeChange (v .control .activity) (v .control .supply)) ≡ view.withControl v (resume (v .control))
-unfolding resume endedIfUnsupplied
-first-resume v = go (runs (v .control .activity .running)) (v .control .supply)
-  where
-    go : (b t : Bool) → firstBy v (cond b (change.Activity (v .control .activity)) (cond t (change.Activity (awake (v .control) .activity)) (change.Ended (awake (v .control) .activity))))
-        ≡ view.withControl v (cond b (v .control) (cond t (awake (v .control)) (ended (awake (v .control)))))
-    go true t = refl
-    go false true = refl
-    go false false = refl
+module _ (Q : Change → View → Type 0) (v : View) (p : Place) (h : Each Q v) where
+  of-set-up : (x : Setup) → Q (setUpChange (v .control .activity) x) (setUp v x)
+  unfolding setUp
+  of-set-up x = by-cond₂ Q (accepts (v .control .activity) x) _ _ _ _ (λ e. h .sets-up x) (λ e. h .stays)
+
+  of-command : (c : Command) → Q (commandChange (v .control .activity) (v .control .supply) p c) (firstCycle v p c)
+  unfolding firstCycle resume endedIfUnsupplied
+  of-command command.ReadArray = h .modes Array
+  of-command command.ReadStatus = h .modes Status
+  of-command command.ReadSignature = h .modes Signature
+  of-command command.ReadQuery = h .modes Query
+  of-command command.Suspend = h .suspends
+  of-command command.Resume =
+      by-cond₂ (λ (k : Change) (c : Control). Q k (view.withControl v c))
+      (runs (v .control .activity .running)) _ _ _ _ (λ e. h .stays)
+      (λ e. by-cond₂ (λ (k : Change) (c : Control). Q k (view.withControl v c)) (v .control .supply) _ _ _ _
+      (h .resumes e) (h .ends e))
+  of-command command.ClearStatus = h .clears
+  of-command command.SetUpProgram = of-set-up setup.Program
+  of-command command.SetUpErase = of-set-up setup.Erase
+  of-command command.SetUpLock = of-set-up setup.Lock
+  of-command command.SetUpBuffer = of-set-up (setup.BufferCount (p .block))
+  of-command command.Unknown = h .stays
 
 pub first-is : (v : View) (p : Place) (c : Command) → firstBy v (commandChange (v .control .activity) (v .control .supply) p c) ≡ firstCycle v p c
-unfolding firstCycle
-first-is v p command.ReadArray = refl
-first-is v p command.ReadStatus = refl
-first-is v p command.ReadSignature = refl
-first-is v p command.ReadQuery = refl
-first-is v p command.Suspend = refl
-first-is v p command.Resume = first-resume v
-first-is v p command.ClearStatus = refl
-first-is v p command.SetUpProgram = first-set-up v setup.Program
-first-is v p command.SetUpErase = first-set-up v setup.Erase
-first-is v p command.SetUpLock = first-set-up v setup.Lock
-first-is v p command.SetUpBuffer = first-set-up v (setup.BufferCount (p .block))
-first-is v p command.Unknown = refl
+first-is v p = of-command (λ (k : Change) (x : View). firstBy v k ≡ x) v p (record { modes = λ m. refl; suspends = refl; resumes = λ r t. refl; ends = λ r t. refl; clears = refl; sets-up = λ x. refl; stays = refl })
 
 -- ---- the state after a write that changes little
 
@@ -184,61 +181,28 @@ ended-buffer a (program.Program l w) bs h = refl
 ended-buffer a (program.Buffer l n d) bs h = refl
 ended-buffer a program.Nothing bs h = by-erase (a .erase)
   where
-    idle : (r : Running) → runs r ≡ false → bufferAfter r running.Idle bs ≡ bs
-    idle running.Idle h = refl
-    idle (running.Program l w) h = refl
-    idle (running.Erase b n) h = refl
-    idle (running.Buffer l n d) h = absurd (true≢false h)
-
     by-erase : (e : SuspendedErase) → bufferAfter (resumedErase a e .running) running.Idle bs ≡ bs
-    by-erase erase.Nothing = idle (a .running) h
+    by-erase erase.Nothing = ap (λ (r : Running). bufferAfter r running.Idle bs) (nothing-running (a .running) h)
     by-erase (erase.Erase b n) = refl
-
-resume-buffer : (s : State) (p : Place) → bufferBy s (resumeChange (s .control .activity) (s .control .supply)) ≡ heldAfter (s .control .activity .program) (resume (s .control) .activity) (s .buffer)
-unfolding firstCycle ended
-resume-buffer s p = go (runs (s .control .activity .running)) refl (s .control .supply) refl
-  where
-    a : Activity
-    a = s .control .activity
-
-    holds : (s .control .supply || runs (s .control .activity .running)) ≡ true → heldAfter (s .control .activity .program) (resume (s .control) .activity) (s .buffer) ≡ s .buffer
-    holds h = first-holds (viewAt s p) p command.Resume (s .buffer) (λ k. h)
-
-    go : (b : Bool) → runs (a .running) ≡ b → (t : Bool) → s .control .supply ≡ t
-        → bufferBy s (cond b (change.Activity a) (cond t (change.Activity (resumed a (a .program))) (change.Ended (resumed a (a .program))))) ≡ heldAfter (a .program) (resume (s .control) .activity) (s .buffer)
-    go true e t f = sym (holds (rw e (or-true (s .control .supply))))
-    go false e true f = sym (holds (rw f))
-    go false e false f = rw (resume-unsupplied (s .control) e f) (ended-buffer a (a .program) (s .buffer) e)
-
-set-up-buffer : (s : State) (x : Setup) → bufferBy s (setUpChange (s .control .activity) x) ≡ s .buffer
-set-up-buffer s x = go (accepts (s .control .activity) x)
-  where
-    go : (t : Bool) → bufferBy s (cond t (change.First Status x) (change.Activity (s .control .activity))) ≡ s .buffer
-    go true = refl
-    go false = refl
-
-plain-buffer : (s : State) (p : Place) (c : Command) → isResume c ≡ false → bufferBy s (commandChange (s .control .activity) (s .control .supply) p c) ≡ s .buffer
-plain-buffer s p command.ReadArray h = refl
-plain-buffer s p command.ReadStatus h = refl
-plain-buffer s p command.ReadSignature h = refl
-plain-buffer s p command.ReadQuery h = refl
-plain-buffer s p command.Suspend h = refl
-plain-buffer s p command.Resume h = absurd (true≢false h)
-plain-buffer s p command.ClearStatus h = refl
-plain-buffer s p command.SetUpProgram h = set-up-buffer s setup.Program
-plain-buffer s p command.SetUpErase h = set-up-buffer s setup.Erase
-plain-buffer s p command.SetUpLock h = set-up-buffer s setup.Lock
-plain-buffer s p command.SetUpBuffer h = set-up-buffer s (setup.BufferCount (p .block))
-plain-buffer s p command.Unknown h = refl
 
 buffer-is : (s : State) (p : Place) (c : Command)
     → bufferBy s (commandChange (s .control .activity) (s .control .supply) p c) ≡ heldAfter (s .control .activity .program) (firstCycle (viewAt s p) p c .control .activity) (s .buffer)
-unfolding firstCycle
-buffer-is s p c = go (isResume c) refl
+unfolding firstCycle ended
+buffer-is s p = of-command (λ (k : Change) (x : View). bufferBy s k ≡ heldAfter (s .control .activity .program) (x .control .activity) (s .buffer)) (viewAt s p) p (record {
+  modes = λ m. left (s .control .activity) refl;
+  suspends = sym (first-holds (viewAt s p) p command.Suspend (s .buffer) (λ k. absurd (false≢true k)));
+  resumes =
+      λ r t. sym (rw (resume-supplied (s .control) r t) at
+      (first-holds (viewAt s p) p command.Resume (s .buffer) (λ k. rw t)));
+  ends = λ r t. ended-buffer (s .control .activity) (s .control .activity .program) (s .buffer) r;
+  clears = sym (first-holds (viewAt s p) p command.ClearStatus (s .buffer) (λ k. absurd (false≢true k)));
+  sets-up = λ x. left (withSetup (s .control .activity) x) refl;
+  stays = left (s .control .activity) refl;
+})
   where
-    go : (b : Bool) → isResume c ≡ b → bufferBy s (commandChange (s .control .activity) (s .control .supply) p c) ≡ heldAfter (s .control .activity .program) (firstCycle (viewAt s p) p c .control .activity) (s .buffer)
-    go true h = rw (only-resume c h) (resume-buffer s p)
-    go false h = plain-buffer s p c h ∙ sym (first-holds (viewAt s p) p c (s .buffer) (λ k. absurd (true≢false (sym k ∙ h))))
+    left : (a : Activity) → a .program ≡ s .control .activity .program
+        → s .buffer ≡ heldAfter (s .control .activity .program) a (s .buffer)
+    left a e = sym (held-left (s .control .activity .program) a (s .buffer) e)
 
 -- a write that changes little changes that
 pub change-put : (s : State) (p : Place) (w : ℕ) (k : Change) → k ≡ changeOf (s .control .activity) (s .control .supply) p w → told k ≡ false → putChange s p k ≡ writtenAt s p w
@@ -291,61 +255,15 @@ abbrev Left : View → View → Type 0
 Left v x =
     (x .control .activity .program ≡ v .control .activity .program) × (x .control .activity .erase ≡ v .control .activity .erase) × (x .control .supply ≡ v .control .supply)
 
-either : (b : Bool) (v x y : View) → Left v x → Left v y → Left v (cond b x y)
-either true v x y p q = p
-either false v x y p q = q
-
-same : (v : View) → Left v v
-same v = (refl, refl, refl)
-
--- the first of three tests that holds decides
-three : (v x y z u : View) → Left v x → Left v y → Left v z → Left v u → (a b c : Bool) → Left v (cond a x (cond b y (cond c z u)))
-three v x y z u p q r s a b c = either a v x (cond b y (cond c z u)) p (either b v y (cond c z u) q (either c v z u r s))
-
-program-left : (v : View) (p : Place) (r : Running) → Left v (programRuns v p r)
-unfolding programRuns
-program-left v p r =
-    three v (raise v (flagsOf false true true false)) (raise v (flagsOf false true false true)) (raise v (flagsOf false true false false))
-    (view.withActivity v (withRunning (v .control .activity) r)) (same v) (same v) (same v) (same v)
-    (not (v .control .supply)) (not (v .unprotected)) (erasing (v .control .activity .erase) (p .block))
-
-erase-left : (v : View) (p : Place) (c : ℕ) → Left v (eraseCycle v p c)
-unfolding eraseCycle
-erase-left v p c =
-    three v (raise v (flagsOf true true false false)) (raise v (flagsOf true false true false)) (raise v (flagsOf true false false true))
-    (view.withActivity v (withRunning (v .control .activity) (running.Erase (p .block) 0))) (same v) (same v) (same v) (same v)
-    (not (eqb c 0xD0)) (not (v .control .supply)) (not (v .unprotected))
-
-lock-left : (v : View) (p : Place) (c : LockCommand) → Left v (lockCycle v p c)
-unfolding lockCycle
-lock-left v p lock.Protect = same v
-lock-left v p lock.Unprotect = same v
-lock-left v p lock.Configure = same v
-lock-left v p lock.Unknown = same v
-
-loads-left : (b : Bool) (v : View) (x : Setup) → Left v (loads b v x)
-unfolding loads settle
-loads-left b v x = either b v (pend v x) (wrong v) (same v) (same v)
-
-confirm-left : (g : Geometry) (v : View) (l n : ℕ) (p : Place) (w : ℕ) → Left v (confirmCycle g v l n p w)
-unfolding confirmCycle settle
-confirm-left g v l n p w = either (confirmRight g l p w) v (programRuns (settle v) p (running.Buffer l n 0)) (wrong v) (program-left (settle v) p (running.Buffer l n 0)) (same v)
-
-clear-left : (v : View) → Left v (clearStatus v)
-unfolding clearStatus
-clear-left v = either (runs (v .control .activity .running)) v v (view.withFlags v noFlags) (same v) (same v)
-
 told-left : (g : Geometry) (v : View) (c : Setup) (p : Place) (w : ℕ) → Left v (toldCycle g v c p w)
-unfolding cycle settle wordsCycle
-told-left g v setup.Nothing p w = clear-left v
-told-left g v setup.Program p w = program-left (settle v) p (running.Program (p .location) w)
-told-left g v setup.Erase p w = erase-left (settle v) p (w % 256)
-told-left g v setup.Lock p w = lock-left (settle v) p (lockCommandOf (w % 256))
-told-left g v (setup.BufferCount b) p w = loads-left (countRight b p w) v (setup.BufferFirst b (w + 1))
-told-left g v (setup.BufferFirst b n) p w = loads-left (firstRight g b n p) v (setup.BufferWords (p .location) n (n - 1))
-told-left g v (setup.BufferWords l n d) p w =
-    let x : Setup = setup.BufferWords l n (d - 1) in
-    either (eqb d 0) v (confirmCycle g v l n p w) (loads (laterRight l n p) v x) (confirm-left g v l n p w) (loads-left (laterRight l n p) v x)
+unfolding clearStatus settle
+told-left g v c p w =
+    by-test (pending c)
+    (λ e. rw (told-pending g v c p w e) (of-second (Left v) v p g c w e (record { raises = λ f. same; starts = λ r t. same; protects = λ b. same; stores = λ i l n. same; loads = λ x. same })))
+    (λ e. rw (nothing-pending c e) (of-cond (Left v) (runs (v .control .activity .running)) _ _ same same))
+  where
+    same : Left v v
+    same = (refl, refl, refl)
 
 pub told-settled : (s : State) (p : Place) (w : ℕ) → settledIn (s .control) (toldAt s p w) ≡ toldAt s p w .control
 told-settled s p w =
