@@ -1,3 +1,4 @@
+pub mod Branches
 pub mod Numbers
 pub mod Tabulate
 pub mod State
@@ -27,6 +28,9 @@ pub mod FurtherCases
 pub mod Encoding
 pub mod Entries
 pub mod Recorder
+pub mod Tests
+pub mod Events
+pub mod Causes
 pub mod JournalCases
 pub mod Demand
 pub mod Layout
@@ -37,7 +41,11 @@ pub mod Formed
 pub mod Spare
 pub mod Invariant
 pub mod Theorem
+pub mod Accepted
+pub mod Since
 pub mod Standing
+pub mod Protected
+pub mod SingleBits
 pub mod Kept
 pub mod Refusals
 pub mod Leaves

@@ -26,7 +26,7 @@ use Rattle.semantics.specs.Supplied.{of-cond}
 use Rattle.semantics.specs.Working.{unitsLeft, unitsDone, runningAfter}
 use Rattle.semantics.specs.Steps.{stepRefusal, firstRefusal, Machine, after}
 use Rattle.semantics.specs.Entries as entries
-use Rattle.semantics.specs.Entries.{Phase, Entry, entry, Live, live, paused, resumed, brokenOff, idle-worked}
+use Rattle.semantics.specs.Entries.{Phase, Entry, entry, Live, live, isFinished, paused, resumed, brokenOff, idle-worked}
 use Rattle.semantics.specs.Recorder.{Operation, program, erase, buffer, Setup, no-setup, program-setup, erase-setup, lock-setup, count-setup, first-setup, words-setup, Conditions, Recorder, beginning, recorded, recordedAll}
 use Rattle.semantics.specs.Recorder.{Event, nothing, supplied, was-reset, units, suspend, event, journal-after}
 use Rattle.semantics.specs.Recorder.{Command, commandOf, suspend-command, resume-command, program-command, lock-command, erase-command, buffer-command, other-command, first-cycle, cycle, acceptable, kinds, len, isProgram, isErase, isAny, isNone}
@@ -38,7 +38,7 @@ use Rattle.wear.specs.Counts.{Counts, rowOf, placeIn, countAt, countOf, 
 use Rattle.wear.specs.Steps.{deviceRefusal, refusalWith, acceptedCounts, countsWith, Counted, afterWith, afterAllWith, freshWith}
 use Rattle.wear.specs.Places.{placed, Shaped, count-with, shape-with}
 use Rattle.wear.specs.Refused.{shared-kept, shared-all, fresh-shared, device-alone, counts-still, after-alone}
-use Rattle.wear.specs.Claim.{erases, isFinished, isFinishedErase, finishedErases, CountsStand}
+use Rattle.wear.specs.Claim.{erases, isFinishedErase, finishedErases, CountsStand}
 
 -- ---- what an event makes of the number of finished erases
 
