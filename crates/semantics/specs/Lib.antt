@@ -36,6 +36,8 @@ pub mod Demand
 pub mod Layout
 pub mod Engine
 pub mod Buffer
+pub mod UnderWay
+pub mod Commands
 pub mod Follows
 pub mod Formed
 pub mod Spare
