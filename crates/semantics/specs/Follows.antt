@@ -41,9 +41,9 @@ use Rattle.semantics.specs.Writing as writing
 use Rattle.semantics.specs.Writing.{commandOf, suspended, resume, programFree, accepts, setUp, clearStatus, firstCycle, programRuns, eraseCycle, lockCommandOf, lockCycle, settle, loads, countRight, firstRight, laterRight, confirmRight, confirmCycle, wordsCycle, keptIf, firstLoaded, wordsLoaded, heldAfter, loaded, cycleAt, loadedAt, writtenAt}
 use Rattle.semantics.specs.Recorder.{Event, nothing, suspend, resume-program, resume-erase, end-program, end-erase, setup-is, unprotected-is, accept, Conditions, conditions-after, rule, isProgram, isErase, first-cycle, cycle, no-setup, first-setup, words-setup}
 use Rattle.semantics.specs.Recorder as recorder
-use Rattle.semantics.specs.Engine.{Engine, busy, held?, engine-after, words-after, Ready}
+use Rattle.semantics.specs.Engine.{busy, held?, engine-after, words-after, Ready}
 pub use Rattle.semantics.specs.UnderWay.{setupOf, conditions, addErase, addProgram, addRunning, underWayOf, underWay, Together, Lacking, under-way-program, under-way-any, under-way-worked, under-way-off, words-under-way}
-use Rattle.semantics.specs.UnderWay.{underWayIn, Beside, idle, word, words, block, beside, under-way-erasing}
+use Rattle.semantics.specs.UnderWay.{underWayIn, Beside, none-runs, program-runs, buffer-runs, erase-runs, beside, under-way-erasing}
 use Rattle.semantics.specs.Commands.{bears, commands-agree}
 
 -- ---- each step is an event
@@ -111,10 +111,10 @@ module _ (g : Geometry) where
 
     follows-suspend : (x : View) {r : Running} {q : SuspendedProgram} {e : SuspendedErase} → Beside r q e
         → FollowsAt (cond (runs r) suspend nothing) (at x setup.Nothing r q e) (withActivity x (suspended (activity setup.Nothing r q e) r))
-    follows-suspend x (idle q e) = (refl, refl, λ m. refl)
-    follows-suspend x (word l w e) = (refl, refl, λ m. refl)
-    follows-suspend x (words l n d e) = (refl, refl, λ m. refl)
-    follows-suspend x (block b n) = (refl, refl, λ m. refl)
+    follows-suspend x (none-runs q e) = (refl, refl, λ m. refl)
+    follows-suspend x (program-runs l w e) = (refl, refl, λ m. refl)
+    follows-suspend x (buffer-runs l n d e) = (refl, refl, λ m. refl)
+    follows-suspend x (erase-runs b n) = (refl, refl, λ m. refl)
 
     -- D0h, with the supply on and off. The words of a buffer program that it ends are no longer in the buffer
     abbrev Resumes : View → Bool → Running → SuspendedProgram → SuspendedErase → Type 0
@@ -125,17 +125,17 @@ module _ (g : Geometry) where
 
     follows-resume : (x : View) (t : Bool) → x .control .supply ≡ t → {r : Running} {q : SuspendedProgram} {e : SuspendedErase} → Beside r q e → Resumes x t r q e
     unfolding resume endedIfUnsupplied ended heldAfter keptIf
-    follows-resume x true h (idle (program.Program l w) e) = rw h (refl, refl, λ m. refl)
-    follows-resume x true h (idle (program.Buffer l n d) e) = rw h (refl, refl, λ m. refl)
-    follows-resume x true h (idle program.Nothing erase.Nothing) = rw h (refl, refl, λ m. refl)
-    follows-resume x true h (idle program.Nothing (erase.Erase b n)) = rw h (refl, refl, λ m. refl)
-    follows-resume x false h (idle (program.Program l w) e) = rw h (refl, refl, λ m. refl)
-    follows-resume x false h (idle (program.Buffer l n d) e) = rw h (refl, refl, λ m. refl)
-    follows-resume x false h (idle program.Nothing erase.Nothing) = rw h (refl, refl, λ m. refl)
-    follows-resume x false h (idle program.Nothing (erase.Erase b n)) = rw h (refl, refl, λ m. refl)
-    follows-resume x t h (word l w e) = (refl, refl, λ m. refl)
-    follows-resume x t h (words l n d e) = (refl, refl, λ m. refl)
-    follows-resume x t h (block b n) = (refl, refl, λ m. refl)
+    follows-resume x true h (none-runs (program.Program l w) e) = rw h (refl, refl, λ m. refl)
+    follows-resume x true h (none-runs (program.Buffer l n d) e) = rw h (refl, refl, λ m. refl)
+    follows-resume x true h (none-runs program.Nothing erase.Nothing) = rw h (refl, refl, λ m. refl)
+    follows-resume x true h (none-runs program.Nothing (erase.Erase b n)) = rw h (refl, refl, λ m. refl)
+    follows-resume x false h (none-runs (program.Program l w) e) = rw h (refl, refl, λ m. refl)
+    follows-resume x false h (none-runs (program.Buffer l n d) e) = rw h (refl, refl, λ m. refl)
+    follows-resume x false h (none-runs program.Nothing erase.Nothing) = rw h (refl, refl, λ m. refl)
+    follows-resume x false h (none-runs program.Nothing (erase.Erase b n)) = rw h (refl, refl, λ m. refl)
+    follows-resume x t h (program-runs l w e) = (refl, refl, λ m. refl)
+    follows-resume x t h (buffer-runs l n d e) = (refl, refl, λ m. refl)
+    follows-resume x t h (erase-runs b n) = (refl, refl, λ m. refl)
 
     -- a set-up is accepted by the device exactly where the recorder begins it
     follows-setup : (x : View) (c : Setup) (b : Bool) → accepts (x .control .activity) c ≡ not b → FollowsAt (cond b nothing (setup-is (setupOf (s .buffer) c))) x (setUp x c)

@@ -3,16 +3,16 @@
 -- Assumes nothing.
 use mathlib.Core.Path.{_≡_, refl, sym, ap, _∙_, subst}
 use mathlib.Core.List.{List, [], _∷_}
-use mathlib.Core.Bool.{Bool, true, false, cond, not, _&&_, _||_, true≢false}
+use mathlib.Core.Bool.{Bool, true, false, cond, _&&_, _||_, true≢false}
 use mathlib.Core.Logic.{_⊎_, inl, inr}
-use Prim.Native.Nat.{ℕ, _+_, _-_, _≤_, _<_, _%_, min}
+use Prim.Native.Nat.{ℕ, _+_, _-_, _≤_, _<_, min}
 use native.Mathlib.Omega.{arith}
 use lib.Dec.{ltb, leb, eqb}
 use lib.ListN.{length}
 use borrow.Author.Tests.{ltb-true, ltb-false, lt-ltb, le-ltb, le-leb, lt-leb, eqb-true}
 use Rattle.geometry.specs.declared.Part.{Part}
 use Rattle.geometry.specs.declared.Geometry.{Geometry}
-use Rattle.geometry.specs.Blocks.{geometryOf, words, location, blockOf, startOf, sizeOf}
+use Rattle.geometry.specs.Blocks.{geometryOf, words, sizeOf}
 use Rattle.geometry.specs.Laws as laws
 use Rattle.semantics.specs.declared.Running.{Running}
 use Rattle.semantics.specs.declared.Running.the-variants as running
@@ -25,10 +25,9 @@ use Rattle.semantics.specs.declared.Step.{Step}
 use Rattle.semantics.specs.declared.Step.the-variants.{Read, Write, Work, Supply, Reset}
 use Rattle.semantics.specs.declared.Answer.the-variants.{Refused}
 use Rattle.semantics.specs.declared.Next.{Next}
-use Rattle.semantics.specs.Numbers.{within}
 use Rattle.semantics.specs.State.{geometry, activity, programSuspended, eraseSuspended}
 use Rattle.semantics.specs.Buffer.{words-length}
-use Rattle.semantics.specs.WellFormed.{activityFormed, wellFormed}
+use Rattle.semantics.specs.WellFormed.{wellFormed}
 use Rattle.semantics.specs.Working.{unitsLeft, unitsDone}
 use Rattle.semantics.specs.Steps.{stepRefusal, stateRefusal, refusalOf, next, accepted, stepOf, Machine, after, afterAll, fresh}
 use Rattle.semantics.specs.Entries as entries
@@ -37,14 +36,15 @@ use Rattle.semantics.specs.Recorder as recorder
 use Rattle.semantics.specs.Recorder.{Operation, Event, nothing, units, Conditions, conditions-after, len, kinds, isProgram, isErase, isAny}
 use Rattle.semantics.specs.Causes.{Ready, Cause, by-nothing, by-supply, by-reset, by-work, by-suspend, by-resume-program, by-resume-erase, by-end-program, by-end-erase, by-setup, by-protection, by-accept, cause, accept-free, supply-kept}
 use Rattle.semantics.specs.Since.{supply-or-not}
-use Rattle.semantics.specs.Tests.{and-true-l, or-false-l, or-false-r}
+use Rattle.semantics.specs.Tests.{or-false-l, or-false-r}
 use Rattle.semantics.specs.Engine.{Engine, engine, busy, stack, held?, engine-after, engine-worked, Order, Sim}
-use Rattle.semantics.specs.Follows.{conditions, addErase, addProgram, underWay, underWayOf, eventOf, Together}
-use Rattle.semantics.specs.Formed.{own, formed-own, together}
+use Rattle.semantics.specs.UnderWay.{conditions, addErase, addProgram, underWay, underWayOf, Beside, none-runs, program-runs, buffer-runs, erase-runs, beside}
+use Rattle.semantics.specs.Follows.{eventOf}
+use Rattle.semantics.specs.Formed.{together}
 use Rattle.semantics.specs.Branches.{of-cond}
 use Rattle.semantics.specs.Invariant.{Steps, kept-step, agree-fit, steps, state-good, step-done, count-good, count-bad, step-refused, length-kept}
 use Rattle.semantics.specs.Theorem.{reached, reached-formed}
-use Rattle.semantics.specs.Kept.{keeps}
+use Rattle.semantics.specs.Kept.{ownOf, formed-sim, keeps}
 use Rattle.semantics.specs.Flags.{toldBy}
 
 -- ---- the operation that is followed
@@ -262,23 +262,15 @@ module _ (g : Geometry) (bs : List ℕ) where
   program-lives the-program (program.Buffer l n d) e = omega (arith, erase-lacks the-program e, words-length bs n)
   program-lives the-erase (program.Buffer l n d) e = erase-lacks the-erase e
 
-  left-lacks : (k : Followed) (r : Running) (p : SuspendedProgram) (e : SuspendedErase) → Together r p e → leftOf g k r p e ≡ lacks g k (stack (underWayOf bs r p e))
+  left-lacks : (k : Followed) {r : Running} {p : SuspendedProgram} {e : SuspendedErase} → Beside r p e → leftOf g k r p e ≡ lacks g k (stack (underWayOf bs r p e))
   unfolding unitsLeft
-  left-lacks the-program running.Idle p e m = sym (program-lives the-program p e)
-  left-lacks the-erase running.Idle p e m = sym (program-lives the-erase p e)
-  left-lacks the-program (running.Program l w) program.Nothing e m = omega (arith, erase-lacks the-program e)
-  left-lacks the-erase (running.Program l w) program.Nothing e m = sym (erase-lacks the-erase e)
-  left-lacks k (running.Program l w) (program.Program i v) e m = absurd m
-  left-lacks k (running.Program l w) (program.Buffer i v d) e m = absurd m
-  left-lacks the-program (running.Erase b n) program.Nothing erase.Nothing m = refl
-  left-lacks the-erase (running.Erase b n) program.Nothing erase.Nothing m = omega arith
-  left-lacks k (running.Erase b n) program.Nothing (erase.Erase i v) m = absurd m
-  left-lacks k (running.Erase b n) (program.Program i v) e m = absurd m
-  left-lacks k (running.Erase b n) (program.Buffer i v d) e m = absurd m
-  left-lacks the-program (running.Buffer l n d) program.Nothing e m = omega (arith, erase-lacks the-program e, words-length bs n)
-  left-lacks the-erase (running.Buffer l n d) program.Nothing e m = sym (erase-lacks the-erase e)
-  left-lacks k (running.Buffer l n d) (program.Program i v) e m = absurd m
-  left-lacks k (running.Buffer l n d) (program.Buffer i v d′) e m = absurd m
+  left-lacks k (none-runs p e) = sym (program-lives k p e)
+  left-lacks the-program (program-runs l w e) = omega (arith, erase-lacks the-program e)
+  left-lacks the-erase (program-runs l w e) = sym (erase-lacks the-erase e)
+  left-lacks the-program (buffer-runs l n d e) = omega (arith, erase-lacks the-program e, words-length bs n)
+  left-lacks the-erase (buffer-runs l n d e) = sym (erase-lacks the-erase e)
+  left-lacks the-program (erase-runs b n) = refl
+  left-lacks the-erase (erase-runs b n) = omega arith
 
   runs-top : (k : Followed) (r : Running) (p : SuspendedProgram) (e : SuspendedErase) → runsNow k r ≡ top g k (underWayOf bs r p e)
   runs-top k running.Idle p e = refl
@@ -318,17 +310,13 @@ none-offered k false n e = refl
 
 -- what a state with nothing wrong comes to
 module _ (m : Machine) (o : Good m) where
-  simulated : Sim (geometry (m .state)) (conditions (m .state)) (underWay (m .state)) (own (geometry (m .state)) (m .state .buffer) (m .state .control .activity .running) (m .state .control .activity .program) (m .state .control .activity .erase))
-  unfolding wellFormed
-  simulated =
-      formed-own (geometry (m .state)) (m .state .buffer) (laws.sound (m .state .part)) (conditions (m .state)) (m .state .control .activity .setup) (m .state .control .activity .running) (m .state .control .activity .program) (m .state .control .activity .erase) refl
-      (and-true-l (activityFormed (geometry (m .state)) (m .state .control .activity)) _ (o .formed))
-
-  side-by-side : Together (m .state .control .activity .running) (m .state .control .activity .program) (m .state .control .activity .erase)
-  side-by-side = together (geometry (m .state)) (m .state .buffer) (m .state .control .activity .running) (m .state .control .activity .program) (m .state .control .activity .erase) (simulated .order)
+  simulated : Sim (geometry (m .state)) (conditions (m .state)) (underWay (m .state)) (ownOf (m .state))
+  simulated = formed-sim (m .state) (o .formed)
 
   left-here : (k : Followed) → leftIn k (m .state) ≡ lacks (geometry (m .state)) k (stack (underWay (m .state)))
-  left-here k = left-lacks (geometry (m .state)) (m .state .buffer) k (m .state .control .activity .running) (m .state .control .activity .program) (m .state .control .activity .erase) side-by-side
+  left-here k =
+      left-lacks (geometry (m .state)) (m .state .buffer) k (beside (m .state .control .activity .running) (m .state .control .activity .program) (m .state .control .activity .erase)
+      (together (geometry (m .state)) (m .state .buffer) (m .state .control .activity .running) (m .state .control .activity .program) (m .state .control .activity .erase) (simulated .order)))
 
   -- it is under way exactly where it lacks a unit
   lives-here : (k : Followed) → livesIn k (m .state) ≡ ltb 0 (leftIn k (m .state))

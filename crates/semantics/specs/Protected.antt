@@ -4,7 +4,7 @@ use mathlib.Core.Path.{_≡_, refl, sym, ap, _∙_, subst}
 use mathlib.Core.List.{List, [], _∷_, _++_}
 use mathlib.Core.Bool.{Bool, true, cond}
 use mathlib.Core.Logic.{inl, inr}
-use Prim.Native.Nat.{ℕ, _-_, _≤_, _<_}
+use Prim.Native.Nat.{ℕ, _-_, _<_}
 use native.Mathlib.Omega.{arith}
 use lib.ListN.{length, getD}
 use Rattle.geometry.specs.declared.Part.{Part}
@@ -18,7 +18,7 @@ use Rattle.semantics.specs.Layout.{only}
 use Rattle.semantics.specs.Steps.{afterAll, fresh}
 use Rattle.semantics.specs.Entries as entries
 use Rattle.semantics.specs.Entries.{Entry, entry, isFinished}
-use Rattle.semantics.specs.Recorder.{Operation, program, erase, buffer, base, len, put, kinds, blockIn, Recorder, beginning, recorded, journalOf}
+use Rattle.semantics.specs.Recorder.{Operation, program, erase, buffer, base, put, kinds, blockIn, Recorder, beginning, recorded, journalOf}
 use Rattle.semantics.specs.Demand.{ProtectionCommand, Holds, LastUnprotected, at-this, at-later}
 use Rattle.semantics.specs.Engine.{Lies, InK, buffer-in, Lying, After}
 use Rattle.semantics.specs.Theorem.{reached}

@@ -2,7 +2,7 @@
 -- applied in order of acceptance. The journal is drawn up from the steps alone (Recorder). Demand 3 whole is demand-3-whole of Standing.
 -- Assumes nothing.
 use mathlib.Core.Path.{_≡_, refl, sym, ap, _∙_}
-use mathlib.Core.List.{List, [], _∷_, foldl, reverse, reverseAux}
+use mathlib.Core.List.{List, [], _∷_, foldl, reverseAux}
 use mathlib.Core.Bool.{Bool, true, false, cond, _&&_}
 use Prim.Native.Nat.{ℕ, _+_, _-_, _≤_, _<_}
 use native.Mathlib.Omega.{arith}
@@ -24,12 +24,12 @@ use Rattle.semantics.specs.State.{runs}
 use Rattle.semantics.specs.Supplied.{runs-supply}
 use Rattle.semantics.specs.Reading.{readWord}
 use Rattle.semantics.specs.WellFormed.{wellFormed}
-use Rattle.semantics.specs.Steps.{Machine, after, afterAll, fresh}
+use Rattle.semantics.specs.Steps.{Machine, afterAll, fresh}
 use Rattle.semantics.specs.Entries as entries
 use Rattle.semantics.specs.Entries.{Entry, Live, isFinished}
-use Rattle.semantics.specs.Recorder.{Operation, program, erase, buffer, Recorder, beginning, recordedAll, journalOf, made, reading, applied, len, kinds}
+use Rattle.semantics.specs.Recorder.{Operation, program, erase, buffer, Recorder, beginning, recordedAll, journalOf, made, reading, applied, kinds}
 use Rattle.semantics.specs.Engine.{Matches, After}
-use Rattle.semantics.specs.Invariant.{wordsOf, Agree, agree-fresh, agree-all, agree-formed}
+use Rattle.semantics.specs.Invariant.{Agree, agree-fresh, agree-all, agree-formed}
 
 -- ---- what an entry makes of a word, and what its units do, are the same
 

@@ -7,7 +7,6 @@ use Prim.Native.Nat.{ℕ, _+_, _-_, _<_, min}
 use native.Mathlib.Omega.{arith}
 use lib.Dec.{ltb, eqb}
 use lib.Bits.{bitAnd}
-use lib.ListN.{getD}
 use borrow.Author.Tests.{ltb-true, ltb-false, eqb-true, eqb-false, eq-eqb, ne-eqb}
 use Rattle.geometry.specs.declared.Geometry.{Geometry}
 use Rattle.geometry.specs.Blocks.{sizeOf}
@@ -88,21 +87,21 @@ Together (running.Buffer l n d) (program.Buffer k v i) e = ⊥
 
 -- the same as the four ways in which they do
 pub data Beside : Running → SuspendedProgram → SuspendedErase → Type 0 where
-  idle : (p : SuspendedProgram) (e : SuspendedErase) → Beside running.Idle p e
-  word : (l w : ℕ) (e : SuspendedErase) → Beside (running.Program l w) program.Nothing e
-  words : (l n d : ℕ) (e : SuspendedErase) → Beside (running.Buffer l n d) program.Nothing e
-  block : (b n : ℕ) → Beside (running.Erase b n) program.Nothing erase.Nothing
+  none-runs : (p : SuspendedProgram) (e : SuspendedErase) → Beside running.Idle p e
+  program-runs : (l w : ℕ) (e : SuspendedErase) → Beside (running.Program l w) program.Nothing e
+  buffer-runs : (l n d : ℕ) (e : SuspendedErase) → Beside (running.Buffer l n d) program.Nothing e
+  erase-runs : (b n : ℕ) → Beside (running.Erase b n) program.Nothing erase.Nothing
 
 pub beside : (r : Running) (p : SuspendedProgram) (e : SuspendedErase) → Together r p e → Beside r p e
-beside running.Idle p e m = idle p e
-beside (running.Program l w) program.Nothing e m = word l w e
+beside running.Idle p e m = none-runs p e
+beside (running.Program l w) program.Nothing e m = program-runs l w e
 beside (running.Program l w) (program.Program k v) e m = absurd m
 beside (running.Program l w) (program.Buffer k v d) e m = absurd m
-beside (running.Erase b n) program.Nothing erase.Nothing m = block b n
+beside (running.Erase b n) program.Nothing erase.Nothing m = erase-runs b n
 beside (running.Erase b n) program.Nothing (erase.Erase c k) m = absurd m
 beside (running.Erase b n) (program.Program k v) e m = absurd m
 beside (running.Erase b n) (program.Buffer k v d) e m = absurd m
-beside (running.Buffer l n d) program.Nothing e m = words l n d e
+beside (running.Buffer l n d) program.Nothing e m = buffer-runs l n d e
 beside (running.Buffer l n d) (program.Program k v) e m = absurd m
 beside (running.Buffer l n d) (program.Buffer k v i) e m = absurd m
 
