@@ -14,7 +14,7 @@ use Rattle.geometry.specs.declared.Geometry.{Geometry}
 use Rattle.geometry.specs.Laws as laws
 use Rattle.geometry.specs.Blocks.{Sound, words, location, blockOf, startOf, sizeOf}
 use Rattle.semantics.specs.declared.Step.{Step}
-use Rattle.semantics.specs.Branches.{of-cond, by-cond}
+use Rattle.semantics.specs.Branches.{by-cond}
 pub use Rattle.semantics.specs.Tests.{or-false-l, or-false-r, and-true-l, and-true-r, not-true, not-false, or-lone}
 use Rattle.semantics.specs.Layout.{inside, only}
 use Rattle.semantics.specs.Entries as entries
@@ -252,15 +252,13 @@ module _ (g : Geometry) where
   ready-unsupplied s (engine false l) y = y
   ready-unsupplied s (engine true l) y = ready-run s _ _ _ y
 
-  inside-resting : (r : Bool) (s : List (Live Operation)) → Inside s → Inside (resting r s)
-  inside-resting false s x = x
-  inside-resting true [] x = x
-  inside-resting true (live k u ∷ s) x = x .1
-
-  inside-work : (n : ℕ) (e : Engine) → Inside (stack e) → Inside (stack (engine-worked g n e))
-  inside-work n (engine false s) x = x
-  inside-work n (engine true []) x = x
-  inside-work n (engine true (live k u ∷ s)) x = of-cond (λ (e : Engine). Inside (stack e)) (eqb (entries.given (kinds g) k u n) (len g k)) _ _ (x .1) x
+  -- where the journal lies in the array, so does what is under way
+  match-inside : {r : Bool} {s : List (Live Operation)} {j : List (Entry Operation)} → Matches r s j → Lying j → Inside s
+  match-inside entries.start x = tt
+  match-inside (entries.done k u e a m) x = match-inside m (x .1)
+  match-inside (entries.lost k u e a m) x = match-inside m (x .1)
+  match-inside (entries.runs k u e a m) x = (x .0, match-inside m (x .1))
+  match-inside (entries.waits k u e a m) x = (x .0, match-inside m (x .1))
 
   -- a journal whose entries keep their operations lies where it lay
   lying-map : (f : Entry Operation → Entry Operation) → ((k : Operation) (u : ℕ) (t : entries.Phase) → operation-of g (f (entry k u t)) ≡ k) → (j : List (Entry Operation)) → Lying j → Lying (map f j)
@@ -305,29 +303,24 @@ module _ (g : Geometry) where
       ready : Ready g (o .conditions .setup) (busy e) (held? e)
       ready = rw (o .pending) at (s .ready)
 
+      sim : (v : Event) → Added (changes g v .0) → Fit (engine-after g v e) (journal-after g v j) → Ready g (conditions-after v d .setup) (busy (engine-after g v e)) (held? (engine-after g v e))
+          → Sim (conditions-after v d) (engine-after g v e) (journal-after g v j)
+      sim v a f y = let l = lying-after v a j (s .lying) in record { match = f .0; order = f .1; inside = match-inside (f .0) l; lying = l; ready = y }
+
       go : (v : Event) → Cause g (o .conditions) (busy e) (held? e) (o .step) v → Sim (conditions-after v d) (engine-after g v e) (journal-after g v j)
       go v by-nothing = s
-      go v (by-supply true z) = record { match = s .match; order = s .order; inside = s .inside; lying = s .lying; ready = s .ready }
-      go v (by-supply false z) =
-          record { match = match-unsupplied e j (s .match); order = order-resting (busy e) (stack e) (s .order); inside = inside-resting (busy e) (stack e) (s .inside); lying = lying-after (supplied false) tt j (s .lying); ready = ready-unsupplied (d .setup) e (s .ready) }
-      go v (by-reset z) = record { match = entries.match-all-broken (kinds g) (s .match); order = tt; inside = tt; lying = lying-after was-reset tt j (s .lying); ready = tt }
-      go v (by-work n z) =
-          let f = fit-work n e j (s .match, s .order) in
-          record { match = f .0; order = f .1; inside = inside-work n e (s .inside); lying = lying-after (units n) tt j (s .lying); ready = ready-work n (d .setup) e (s .ready) }
-      go v (by-suspend z) = record { match = match-suspend e j (s .match); order = s .order; inside = s .inside; lying = lying-after suspend tt j (s .lying); ready = none z _ _ }
-      go v (by-resume-program z x y) =
-          record { match = match-resume isProgram e j x (program-top e x y (s .order)) (s .match); order = s .order; inside = s .inside; lying = lying-after resume-program tt j (s .lying); ready = none z _ _ }
-      go v (by-resume-erase z x y w) =
-          record { match = match-resume isErase e j x (erase-top e x y w (s .order)) (s .match); order = s .order; inside = s .inside; lying = lying-after resume-erase tt j (s .lying); ready = none z _ _ }
-      go v (by-end-program i z x y) =
-          record { match = match-end isProgram e j x (program-top e x y (s .order)) (s .match); order = order-resting true (stack e) (s .order); inside = inside-resting true (stack e) (s .inside); lying = lying-after end-program tt j (s .lying); ready = none z _ _ }
-      go v (by-end-erase i z x y w) =
-          record { match = match-end isErase e j x (erase-top e x y w (s .order)) (s .match); order = order-resting true (stack e) (s .order); inside = inside-resting true (stack e) (s .inside); lying = lying-after end-erase tt j (s .lying); ready = none z _ _ }
-      go v (by-setup t f) = record { match = s .match; order = s .order; inside = s .inside; lying = s .lying; ready = f sound ready }
-      go v (by-protection b p x) = record { match = s .match; order = s .order; inside = s .inside; lying = s .lying; ready = tt }
-      go v (by-accept k a w z x y) =
-          let f = accepted-fits sound (o .conditions .setup) e j k a w x ready (y .2) (s .match, s .order) in
-          record { match = f .1 .0; order = f .1 .1; inside = (f .0, s .inside); lying = (f .0, s .lying); ready = tt }
+      go v (by-supply true z) = sim (supplied true) tt (s .match, s .order) (s .ready)
+      go v (by-supply false z) = sim (supplied false) tt (match-unsupplied e j (s .match), order-resting (busy e) (stack e) (s .order)) (ready-unsupplied (d .setup) e (s .ready))
+      go v (by-reset z) = sim was-reset tt (entries.match-all-broken (kinds g) (s .match), tt) tt
+      go v (by-work n z) = sim (units n) tt (fit-work n e j (s .match, s .order)) (ready-work n (d .setup) e (s .ready))
+      go v (by-suspend z) = sim suspend tt (match-suspend e j (s .match), s .order) (none z _ _)
+      go v (by-resume-program z x y) = sim resume-program tt (match-resume isProgram e j x (program-top e x y (s .order)) (s .match), s .order) (none z _ _)
+      go v (by-resume-erase z x y w) = sim resume-erase tt (match-resume isErase e j x (erase-top e x y w (s .order)) (s .match), s .order) (none z _ _)
+      go v (by-end-program i z x y) = sim end-program tt (match-end isProgram e j x (program-top e x y (s .order)) (s .match), order-resting true (stack e) (s .order)) (none z _ _)
+      go v (by-end-erase i z x y w) = sim end-erase tt (match-end isErase e j x (erase-top e x y w (s .order)) (s .match), order-resting true (stack e) (s .order)) (none z _ _)
+      go v (by-setup t f) = sim (setup-is t) tt (s .match, s .order) (f sound ready)
+      go v (by-protection b p x) = sim (unprotected-is b p) tt (s .match, s .order) tt
+      go v (by-accept k a w z x y) = let f = accepted-fits sound (o .conditions .setup) e j k a w x ready (y .2) (s .match, s .order) in sim (accept k) (f .0) (f .1) tt
 
   -- ---- the words keep up with the journal
 
