@@ -33,7 +33,7 @@ module _ (g : Geometry) where
       go (adds i) (inl y) = inr (ap accept (sym (y .0)), y .1)
       go (adds i) (inr y) = inl y
       go (works m) y = inl (holds-map k n (worked (kinds g) m) (λ i u t. refl) j y)
-      go (rephases v f h q) y = inl (holds-map k n f (λ i u t. ap (operation-of g) (h i u t)) j (rw (q j) at y))
+      go (rephases v f h q) y = inl (holds-map k n f (λ i u t. ap (operation-of g) (h i u t .0)) j (rw (q j) at y))
 
   -- ---- where an operation was accepted: the steps before, the write, and the steps after; c is the recorder before them all
 

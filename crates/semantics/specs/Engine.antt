@@ -276,7 +276,7 @@ module _ (g : Geometry) where
       go : {v : Event} (c : OnJournal g v) → Added c → Lying (journal-after g v j)
       go (adds k) a = (a, x)
       go (works n) a = lying-map (entries.worked (kinds g) n) (λ k u t. refl) j x
-      go (rephases v f h q) a = rw (q j) (lying-map f (λ k u t. ap (operation-of g) (h k u t)) j x)
+      go (rephases v f h q) a = rw (q j) (lying-map f (λ k u t. ap (operation-of g) (h k u t .0)) j x)
 
   -- an operation that is accepted lies in the array and fits
   accepted-fits : (sound : Sound g) (c : Setup) (e : Engine) (j : List (Entry Operation)) (k : Operation) (a w : ℕ) → AcceptingCycle g c a w k → Ready g c (busy e) (held? e)

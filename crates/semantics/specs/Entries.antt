@@ -8,6 +8,7 @@ use Prim.Native.Nat.{ℕ, _+_, _-_, _≤_, _<_, min}
 use native.Mathlib.Omega.{arith}
 use lib.Dec.{leb, eqb}
 use borrow.Author.Tests.{leb-true, leb-false, eq-eqb, ne-eqb}
+use Rattle.semantics.specs.Branches.{of-cond}
 use Rattle.semantics.specs.Numbers.{within, within-in, within-out, within-true, within-false}
 
 -- "whether it is running, suspended, finished or broken off"
@@ -122,9 +123,29 @@ module _ (κ : Kinds) where
   abbrev pub phaseOf : Entry K → Phase
   phaseOf (entry k u t) = t
 
-  -- a change of the phase alone
+  -- a change of the phase alone, which finishes none and leaves the finished
   abbrev pub Rephases : (Entry K → Entry K) → Type 0
-  Rephases f = (k : K) (u : ℕ) (t : Phase) → f (entry k u t) ≡ entry k u (phaseOf (f (entry k u t)))
+  Rephases f = (k : K) (u : ℕ) (t : Phase) → (f (entry k u t) ≡ entry k u (phaseOf (f (entry k u t)))) × (isFinished (phaseOf (f (entry k u t))) ≡ isFinished t)
+
+  by-phase : (f : Phase → Phase) → isFinished (f running) ≡ false → isFinished (f suspended) ≡ false → isFinished (f finished) ≡ true → isFinished (f broken-off) ≡ false
+      → (t : Phase) → isFinished (f t) ≡ isFinished t
+  by-phase f w x y z running = w
+  by-phase f w x y z suspended = x
+  by-phase f w x y z finished = y
+  by-phase f w x y z broken-off = z
+
+  pub paused-rephases : Rephases paused
+  paused-rephases k u t = (refl, by-phase (λ s. phaseOf (paused (entry k u s))) refl refl refl refl t)
+
+  pub resumed-rephases : (p : K → Bool) → Rephases (resumed p)
+  resumed-rephases p k u t = (refl, by-phase (λ s. phaseOf (resumed p (entry k u s))) refl (of-cond (λ (x : Phase). isFinished x ≡ false) (p k) running suspended refl refl) refl refl t)
+
+  pub broken-rephases : (r : Bool) (p : K → Bool) → Rephases (brokenOff r p)
+  broken-rephases r p k u t = (
+    refl,
+    by-phase (λ s. phaseOf (brokenOff r p (entry k u s))) (of-cond (λ (x : Phase). isFinished x ≡ false) r broken-off running refl refl)
+        (of-cond (λ (x : Phase). isFinished x ≡ false) (p k) broken-off suspended refl refl) refl refl t,
+  )
 
   -- no operation is of no kind
   pub none-live : (s : List (Live K)) → None (λ k. false) s
@@ -246,7 +267,7 @@ module _ (κ : Kinds) where
   -- a change of phase alone leaves the words
   pub after-rephased : (f : Entry K → Entry K) → Rephases f → (j : List (Entry K)) (L w : ℕ) → after (map f j) L w ≡ after j L w
   after-rephased f h [] L w = refl
-  after-rephased f h (entry k u t ∷ j) L w = ap (λ (e : Entry K). applied e L (after (map f j) L w)) (h k u t) ∙ ap (λ (x : ℕ). effect k u L x) (after-rephased f h j L w)
+  after-rephased f h (entry k u t ∷ j) L w = ap (λ (e : Entry K). applied e L (after (map f j) L w)) (h k u t .0) ∙ ap (λ (x : ℕ). effect k u L x) (after-rephased f h j L w)
 
   -- units on words that an entry does not cover make the same before the entry as after it
   advanced-past : (k k′ : K) (u u′ n L w : ℕ) → u + n ≤ len k → u′ ≤ len k′ → (In k′ L → In k L → ⊥)

@@ -2,7 +2,7 @@
 -- journal of its own, and so rests on what is proved of the journal.
 -- Assumes nothing.
 use mathlib.Core.Path.{_≡_, refl, sym, ap, _∙_, subst₂}
-use mathlib.Core.List.{List, []}
+use mathlib.Core.List.{List}
 use mathlib.Core.Bool.{Bool, true, false, _&&_}
 use Prim.Native.Nat.{ℕ}
 use lib.Dec.{eqb}
@@ -19,7 +19,8 @@ use Rattle.semantics.specs.WellFormed.{wellFormed, activityFormed, place
 use Rattle.semantics.specs.Steps.{stateRefusal, firstRefusal, refusalOf, stepOf, arrayOf}
 use Rattle.semantics.specs.Entries.{Entry}
 use Rattle.semantics.specs.Recorder.{Operation, Event, journal-after}
-use Rattle.semantics.specs.Engine.{busy, held?, Sim, rule-ok, sim-do, and-true-l, and-true-r}
+use Rattle.semantics.specs.Tests.{and-true-l, and-true-r}
+use Rattle.semantics.specs.Engine.{busy, held?, Sim, rule-ok, sim-do}
 use Rattle.semantics.specs.Follows.{conditions, underWay, eventOf}
 use Rattle.semantics.specs.Formed.{formed, own, formed-own}
 use Rattle.semantics.specs.Invariant.{Steps, Fit, Kept, steps, spared-step, state-good, kept-step, agree-fit}
