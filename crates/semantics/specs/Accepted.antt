@@ -1,4 +1,5 @@
--- Every entry of the journal was accepted at a write that is its accepting cycle, with supply on and its block unprotected as the recorder has it. Assumes nothing.
+-- Every entry of the journal was accepted at a write that is its accepting cycle, with supply on and its block
+-- unprotected as the recorder has it. Assumes nothing.
 use mathlib.Core.Path.{_≡_, refl, sym, ap, _∙_}
 use mathlib.Core.List.{List, [], _∷_, _++_, map}
 use mathlib.Core.Bool.{true}

@@ -1,4 +1,5 @@
--- Why an event is a step's own: what the recorder's rule has tested where it comes to an event. Only this file goes through the rule's cases.
+-- Why an event is a step's own: what the recorder's rule has tested where it comes to an event. The laws of what an
+-- event is go by it, and not through the rule's cases again.
 -- Assumes nothing.
 use mathlib.Core.Path.{_≡_, refl, _∙_, subst}
 use mathlib.Core.List.{List}

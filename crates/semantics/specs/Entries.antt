@@ -173,7 +173,8 @@ module _ (κ : Kinds) where
     waits : {s : List (Live K)} {j : List (Entry K)} (k : K) (u : ℕ) → u < len k → Apart k s → Match false s j
         → Match false (live k u ∷ s) (entry k u suspended ∷ j)
 
-  -- what holds of the empty journal, and of a journal with one more entry that is whole or not, holds of every journal that matches
+  -- what holds of the empty journal, and of a journal with one more entry that is whole or not, holds of every journal
+  -- that matches
   pub match-each : (P : List (Entry K) → Type 0) → P [] → ((k : K) (u : ℕ) (t : Phase) (j : List (Entry K)) → Whole k (isFinished t) u → P j → P (entry k u t ∷ j))
       → {r : Bool} {s : List (Live K)} {j : List (Entry K)} → Match r s j → P j
   match-each P x f start = x
@@ -201,7 +202,8 @@ module _ (κ : Kinds) where
   apart-effect : (k : K) (u L w : ℕ) → u ≤ len k → (In k L → ⊥) → effect k u L w ≡ w
   apart-effect k u L w h n = rw (within-out (base k) u L (λ a b. n (a, omega arith)))
 
-  -- what leaves each entry that is over, and each suspended one that is not p, leaves a journal in which nothing runs and none that is p is suspended
+  -- what leaves each entry that is over, and each suspended one that is not p, leaves a journal in which nothing runs
+  -- and none that is p is suspended
   idle : (f : Entry K → Entry K) (p : K → Bool) → ((k : K) (u : ℕ) → f (entry k u finished) ≡ entry k u finished) → ((k : K) (u : ℕ) → f (entry k u broken-off) ≡ entry k u broken-off)
       → ((k : K) (u : ℕ) → p k ≡ false → f (entry k u suspended) ≡ entry k u suspended) → {s : List (Live K)} {j : List (Entry K)} → None p s → Match false s j → map f j ≡ j
   idle f p x y z h start = refl

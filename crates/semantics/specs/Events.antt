@@ -1,5 +1,6 @@
--- What each of the recorder's events changes, in one list, which every walk over the events goes by. Of the journal an event adds an entry, works on it, or changes phases alone; of
--- supply and protection it switches the supply, resets, protects or unprotects a block, or leaves both. Assumes nothing.
+-- What each of the recorder's events changes, in one list, which every walk over the events goes by. Of the journal an
+-- event adds an entry, works on it, or changes phases alone; of supply and protection it switches the supply, resets,
+-- protects or unprotects a block, or leaves both. Assumes nothing.
 use mathlib.Core.Path.{_≡_, refl, ap, _∙_}
 use mathlib.Core.List.{List, [], _∷_, map}
 use mathlib.Core.Bool.{Bool, true, false}

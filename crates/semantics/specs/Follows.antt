@@ -1,5 +1,5 @@
--- The device goes, in what bears on the array, by the recorder's rules: each of its writes is one event of the recorder on what is under way. Only
--- this file goes through the cycles of both.
+-- The device goes, in what bears on the array, by the recorder's rules: each of its writes is one event of the recorder
+-- on what is under way. Only this file goes through the cycles of both.
 -- Assumes nothing.
 use mathlib.Core.Path.{_≡_, refl, sym, ap, _∙_, fun-ext}
 use mathlib.Core.List.{List}

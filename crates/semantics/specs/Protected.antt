@@ -1,4 +1,5 @@
--- A block that no step unprotected keeps its words (protected-keeps): every entry lies in one block, and was accepted with that block unprotected.
+-- A block that no step unprotected keeps its words (protected-keeps): every entry lies in one block, and was accepted
+-- with that block unprotected.
 -- Assumes nothing.
 use mathlib.Core.Path.{_≡_, refl, sym, ap, _∙_, subst}
 use mathlib.Core.List.{List, [], _∷_, _++_}

@@ -49,8 +49,10 @@ module _ (g : Geometry) where
   abbrev pub kinds : Kinds
   kinds = record { K = Operation; base = base; len = len; put = put }
 
-  -- what an operation that received u units, finished or not, makes of the word x at location L. Demand 3: "Finished program: data anded in; unfinished: nothing. Finished erase:
-  -- FFFFh; unfinished: FFFFh in as many of the block's lowest words as it had units." Document 02, item 1: "an unfinished one has reached as many of its lowest as it had units"
+  -- what an operation that received u units, finished or not, makes of the word x at location L. Demand 3: "Finished
+  -- program: data anded in; unfinished: nothing. Finished erase: FFFFh; unfinished: FFFFh in as many of the block's
+  -- lowest words as it had units." Document 02, item 1: "an unfinished one has reached as many of its lowest as it had
+  -- units"
   abbrev pub made : Operation → Bool → ℕ → ℕ → ℕ → ℕ
   made (program l w) true u L x = cond (eqb L l) (bitAnd x w) x
   made (program l w) false u L x = x

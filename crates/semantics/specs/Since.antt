@@ -1,5 +1,5 @@
--- What the recorder holds of supply and of a block's protection, said of the steps: the last step that switched the supply, and the last protection command for the block since
--- power-up or the last reset. Both ways. Assumes nothing.
+-- What the recorder holds of supply and of a block's protection, said of the steps: the last step that switched the
+-- supply, and the last protection command for the block since power-up or the last reset. Both ways. Assumes nothing.
 use mathlib.Core.Path.{_≡_, refl, sym, ap, _∙_, subst}
 use mathlib.Core.List.{List, [], _∷_, _++_}
 use mathlib.Core.Bool.{Bool, true, false, true≢false, false≢true}

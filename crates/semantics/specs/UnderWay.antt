@@ -1,5 +1,5 @@
--- The device as the recorder would see it: its conditions, and what is under way as a stack. The stack answers as the device does, and moves as it does by work and where the supply
--- goes off. Assumes nothing.
+-- The device as the recorder would see it: its conditions, and what is under way as a stack. The stack answers as the
+-- device does, and moves as it does by work and where the supply goes off. Assumes nothing.
 use mathlib.Core.Path.{_≡_, refl, sym, ap, _∙_}
 use mathlib.Core.List.{List, [], _∷_}
 use mathlib.Core.Bool.{Bool, true, false, cond, _&&_, _||_, or-false}
