@@ -9,7 +9,7 @@ use lib.ListN.{length, getD, drop, length-drop, drop-of-length-le}
 use lib.Seq.{drop-cons, drop-drop, getD-drop}
 use native.Mathlib.Numerals.{add-one}
 use borrow.Author.Tests.{ltb-true}
-use Rattle.semantics.specs.Engine.{and-true-l, and-true-r, or-false-l, or-false-r}
+use Rattle.semantics.specs.Tests.{and-true-l, and-true-r, or-false-l, or-false-r}
 use Rattle.semantics.specs.Numbers.{within, within-true}
 use Rattle.hex.specs.declared.Verdict.{Verdict}
 use Rattle.hex.specs.Records.{digit, allDigits, pairs, bytes, total, count, offset, kind, isEnd, shaped, otherType, upperAfter, recordLines, recordRefusal, refusalFrom, linesFrom}

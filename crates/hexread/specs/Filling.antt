@@ -8,7 +8,7 @@ use lib.Dec.{eqb, ltb}
 use lib.ListN.{length, getD, set, take, drop, length-set, drop-of-length-le}
 use borrow.Author.Tests.{eq-eqb, ne-eqb, eqb-true, ltb-true, ltb-false, not-false}
 use Rattle.lines.specs.declared.Taken.{Taken}
-use Rattle.semantics.specs.Engine.{or-false-l, and-true-l, and-true-r}
+use Rattle.semantics.specs.Tests.{or-false-l, and-true-l, and-true-r}
 use Rattle.semantics.specs.Tabulate.{length-tabulate}
 use Rattle.hex.specs.Records.{digit, allDigits, pairs, bytes, count, offset, kind, dataOf, isEnd, otherType, upperAfter, wordAfter, recordLines, recordRefusal, refusalFrom, Named, namedFrom, namedBy, named, wordsAfter, size}
 use Rattle.hex.specs.Bytes.{Small, small-none, small-cons, small-take, small-drop}

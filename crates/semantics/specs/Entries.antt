@@ -3,16 +3,36 @@
 -- Assumes nothing.
 use mathlib.Core.Path.{_≡_, refl, ap, _∙_}
 use mathlib.Core.List.{List, [], _∷_, map}
-use mathlib.Core.Bool.{Bool, true, false, cond, _||_}
-use Prim.Native.Nat.{ℕ, zero, suc, _+_, _-_, _≤_, _<_, min}
+use mathlib.Core.Bool.{Bool, true, false, cond, _&&_, _||_}
+use Prim.Native.Nat.{ℕ, _+_, _-_, _≤_, _<_, min}
 use native.Mathlib.Omega.{arith}
 use lib.Dec.{leb, eqb}
 use borrow.Author.Tests.{leb-true, leb-false, eq-eqb, ne-eqb}
+use Rattle.semantics.specs.Branches.{of-cond}
 use Rattle.semantics.specs.Numbers.{within, within-in, within-out, within-true, within-false}
 
 -- "whether it is running, suspended, finished or broken off"
 pub data Phase : Type 0 where
   running suspended finished broken-off : Phase
+
+abbrev pub isRunning : Phase → Bool
+isRunning running = true
+isRunning suspended = false
+isRunning finished = false
+isRunning broken-off = false
+
+abbrev pub isSuspended : Phase → Bool
+isSuspended running = false
+isSuspended suspended = true
+isSuspended finished = false
+isSuspended broken-off = false
+
+-- "All but the finished are unfinished."
+abbrev pub isFinished : Phase → Bool
+isFinished running = false
+isFinished suspended = false
+isFinished finished = true
+isFinished broken-off = false
 
 -- an operation that was accepted, the units that it received, and its phase
 pub data Entry (K : Type 0) : Type 0 where
@@ -25,48 +45,27 @@ pub data Live (K : Type 0) : Type 0 where
 module _ {K : Type 0} where
   -- what suspension, and resumption of those that are p, make of an entry
   abbrev pub paused : Entry K → Entry K
-  paused (entry k u running) = entry k u suspended
-  paused (entry k u suspended) = entry k u suspended
-  paused (entry k u finished) = entry k u finished
-  paused (entry k u broken-off) = entry k u broken-off
+  paused (entry k u t) = entry k u (cond (isRunning t) suspended t)
 
   abbrev pub resumed : (K → Bool) → Entry K → Entry K
-  resumed p (entry k u running) = entry k u running
-  resumed p (entry k u suspended) = entry k u (cond (p k) running suspended)
-  resumed p (entry k u finished) = entry k u finished
-  resumed p (entry k u broken-off) = entry k u broken-off
+  resumed p (entry k u t) = entry k u (cond (isSuspended t && p k) running t)
 
   -- what runs is broken off where r is true, and what is suspended where it is p
   abbrev pub brokenOff : Bool → (K → Bool) → Entry K → Entry K
-  brokenOff r p (entry k u running) = entry k u (cond r broken-off running)
-  brokenOff r p (entry k u suspended) = entry k u (cond (p k) broken-off suspended)
-  brokenOff r p (entry k u finished) = entry k u finished
-  brokenOff r p (entry k u broken-off) = entry k u broken-off
+  brokenOff r p (entry k u t) = entry k u (cond (cond (isRunning t) r (isSuspended t && p k)) broken-off t)
 
   abbrev pub None : (K → Bool) → List (Live K) → Type 0
   None p [] = Unit {0}
   None p (live k u ∷ s) = (p k ≡ false) × None p s
 
   -- what the journal alone says of what is under way
-  abbrev pub isRunning : Entry K → Bool
-  isRunning (entry k u running) = true
-  isRunning (entry k u suspended) = false
-  isRunning (entry k u finished) = false
-  isRunning (entry k u broken-off) = false
-
-  abbrev pub isSuspended : (K → Bool) → Entry K → Bool
-  isSuspended p (entry k u running) = false
-  isSuspended p (entry k u suspended) = p k
-  isSuspended p (entry k u finished) = false
-  isSuspended p (entry k u broken-off) = false
-
   abbrev pub anyRuns : List (Entry K) → Bool
   anyRuns [] = false
-  anyRuns (e ∷ j) = isRunning e || anyRuns j
+  anyRuns (entry k u t ∷ j) = isRunning t || anyRuns j
 
   abbrev pub anySuspended : (K → Bool) → List (Entry K) → Bool
   anySuspended p [] = false
-  anySuspended p (e ∷ j) = isSuspended p e || anySuspended p j
+  anySuspended p (entry k u t ∷ j) = (isSuspended t && p k) || anySuspended p j
 
   abbrev pub anyLive : (K → Bool) → List (Live K) → Bool
   anyLive p [] = false
@@ -117,10 +116,50 @@ module _ (κ : Kinds) where
   given k u n = u + min n (len k - u)
 
   abbrev pub worked : ℕ → Entry K → Entry K
-  worked n (entry k u running) = entry k (given k u n) (cond (eqb (given k u n) (len k)) finished running)
-  worked n (entry k u suspended) = entry k u suspended
-  worked n (entry k u finished) = entry k u finished
-  worked n (entry k u broken-off) = entry k u broken-off
+  worked n (entry k u t) = entry k (cond (isRunning t) (given k u n) u) (cond (isRunning t && eqb (given k u n) (len k)) finished t)
+
+  -- ---- the laws
+
+  abbrev pub phaseOf : Entry K → Phase
+  phaseOf (entry k u t) = t
+
+  -- a change of the phase alone, which finishes none and leaves the finished
+  abbrev pub Rephases : (Entry K → Entry K) → Type 0
+  Rephases f = (k : K) (u : ℕ) (t : Phase) → (f (entry k u t) ≡ entry k u (phaseOf (f (entry k u t)))) × (isFinished (phaseOf (f (entry k u t))) ≡ isFinished t)
+
+  by-phase : (f : Phase → Phase) → isFinished (f running) ≡ false → isFinished (f suspended) ≡ false → isFinished (f finished) ≡ true → isFinished (f broken-off) ≡ false
+      → (t : Phase) → isFinished (f t) ≡ isFinished t
+  by-phase f w x y z running = w
+  by-phase f w x y z suspended = x
+  by-phase f w x y z finished = y
+  by-phase f w x y z broken-off = z
+
+  pub paused-rephases : Rephases paused
+  paused-rephases k u t = (refl, by-phase (λ s. phaseOf (paused (entry k u s))) refl refl refl refl t)
+
+  pub resumed-rephases : (p : K → Bool) → Rephases (resumed p)
+  resumed-rephases p k u t = (refl, by-phase (λ s. phaseOf (resumed p (entry k u s))) refl (of-cond (λ (x : Phase). isFinished x ≡ false) (p k) running suspended refl refl) refl refl t)
+
+  pub broken-rephases : (r : Bool) (p : K → Bool) → Rephases (brokenOff r p)
+  broken-rephases r p k u t = (
+    refl,
+    by-phase (λ s. phaseOf (brokenOff r p (entry k u s))) (of-cond (λ (x : Phase). isFinished x ≡ false) r broken-off running refl refl)
+        (of-cond (λ (x : Phase). isFinished x ≡ false) (p k) broken-off suspended refl refl) refl refl t,
+  )
+
+  -- no operation is of no kind
+  pub none-live : (s : List (Live K)) → None (λ k. false) s
+  none-live [] = tt
+  none-live (live k u ∷ s) = (refl, none-live s)
+
+  -- what its being finished, or not, says of an operation's units
+  abbrev pub Whole : K → Bool → ℕ → Type 0
+  Whole k true u = u ≡ len k
+  Whole k false u = u < len k
+
+  pub whole-le : (k : K) (t : Bool) (u : ℕ) → Whole k t u → u ≤ len k
+  whole-le k true u e = omega arith
+  whole-le k false u e = omega arith
 
   -- r: the newest live operation runs. s: the live operations, newest first. j: the journal.
   pub data Match : Bool → List (Live K) → List (Entry K) → Type 0 where
@@ -133,6 +172,16 @@ module _ (κ : Kinds) where
         → Match true (live k u ∷ s) (entry k u running ∷ j)
     waits : {s : List (Live K)} {j : List (Entry K)} (k : K) (u : ℕ) → u < len k → Apart k s → Match false s j
         → Match false (live k u ∷ s) (entry k u suspended ∷ j)
+
+  -- what holds of the empty journal, and of a journal with one more entry that is whole or not, holds of every journal
+  -- that matches
+  pub match-each : (P : List (Entry K) → Type 0) → P [] → ((k : K) (u : ℕ) (t : Phase) (j : List (Entry K)) → Whole k (isFinished t) u → P j → P (entry k u t ∷ j))
+      → {r : Bool} {s : List (Live K)} {j : List (Entry K)} → Match r s j → P j
+  match-each P x f start = x
+  match-each P x f (done k u e a m) = f k u finished _ e (match-each P x f m)
+  match-each P x f (lost k u e a m) = f k u broken-off _ e (match-each P x f m)
+  match-each P x f (runs k u e a m) = f k u running _ e (match-each P x f m)
+  match-each P x f (waits k u e a m) = f k u suspended _ e (match-each P x f m)
 
   -- one more run of units, seen from a single entry
   grow : (k : K) (u n L w : ℕ) → effect k (u + n) L w ≡ cond (within (base k + u) n L) (put k (L - base k) (effect k u L w)) (effect k u L w)
@@ -153,12 +202,26 @@ module _ (κ : Kinds) where
   apart-effect : (k : K) (u L w : ℕ) → u ≤ len k → (In k L → ⊥) → effect k u L w ≡ w
   apart-effect k u L w h n = rw (within-out (base k) u L (λ a b. n (a, omega arith)))
 
-  -- where nothing runs, work changes no entry
+  -- what leaves each entry that is over, and each suspended one that is not p, leaves a journal in which nothing runs
+  -- and none that is p is suspended
+  idle : (f : Entry K → Entry K) (p : K → Bool) → ((k : K) (u : ℕ) → f (entry k u finished) ≡ entry k u finished) → ((k : K) (u : ℕ) → f (entry k u broken-off) ≡ entry k u broken-off)
+      → ((k : K) (u : ℕ) → p k ≡ false → f (entry k u suspended) ≡ entry k u suspended) → {s : List (Live K)} {j : List (Entry K)} → None p s → Match false s j → map f j ≡ j
+  idle f p x y z h start = refl
+  idle f p x y z h (done k u e a m) = rw (x k u, idle f p x y z h m)
+  idle f p x y z h (lost k u e a m) = rw (y k u, idle f p x y z h m)
+  idle f p x y z h (waits k u e a m) = rw (z k u (h .0), idle f p x y z (h .1) m)
+
   pub idle-worked : (n : ℕ) {s : List (Live K)} {j : List (Entry K)} → Match false s j → map (worked n) j ≡ j
-  idle-worked n start = refl
-  idle-worked n (done k u e a m) = ap (λ (l : List (Entry K)). entry k u finished ∷ l) (idle-worked n m)
-  idle-worked n (lost k u e a m) = ap (λ (l : List (Entry K)). entry k u broken-off ∷ l) (idle-worked n m)
-  idle-worked n (waits k u e a m) = ap (λ (l : List (Entry K)). entry k u suspended ∷ l) (idle-worked n m)
+  idle-worked n {s = s} m = idle (worked n) (λ k. false) (λ k u. refl) (λ k u. refl) (λ k u h. refl) (none-live s) m
+
+  pub idle-paused : {s : List (Live K)} {j : List (Entry K)} → Match false s j → map paused j ≡ j
+  idle-paused {s = s} m = idle paused (λ k. false) (λ k u. refl) (λ k u. refl) (λ k u h. refl) (none-live s) m
+
+  idle-resumed : (p : K → Bool) {s : List (Live K)} {j : List (Entry K)} → None p s → Match false s j → map (resumed p) j ≡ j
+  idle-resumed p n m = idle (resumed p) p (λ k u. refl) (λ k u. refl) (λ k u h. rw h) n m
+
+  pub idle-broken : (b : Bool) (p : K → Bool) {s : List (Live K)} {j : List (Entry K)} → None p s → Match false s j → map (brokenOff b p) j ≡ j
+  idle-broken b p n m = idle (brokenOff b p) p (λ k u. refl) (λ k u. refl) (λ k u h. rw h) n m
 
   -- work that leaves the running operation unfinished
   pub match-more : (n : ℕ) {k : K} {u : ℕ} {s : List (Live K)} {j : List (Entry K)} → given k u n < len k → Match true (live k u ∷ s) j
@@ -176,22 +239,10 @@ module _ (κ : Kinds) where
   match-done n h (runs k u e a m) =
       rw (eq-eqb (given k u n) (len k) h, idle-worked n m) (done k (given k u n) h a m)
 
-  pub idle-paused : {s : List (Live K)} {j : List (Entry K)} → Match false s j → map paused j ≡ j
-  idle-paused start = refl
-  idle-paused (done k u e a m) = ap (λ (l : List (Entry K)). entry k u finished ∷ l) (idle-paused m)
-  idle-paused (lost k u e a m) = ap (λ (l : List (Entry K)). entry k u broken-off ∷ l) (idle-paused m)
-  idle-paused (waits k u e a m) = ap (λ (l : List (Entry K)). entry k u suspended ∷ l) (idle-paused m)
-
   pub match-paused : {s : List (Live K)} {j : List (Entry K)} → Match true s j → Match false s (map paused j)
   match-paused (done k u e a m) = done k u e a (match-paused m)
   match-paused (lost k u e a m) = lost k u e a (match-paused m)
   match-paused (runs k u e a m) = rw (idle-paused m) (waits k u e a m)
-
-  pub idle-resumed : (p : K → Bool) {s : List (Live K)} {j : List (Entry K)} → None p s → Match false s j → map (resumed p) j ≡ j
-  idle-resumed p h start = refl
-  idle-resumed p h (done k u e a m) = ap (λ (l : List (Entry K)). entry k u finished ∷ l) (idle-resumed p h m)
-  idle-resumed p h (lost k u e a m) = ap (λ (l : List (Entry K)). entry k u broken-off ∷ l) (idle-resumed p h m)
-  idle-resumed p h (waits k u e a m) = rw (h .0, idle-resumed p (h .1) m)
 
   pub match-resumed : (p : K → Bool) {k : K} {u : ℕ} {s : List (Live K)} {j : List (Entry K)} → p k ≡ true → None p s → Match false (live k u ∷ s) j
       → Match true (live k u ∷ s) (map (resumed p) j)
@@ -207,12 +258,6 @@ module _ (κ : Kinds) where
   match-all-broken (runs k u e a m) = lost k u e tt (match-all-broken m)
   match-all-broken (waits k u e a m) = lost k u e tt (match-all-broken m)
 
-  pub idle-broken : (b : Bool) (p : K → Bool) {s : List (Live K)} {j : List (Entry K)} → None p s → Match false s j → map (brokenOff b p) j ≡ j
-  idle-broken b p h start = refl
-  idle-broken b p h (done k u e a m) = ap (λ (l : List (Entry K)). entry k u finished ∷ l) (idle-broken b p h m)
-  idle-broken b p h (lost k u e a m) = ap (λ (l : List (Entry K)). entry k u broken-off ∷ l) (idle-broken b p h m)
-  idle-broken b p h (waits k u e a m) = rw (h .0, idle-broken b p (h .1) m)
-
   -- the newest is broken off, as it runs or as it is p, and the others stay
   pub match-broken : (b : Bool) (p : K → Bool) {r : Bool} {k : K} {u : ℕ} {s : List (Live K)} {j : List (Entry K)} → cond r b (p k) ≡ true → None p s → Match r (live k u ∷ s) j
       → Match false s (map (brokenOff b p) j)
@@ -221,29 +266,10 @@ module _ (κ : Kinds) where
   match-broken b p h n (runs k u e a m) = rw (idle-broken b p n m, h) (lost k u e a m)
   match-broken b p h n (waits k u e a m) = rw (idle-broken b p n m, h) (lost k u e a m)
 
-  -- a change of status alone leaves the words
-  pub after-map : (f : Entry K → Entry K) → ((e : Entry K) (L w : ℕ) → applied (f e) L w ≡ applied e L w)
-      → (j : List (Entry K)) (L w : ℕ) → after (map f j) L w ≡ after j L w
-  after-map f h [] L w = refl
-  after-map f h (e ∷ j) L w = h e L (after (map f j) L w) ∙ ap (λ (x : ℕ). applied e L x) (after-map f h j L w)
-
-  pub paused-same : (e : Entry K) (L w : ℕ) → applied (paused e) L w ≡ applied e L w
-  paused-same (entry k u running) L w = refl
-  paused-same (entry k u suspended) L w = refl
-  paused-same (entry k u finished) L w = refl
-  paused-same (entry k u broken-off) L w = refl
-
-  pub resumed-same : (p : K → Bool) (e : Entry K) (L w : ℕ) → applied (resumed p e) L w ≡ applied e L w
-  resumed-same p (entry k u running) L w = refl
-  resumed-same p (entry k u suspended) L w = refl
-  resumed-same p (entry k u finished) L w = refl
-  resumed-same p (entry k u broken-off) L w = refl
-
-  pub broken-same : (b : Bool) (p : K → Bool) (e : Entry K) (L w : ℕ) → applied (brokenOff b p e) L w ≡ applied e L w
-  broken-same b p (entry k u running) L w = refl
-  broken-same b p (entry k u suspended) L w = refl
-  broken-same b p (entry k u finished) L w = refl
-  broken-same b p (entry k u broken-off) L w = refl
+  -- a change of phase alone leaves the words
+  pub after-rephased : (f : Entry K → Entry K) → Rephases f → (j : List (Entry K)) (L w : ℕ) → after (map f j) L w ≡ after j L w
+  after-rephased f h [] L w = refl
+  after-rephased f h (entry k u t ∷ j) L w = ap (λ (e : Entry K). applied e L (after (map f j) L w)) (h k u t .0) ∙ ap (λ (x : ℕ). effect k u L x) (after-rephased f h j L w)
 
   -- units on words that an entry does not cover make the same before the entry as after it
   advanced-past : (k k′ : K) (u u′ n L w : ℕ) → u + n ≤ len k → u′ ≤ len k′ → (In k′ L → In k L → ⊥)

@@ -1,18 +1,18 @@
 -- "Left running, a program ends at 1 unit and an erase at the size of its block, counted over all work steps.", and document 02, item 5: "the progress sentence in 01 needs it on throughout", the
 -- supply. One operation is followed, through the stretches in which it is suspended too. A list may hold any step but two: a reset, and the supply going off.
 -- Assumes nothing.
-use mathlib.Core.Path.{_≡_, refl, sym, ap, _∙_}
+use mathlib.Core.Path.{_≡_, refl, sym, ap, _∙_, subst}
 use mathlib.Core.List.{List, [], _∷_}
-use mathlib.Core.Bool.{Bool, true, false, cond, not, _&&_, _||_, true≢false}
+use mathlib.Core.Bool.{Bool, true, false, cond, _&&_, _||_, true≢false}
 use mathlib.Core.Logic.{_⊎_, inl, inr}
-use Prim.Native.Nat.{ℕ, _+_, _-_, _≤_, _<_, _%_, min}
+use Prim.Native.Nat.{ℕ, _+_, _-_, _≤_, _<_, min}
 use native.Mathlib.Omega.{arith}
 use lib.Dec.{ltb, leb, eqb}
 use lib.ListN.{length}
 use borrow.Author.Tests.{ltb-true, ltb-false, lt-ltb, le-ltb, le-leb, lt-leb, eqb-true}
 use Rattle.geometry.specs.declared.Part.{Part}
 use Rattle.geometry.specs.declared.Geometry.{Geometry}
-use Rattle.geometry.specs.Blocks.{geometryOf, words, location, blockOf, startOf, sizeOf}
+use Rattle.geometry.specs.Blocks.{geometryOf, words, sizeOf}
 use Rattle.geometry.specs.Laws as laws
 use Rattle.semantics.specs.declared.Running.{Running}
 use Rattle.semantics.specs.declared.Running.the-variants as running
@@ -25,23 +25,26 @@ use Rattle.semantics.specs.declared.Step.{Step}
 use Rattle.semantics.specs.declared.Step.the-variants.{Read, Write, Work, Supply, Reset}
 use Rattle.semantics.specs.declared.Answer.the-variants.{Refused}
 use Rattle.semantics.specs.declared.Next.{Next}
-use Rattle.semantics.specs.Numbers.{within}
 use Rattle.semantics.specs.State.{geometry, activity, programSuspended, eraseSuspended}
 use Rattle.semantics.specs.Buffer.{words-length}
-use Rattle.semantics.specs.WellFormed.{activityFormed, wellFormed}
+use Rattle.semantics.specs.WellFormed.{wellFormed}
 use Rattle.semantics.specs.Working.{unitsLeft, unitsDone}
 use Rattle.semantics.specs.Steps.{stepRefusal, stateRefusal, refusalOf, next, accepted, stepOf, Machine, after, afterAll, fresh}
 use Rattle.semantics.specs.Entries as entries
 use Rattle.semantics.specs.Entries.{Live, live, anyLive}
-use Rattle.semantics.specs.Recorder.{Operation, Setup, Event, nothing, supplied, was-reset, units, suspend, resume-program, resume-erase, end-program, end-erase, setup-is, unprotected-is, accept}
-use Rattle.semantics.specs.Recorder.{Conditions, conditions-after, len, kinds, isProgram, isErase, isAny, first-cycle, cycle, acceptable, Command, commandOf, suspend-command, resume-command, program-command, lock-command, erase-command, buffer-command, other-command, no-setup, program-setup, erase-setup, lock-setup, count-setup, first-setup, words-setup}
-use Rattle.semantics.specs.Engine.{Engine, engine, busy, stack, held?, engine-after, engine-worked, Order, Sim, Ok, ok-nothing, ok-supplied, ok-was-reset, ok-units, ok-suspend, ok-resume-program, ok-resume-erase, ok-end-program, ok-end-erase, ok-setup, ok-unprotected, ok-program, ok-erase, rule-ok, and-true-l, or-false-l, or-false-r}
-use Rattle.semantics.specs.Follows.{conditions, addErase, addProgram, underWay, underWayOf, eventOf, Together}
-use Rattle.semantics.specs.Formed.{own, formed-own, together}
-use Rattle.semantics.specs.Supplied.{of-cond}
+use Rattle.semantics.specs.Recorder as recorder
+use Rattle.semantics.specs.Recorder.{Operation, Event, nothing, units, Conditions, conditions-after, len, kinds, isProgram, isErase, isAny}
+use Rattle.semantics.specs.Causes.{Ready, Cause, by-nothing, by-supply, by-reset, by-work, by-suspend, by-resume-program, by-resume-erase, by-end-program, by-end-erase, by-setup, by-protection, by-accept, cause, accept-free, supply-kept}
+use Rattle.semantics.specs.Since.{supply-or-not}
+use Rattle.semantics.specs.Tests.{or-false-l, or-false-r}
+use Rattle.semantics.specs.Engine.{Engine, engine, busy, stack, held?, engine-after, engine-worked, Order, Sim}
+use Rattle.semantics.specs.UnderWay.{conditions, addErase, addProgram, underWay, underWayOf, Beside, none-runs, program-runs, buffer-runs, erase-runs, beside}
+use Rattle.semantics.specs.Follows.{eventOf}
+use Rattle.semantics.specs.Formed.{together}
+use Rattle.semantics.specs.Branches.{of-cond}
 use Rattle.semantics.specs.Invariant.{Steps, kept-step, agree-fit, steps, state-good, step-done, count-good, count-bad, step-refused, length-kept}
 use Rattle.semantics.specs.Theorem.{reached, reached-formed}
-use Rattle.semantics.specs.Kept.{keeps}
+use Rattle.semantics.specs.Kept.{ownOf, formed-sim, keeps}
 use Rattle.semantics.specs.Flags.{toldBy}
 
 -- ---- the operation that is followed
@@ -152,56 +155,14 @@ abbrev isOf : Followed → Operation → Bool
 isOf the-program o = isProgram o
 isOf the-erase o = isErase o
 
--- events of steps that are no work, no reset and no loss of supply
-abbrev Mild : Event → Type 0
-Mild nothing = Unit {0}
-Mild (supplied true) = Unit {0}
-Mild (supplied false) = ⊥
-Mild was-reset = ⊥
-Mild (units n) = ⊥
-Mild suspend = Unit {0}
-Mild resume-program = Unit {0}
-Mild resume-erase = Unit {0}
-Mild end-program = ⊥
-Mild end-erase = ⊥
-Mild (setup-is s) = Unit {0}
-Mild (unprotected-is b o) = Unit {0}
-Mild (accept o) = Unit {0}
-
-mild-supply : (v : Event) (d : Conditions) → Mild v → d .supply ≡ true → conditions-after v d .supply ≡ true
-mild-supply nothing d m h = h
-mild-supply (supplied true) d m h = refl
-mild-supply (supplied false) d m h = absurd m
-mild-supply was-reset d m h = absurd m
-mild-supply (units n) d m h = absurd m
-mild-supply suspend d m h = h
-mild-supply resume-program d m h = h
-mild-supply resume-erase d m h = h
-mild-supply end-program d m h = absurd m
-mild-supply end-erase d m h = absurd m
-mild-supply (setup-is s) d m h = h
-mild-supply (unprotected-is b o) d m h = h
-mild-supply (accept o) d m h = h
-
-module _ (g : Geometry) (d : Conditions) (r : Bool) (h : (Operation → Bool) → Bool) (on : d .supply ≡ true) where
-  mild-first : (b : ℕ) (c : Command) → Mild (first-cycle g d r h b c)
-  mild-first b suspend-command = of-cond Mild r _ _ tt tt
-  mild-first b resume-command = rw on (of-cond Mild r _ _ tt (of-cond Mild (h isProgram) _ _ tt (of-cond Mild (h isErase) _ _ tt tt)))
-  mild-first b program-command = of-cond Mild (r || h isProgram) _ _ tt tt
-  mild-first b lock-command = of-cond Mild (r || h isProgram) _ _ tt tt
-  mild-first b erase-command = of-cond Mild (r || h isAny) _ _ tt tt
-  mild-first b buffer-command = of-cond Mild (r || h isProgram) _ _ tt tt
-  mild-first b other-command = tt
-
-  mild-cycle : (p : Setup) (l c w : ℕ) → Mild (cycle g d r h p l c w)
-  mild-cycle no-setup l c w = mild-first (blockOf g l) (commandOf c)
-  mild-cycle lock-setup l c w = of-cond Mild (eqb c 0xD0) _ _ tt (of-cond Mild (eqb c 0x01) _ _ tt tt)
-  mild-cycle program-setup l c w = of-cond Mild (acceptable g d r h (blockOf g l)) _ _ tt tt
-  mild-cycle erase-setup l c w = of-cond Mild (eqb c 0xD0 && acceptable g d r h (blockOf g l)) _ _ tt tt
-  mild-cycle (count-setup b) l c w = of-cond Mild (eqb (blockOf g l) b && leb w 31) _ _ tt tt
-  mild-cycle (first-setup b n) l c w = of-cond Mild (eqb (blockOf g l) b && leb (l + n) (startOf g b + sizeOf g b)) _ _ tt tt
-  mild-cycle (words-setup t ws due) l c w =
-      of-cond Mild (eqb due 0) _ _ (of-cond Mild ((eqb c 0xD0 && eqb (blockOf g l) (blockOf g t)) && acceptable g d r h (blockOf g l)) _ _ tt tt) (of-cond Mild (within t (length ws) l) _ _ tt tt)
+-- steps that are no work, no reset and no loss of supply
+abbrev Mild : Step → Type 0
+Mild (Read a) = Unit {0}
+Mild (Write a w) = Unit {0}
+Mild (Work n) = ⊥
+Mild (Supply true) = Unit {0}
+Mild (Supply false) = ⊥
+Mild Reset = ⊥
 
 module _ (g : Geometry) where
   -- the units that it lacks
@@ -239,22 +200,27 @@ module _ (g : Geometry) where
   nothing-lacks k (engine false []) x y h = omega arith
   nothing-lacks k (engine false (live o u ∷ s)) x y h = true≢false y
 
-  -- none but work changes what it lacks
-  mild-lacks : (k : Followed) (c : Setup) (e : Engine) (v : Event) → Mild v → Ok g c (busy e) (held? e) v → 0 < lacks k (stack e) → lacks k (stack (engine-after g v e)) ≡ lacks k (stack e)
-  mild-lacks k c e v m ok-nothing h = refl
-  mild-lacks k c e v m (ok-supplied true) h = refl
-  mild-lacks k c e v m (ok-supplied false) h = absurd m
-  mild-lacks k c e v m ok-was-reset h = absurd m
-  mild-lacks k c e v m (ok-units n) h = absurd m
-  mild-lacks k c e v m (ok-suspend z) h = refl
-  mild-lacks k c e v m (ok-resume-program z x y) h = refl
-  mild-lacks k c e v m (ok-resume-erase z x y w) h = refl
-  mild-lacks k c e v m (ok-end-program z x y) h = absurd m
-  mild-lacks k c e v m (ok-end-erase z x y w) h = absurd m
-  mild-lacks k c e v m (ok-setup t y) h = refl
-  mild-lacks k c e v m (ok-unprotected b o) h = refl
-  mild-lacks k c e v m (ok-program o q a b d x y z) h = program-lacks k e o a x y h
-  mild-lacks k c e v m (ok-erase b q x y z) h = absurd (nothing-lacks k e x y h)
+  accept-lacks : (k : Followed) (e : Engine) (o : Operation) → (busy e ≡ false) × (held? e (cond (isErase o) isAny isProgram) ≡ false) → 0 < lacks k (stack e) → lacks k (live o 0 ∷ stack e) ≡ lacks k (stack e)
+  accept-lacks k e (recorder.program l w) f h = program-lacks k e (recorder.program l w) refl (f .0) (f .1) h
+  accept-lacks k e (recorder.erase b) f h = absurd (nothing-lacks k e (f .0) (f .1) h)
+  accept-lacks k e (recorder.buffer l ws) f h = program-lacks k e (recorder.buffer l ws) refl (f .0) (f .1) h
+
+  -- no such step changes what it lacks
+  mild-lacks : (k : Followed) (d : Conditions) (e : Engine) (x : Step) (v : Event) → d .supply ≡ true → Ready g (d .setup) (busy e) (held? e) → Mild x → Cause g d (busy e) (held? e) x v → 0 < lacks k (stack e)
+      → lacks k (stack (engine-after g v e)) ≡ lacks k (stack e)
+  mild-lacks k d e x v on y m by-nothing h = refl
+  mild-lacks k d e x v on y m (by-supply true z) h = refl
+  mild-lacks k d e x v on y m (by-supply false z) h = absurd (subst Mild z m)
+  mild-lacks k d e x v on y m (by-reset z) h = absurd (subst Mild z m)
+  mild-lacks k d e x v on y m (by-work n z) h = absurd (subst Mild z m)
+  mild-lacks k d e x v on y m (by-suspend z) h = refl
+  mild-lacks k d e x v on y m (by-resume-program z r p) h = refl
+  mild-lacks k d e x v on y m (by-resume-erase z r p q) h = refl
+  mild-lacks k d e x v on y m (by-end-program u z r p) h = absurd (true≢false (sym on ∙ u))
+  mild-lacks k d e x v on y m (by-end-erase u z r p q) h = absurd (true≢false (sym on ∙ u))
+  mild-lacks k d e x v on y m (by-setup t f) h = refl
+  mild-lacks k d e x v on y m (by-protection b o z) h = refl
+  mild-lacks k d e x v on y m (by-accept o a w z c u) h = accept-lacks k e o (accept-free g (d .setup) (busy e) (held? e) a w o c y) h
 
   -- the one below it is of the other kind
   rest-lacks : (k : Followed) (o : Operation) (u : ℕ) (s : List (Live Operation)) → Order g (live o u ∷ s) → isOf k o ≡ true → lacks k s ≡ 0
@@ -296,23 +262,15 @@ module _ (g : Geometry) (bs : List ℕ) where
   program-lives the-program (program.Buffer l n d) e = omega (arith, erase-lacks the-program e, words-length bs n)
   program-lives the-erase (program.Buffer l n d) e = erase-lacks the-erase e
 
-  left-lacks : (k : Followed) (r : Running) (p : SuspendedProgram) (e : SuspendedErase) → Together r p e → leftOf g k r p e ≡ lacks g k (stack (underWayOf bs r p e))
+  left-lacks : (k : Followed) {r : Running} {p : SuspendedProgram} {e : SuspendedErase} → Beside r p e → leftOf g k r p e ≡ lacks g k (stack (underWayOf bs r p e))
   unfolding unitsLeft
-  left-lacks the-program running.Idle p e m = sym (program-lives the-program p e)
-  left-lacks the-erase running.Idle p e m = sym (program-lives the-erase p e)
-  left-lacks the-program (running.Program l w) program.Nothing e m = omega (arith, erase-lacks the-program e)
-  left-lacks the-erase (running.Program l w) program.Nothing e m = sym (erase-lacks the-erase e)
-  left-lacks k (running.Program l w) (program.Program i v) e m = absurd m
-  left-lacks k (running.Program l w) (program.Buffer i v d) e m = absurd m
-  left-lacks the-program (running.Erase b n) program.Nothing erase.Nothing m = refl
-  left-lacks the-erase (running.Erase b n) program.Nothing erase.Nothing m = omega arith
-  left-lacks k (running.Erase b n) program.Nothing (erase.Erase i v) m = absurd m
-  left-lacks k (running.Erase b n) (program.Program i v) e m = absurd m
-  left-lacks k (running.Erase b n) (program.Buffer i v d) e m = absurd m
-  left-lacks the-program (running.Buffer l n d) program.Nothing e m = omega (arith, erase-lacks the-program e, words-length bs n)
-  left-lacks the-erase (running.Buffer l n d) program.Nothing e m = sym (erase-lacks the-erase e)
-  left-lacks k (running.Buffer l n d) (program.Program i v) e m = absurd m
-  left-lacks k (running.Buffer l n d) (program.Buffer i v d′) e m = absurd m
+  left-lacks k (none-runs p e) = sym (program-lives k p e)
+  left-lacks the-program (program-runs l w e) = omega (arith, erase-lacks the-program e)
+  left-lacks the-erase (program-runs l w e) = sym (erase-lacks the-erase e)
+  left-lacks the-program (buffer-runs l n d e) = omega (arith, erase-lacks the-program e, words-length bs n)
+  left-lacks the-erase (buffer-runs l n d e) = sym (erase-lacks the-erase e)
+  left-lacks the-program (erase-runs b n) = refl
+  left-lacks the-erase (erase-runs b n) = omega arith
 
   runs-top : (k : Followed) (r : Running) (p : SuspendedProgram) (e : SuspendedErase) → runsNow k r ≡ top g k (underWayOf bs r p e)
   runs-top k running.Idle p e = refl
@@ -352,17 +310,13 @@ none-offered k false n e = refl
 
 -- what a state with nothing wrong comes to
 module _ (m : Machine) (o : Good m) where
-  simulated : Sim (geometry (m .state)) (conditions (m .state)) (underWay (m .state)) (own (geometry (m .state)) (m .state .buffer) (m .state .control .activity .running) (m .state .control .activity .program) (m .state .control .activity .erase))
-  unfolding wellFormed
-  simulated =
-      formed-own (geometry (m .state)) (m .state .buffer) (laws.sound (m .state .part)) (conditions (m .state)) (m .state .control .activity .setup) (m .state .control .activity .running) (m .state .control .activity .program) (m .state .control .activity .erase) refl
-      (and-true-l (activityFormed (geometry (m .state)) (m .state .control .activity)) _ (o .formed))
-
-  side-by-side : Together (m .state .control .activity .running) (m .state .control .activity .program) (m .state .control .activity .erase)
-  side-by-side = together (geometry (m .state)) (m .state .buffer) (m .state .control .activity .running) (m .state .control .activity .program) (m .state .control .activity .erase) (simulated .order)
+  simulated : Sim (geometry (m .state)) (conditions (m .state)) (underWay (m .state)) (ownOf (m .state))
+  simulated = formed-sim (m .state) (o .formed)
 
   left-here : (k : Followed) → leftIn k (m .state) ≡ lacks (geometry (m .state)) k (stack (underWay (m .state)))
-  left-here k = left-lacks (geometry (m .state)) (m .state .buffer) k (m .state .control .activity .running) (m .state .control .activity .program) (m .state .control .activity .erase) side-by-side
+  left-here k =
+      left-lacks (geometry (m .state)) (m .state .buffer) k (beside (m .state .control .activity .running) (m .state .control .activity .program) (m .state .control .activity .erase)
+      (together (geometry (m .state)) (m .state .buffer) (m .state .control .activity .running) (m .state .control .activity .program) (m .state .control .activity .erase) (simulated .order)))
 
   -- it is under way exactly where it lacks a unit
   lives-here : (k : Followed) → livesIn k (m .state) ≡ ltb 0 (leftIn k (m .state))
@@ -377,22 +331,23 @@ module _ (m : Machine) (o : Good m) where
   stepped : (x : Step) → Steps (eventOf (geometry (m .state)) (m .state) x) (m .state) (m .array) (after m x .state) (after m x .array)
   stepped x = steps (m .state) (m .array) unrefused (agree-fit (m .state) (conditions (m .state)) _ (o .five) (o .thirty-two) simulated) x
 
-  allowed : (x : Step) → Ok (geometry (m .state)) (conditions (m .state) .setup) (busy (underWay (m .state))) (held? (underWay (m .state))) (eventOf (geometry (m .state)) (m .state) x)
-  allowed x = rule-ok (geometry (m .state)) (laws.sound (m .state .part)) (conditions (m .state)) (busy (underWay (m .state))) (held? (underWay (m .state))) (simulated .ready) x
+  caused : (x : Step) → Cause (geometry (m .state)) (conditions (m .state)) (busy (underWay (m .state))) (held? (underWay (m .state))) x (eventOf (geometry (m .state)) (m .state) x)
+  caused x = cause (geometry (m .state)) (conditions (m .state)) (busy (underWay (m .state))) (held? (underWay (m .state))) x
 
   -- a step that is no work
-  mild-left : (k : Followed) (x : Step) → Mild (eventOf (geometry (m .state)) (m .state) x) → 0 < leftIn k (m .state)
-      → lacks (geometry (m .state)) k (stack (underWay (after m x .state))) ≡ leftIn k (m .state)
-  mild-left k x v h =
+  mild-left : (k : Followed) (x : Step) → m .state .control .supply ≡ true → Mild x → 0 < leftIn k (m .state) → lacks (geometry (m .state)) k (stack (underWay (after m x .state))) ≡ leftIn k (m .state)
+  mild-left k x on v h =
       ap (λ (e : Engine). lacks (geometry (m .state)) k (stack e)) (stepped x .1)
-      ∙ mild-lacks (geometry (m .state)) k _ (underWay (m .state)) _ v (allowed x) (omega (arith, left-here k)) ∙ sym (left-here k)
+      ∙ mild-lacks (geometry (m .state)) k (conditions (m .state)) (underWay (m .state)) x _ on (simulated .ready) v (caused x) (omega (arith, left-here k)) ∙ sym (left-here k)
 
   -- work
   work-left : (k : Followed) (n : ℕ) → (65535 < n) ⊎ (n ≤ 65535) → 0 < leftIn k (m .state)
       → lacks (geometry (m .state)) k (stack (underWay (after m (Work n) .state))) ≡ leftIn k (m .state) - offered k (m .state) (Work n)
   work-left k n (inl i) h =
       let e = lt-leb n 65535 i in
-      mild-left k (Work n) (rw e tt) h ∙ omega (arith, none-offered k (runsNow k (m .state .control .activity .running)) n e)
+      ap (λ (x : Engine). lacks (geometry (m .state)) k (stack x)) (stepped (Work n) .1)
+      ∙ ap (λ (b : Bool). lacks (geometry (m .state)) k (stack (engine-after (geometry (m .state)) (cond b (units n) nothing) (underWay (m .state))))) e
+      ∙ omega (arith, left-here k, none-offered k (runsNow k (m .state .control .activity .running)) n e)
   work-left k n (inr i) h =
       let e = le-leb n 65535 i in
       ap (λ (x : Engine). lacks (geometry (m .state)) k (stack x)) (stepped (Work n) .1)
@@ -400,32 +355,27 @@ module _ (m : Machine) (o : Good m) where
       ∙ work-lacks (geometry (m .state)) k n (underWay (m .state)) (simulated .order)
       ∙ rw (e, ← left-here k, runs-top (geometry (m .state)) (m .state .buffer) k (m .state .control .activity .running) (m .state .control .activity .program) (m .state .control .activity .erase))
 
-  mild-write : (a w : ℕ) → m .state .control .supply ≡ true → Mild (eventOf (geometry (m .state)) (m .state) (Write a w))
-  mild-write a w on =
-      of-cond Mild (ltb a 16777216) _ nothing
-      (mild-cycle (geometry (m .state)) (conditions (m .state)) (busy (underWay (m .state))) (held? (underWay (m .state))) on (conditions (m .state) .setup) (location (geometry (m .state)) a) (w % 256) w) tt
-
   -- every such step
   left-step : (k : Followed) (x : Step) → (m .state .control .supply ≡ true) → (x ≡ Reset → ⊥) → (x ≡ Supply false → ⊥) → 0 < leftIn k (m .state)
       → lacks (geometry (m .state)) k (stack (underWay (after m x .state))) ≡ leftIn k (m .state) - offered k (m .state) x
-  left-step k (Read a) on a₁ a₂ h = mild-left k (Read a) tt h ∙ omega arith
-  left-step k (Write a w) on a₁ a₂ h = mild-left k (Write a w) (mild-write a w on) h ∙ omega arith
+  left-step k (Read a) on a₁ a₂ h = mild-left k (Read a) on tt h ∙ omega arith
+  left-step k (Write a w) on a₁ a₂ h = mild-left k (Write a w) on tt h ∙ omega arith
   left-step k (Work n) on a₁ a₂ h = work-left k n (laws.order 65535 n) h
-  left-step k (Supply true) on a₁ a₂ h = mild-left k (Supply true) tt h ∙ omega arith
+  left-step k (Supply true) on a₁ a₂ h = mild-left k (Supply true) on tt h ∙ omega arith
   left-step k (Supply false) on a₁ a₂ h = absurd (a₂ refl)
   left-step k Reset on a₁ a₂ h = absurd (a₁ refl)
 
   -- the supply stays on
-  supply-after : (x : Step) → m .state .control .supply ≡ true → (x ≡ Reset → ⊥) → (x ≡ Supply false → ⊥) → after m x .state .control .supply ≡ true
-  supply-after x on a b = ap (λ (d : Conditions). d .supply) (stepped x .0) ∙ go x a b
+  supply-after : (x : Step) → m .state .control .supply ≡ true → (x ≡ Supply false → ⊥) → after m x .state .control .supply ≡ true
+  supply-after x on b = ap (λ (d : Conditions). d .supply) (stepped x .0) ∙ go (supply-or-not x)
     where
-      go : (x : Step) → (x ≡ Reset → ⊥) → (x ≡ Supply false → ⊥) → conditions-after (eventOf (geometry (m .state)) (m .state) x) (conditions (m .state)) .supply ≡ true
-      go (Read l) a b = on
-      go (Write l w) a b = mild-supply (eventOf (geometry (m .state)) (m .state) (Write l w)) (conditions (m .state)) (mild-write l w on) on
-      go (Work n) a b = of-cond (λ (v : Event). conditions-after v (conditions (m .state)) .supply ≡ true) (leb n 65535) _ _ on on
-      go (Supply true) a b = refl
-      go (Supply false) a b = absurd (b refl)
-      go Reset a b = absurd (a refl)
+      switched : (t : Bool) → x ≡ Supply t → conditions-after (eventOf (geometry (m .state)) (m .state) x) (conditions (m .state)) .supply ≡ true
+      switched true e = ap (λ (y : Step). conditions-after (eventOf (geometry (m .state)) (m .state) y) (conditions (m .state)) .supply) e
+      switched false e = absurd (b e)
+
+      go : ((t : Bool) × (x ≡ Supply t)) ⊎ ((t : Bool) → x ≡ Supply t → ⊥) → conditions-after (eventOf (geometry (m .state)) (m .state) x) (conditions (m .state)) .supply ≡ true
+      go (inl e) = switched (e .0) (e .1)
+      go (inr n) = supply-kept (geometry (m .state)) (caused x) n ∙ on
 
   -- the units that are told of, while it runs, are those that are offered, or what it lacks where that is less
   told-work : (k : Followed) (n : ℕ) → (65535 < n) ⊎ (n ≤ 65535) → (b : Bool) → runsNow k (m .state .control .activity .running) ≡ b
@@ -472,7 +422,7 @@ less-left u a b = go (laws.order (a + b) u)
 pub progress : (k : Followed) (l : List Step) (m : Machine) → Good m → m .state .control .supply ≡ true → livesIn k (m .state) ≡ true → Lasting l
     → (toldAll k m l ≡ min (offeredAll k m l) (leftIn k (m .state))) × (livesAll k m l ≡ ltb (offeredAll k m l) (leftIn k (m .state)))
 progress k [] m o on z h = (omega arith, sym z ∙ lives-here m o k)
-progress k (x ∷ l) m o on z h = go (livesIn k (after m x .state)) refl (λ y. progress k l (after m x) (good-after m x o) (supply-after m o x on (h .0) (h .1)) y (h .2))
+progress k (x ∷ l) m o on z h = go (livesIn k (after m x .state)) refl (λ y. progress k l (after m x) (good-after m x o) (supply-after m o x on (h .1)) y (h .2))
   where
     some : 0 < leftIn k (m .state)
     some = ltb-true 0 (leftIn k (m .state)) (sym (lives-here m o k) ∙ z)

@@ -15,7 +15,7 @@ use Rattle.geometry.specs.Blocks.{location, blockOf, startOf, sizeOf}
 use Rattle.semantics.specs.Numbers.{within}
 use Rattle.semantics.specs.declared.Step.{Step}
 use Rattle.semantics.specs.declared.Step.the-variants.{Read, Write, Work, Supply, Reset}
-use Rattle.semantics.specs.Entries.{Entry, entry, running, suspended, finished, broken-off, Kinds, worked, paused, resumed, brokenOff, anyRuns, anySuspended}
+use Rattle.semantics.specs.Entries.{Entry, entry, running, isFinished, Kinds, worked, paused, resumed, brokenOff, anyRuns, anySuspended}
 
 -- ---- the journal, and what it makes of a word
 
@@ -49,21 +49,21 @@ module _ (g : Geometry) where
   abbrev pub kinds : Kinds
   kinds = record { K = Operation; base = base; len = len; put = put }
 
-  -- Demand 3: "Finished program: data anded in; unfinished: nothing. Finished erase: FFFFh; unfinished: FFFFh in as many of the block's lowest
-  -- words as it had units." Document 02, item 1: "an unfinished one has reached as many of its lowest as it had units": what an entry makes of the word x at location L
+  -- what an operation that received u units, finished or not, makes of the word x at location L. Demand 3: "Finished
+  -- program: data anded in; unfinished: nothing. Finished erase: FFFFh; unfinished: FFFFh in as many of the block's
+  -- lowest words as it had units." Document 02, item 1: "an unfinished one has reached as many of its lowest as it had
+  -- units"
+  abbrev pub made : Operation → Bool → ℕ → ℕ → ℕ → ℕ
+  made (program l w) true u L x = cond (eqb L l) (bitAnd x w) x
+  made (program l w) false u L x = x
+  made (erase b) true u L x = cond (eqb (blockOf g L) b) 0xFFFF x
+  made (erase b) false u L x = cond (eqb (blockOf g L) b && ltb (L - startOf g b) u) 0xFFFF x
+  made (buffer l ws) true u L x = cond (within l (length ws) L) (bitAnd x (getD ws (L - l) 0xFFFF)) x
+  made (buffer l ws) false u L x = cond (within l u L) (bitAnd x (getD ws (L - l) 0xFFFF)) x
+
+  -- what an entry makes of it
   abbrev pub reading : Entry Operation → ℕ → ℕ → ℕ
-  reading (entry (program l w) u finished) L x = cond (eqb L l) (bitAnd x w) x
-  reading (entry (program l w) u running) L x = x
-  reading (entry (program l w) u suspended) L x = x
-  reading (entry (program l w) u broken-off) L x = x
-  reading (entry (erase b) u finished) L x = cond (eqb (blockOf g L) b) 0xFFFF x
-  reading (entry (erase b) u running) L x = cond (eqb (blockOf g L) b && ltb (L - startOf g b) u) 0xFFFF x
-  reading (entry (erase b) u suspended) L x = cond (eqb (blockOf g L) b && ltb (L - startOf g b) u) 0xFFFF x
-  reading (entry (erase b) u broken-off) L x = cond (eqb (blockOf g L) b && ltb (L - startOf g b) u) 0xFFFF x
-  reading (entry (buffer l ws) u finished) L x = cond (within l (length ws) L) (bitAnd x (getD ws (L - l) 0xFFFF)) x
-  reading (entry (buffer l ws) u running) L x = cond (within l u L) (bitAnd x (getD ws (L - l) 0xFFFF)) x
-  reading (entry (buffer l ws) u suspended) L x = cond (within l u L) (bitAnd x (getD ws (L - l) 0xFFFF)) x
-  reading (entry (buffer l ws) u broken-off) L x = cond (within l u L) (bitAnd x (getD ws (L - l) 0xFFFF)) x
+  reading (entry k u t) L x = made k (isFinished t) u L x
 
   -- the journal "applied in order of acceptance" to the word x at location L: the recorder has the latest entry first
   abbrev pub applied : List (Entry Operation) → ℕ → ℕ → ℕ

@@ -2,7 +2,7 @@
 -- applied in order of acceptance. The journal is drawn up from the steps alone (Recorder). Demand 3 whole is demand-3-whole of Standing.
 -- Assumes nothing.
 use mathlib.Core.Path.{_≡_, refl, sym, ap, _∙_}
-use mathlib.Core.List.{List, [], _∷_, foldl, reverse, reverseAux}
+use mathlib.Core.List.{List, [], _∷_, foldl, reverseAux}
 use mathlib.Core.Bool.{Bool, true, false, cond, _&&_}
 use Prim.Native.Nat.{ℕ, _+_, _-_, _≤_, _<_}
 use native.Mathlib.Omega.{arith}
@@ -24,12 +24,12 @@ use Rattle.semantics.specs.State.{runs}
 use Rattle.semantics.specs.Supplied.{runs-supply}
 use Rattle.semantics.specs.Reading.{readWord}
 use Rattle.semantics.specs.WellFormed.{wellFormed}
-use Rattle.semantics.specs.Steps.{Machine, after, afterAll, fresh}
+use Rattle.semantics.specs.Steps.{Machine, afterAll, fresh}
 use Rattle.semantics.specs.Entries as entries
-use Rattle.semantics.specs.Entries.{Entry, entry, running, suspended, finished, broken-off, Live}
-use Rattle.semantics.specs.Recorder.{Operation, program, erase, buffer, Recorder, beginning, recordedAll, journalOf, reading, applied, base, len, put, kinds}
+use Rattle.semantics.specs.Entries.{Entry, Live, isFinished}
+use Rattle.semantics.specs.Recorder.{Operation, program, erase, buffer, Recorder, beginning, recordedAll, journalOf, made, reading, applied, kinds}
 use Rattle.semantics.specs.Engine.{Matches, After}
-use Rattle.semantics.specs.Invariant.{wordsOf, Agree, agree-fresh, agree-all, agree-formed}
+use Rattle.semantics.specs.Invariant.{Agree, agree-fresh, agree-all, agree-formed}
 
 -- ---- what an entry makes of a word, and what its units do, are the same
 
@@ -69,37 +69,16 @@ module _ (g : Geometry) (sound : Sound g) where
       go true e false f = let y = ltb-false (L - startOf g b) u f in sym (within-out (startOf g b) u L (λ a c. omega arith))
       go false e v f = sym (within-out (startOf g b) u L (λ x y. eqb-false (blockOf g L) b e (only g sound b L x (omega arith))))
 
-  -- what the phase of an entry says of its units
-  abbrev Whole : Entry Operation → Type 0
-  Whole (entry k u finished) = u ≡ len g k
-  Whole (entry k u running) = u < len g k
-  Whole (entry k u suspended) = u < len g k
-  Whole (entry k u broken-off) = u < len g k
+  made-effect : (k : Operation) (t : Bool) (u : ℕ) → entries.Whole (kinds g) k t u → (L w : ℕ) → L < words g → made g k t u L w ≡ entries.effect (kinds g) k u L w
+  made-effect (program l d) true u s L w q = ap (λ (t : Bool). cond t (bitAnd w d) w) (only-word l u L s)
+  made-effect (program l d) false u s L w q = rw (no-word l u L s)
+  made-effect (erase b) true u s L w q = ap (λ (t : Bool). cond t 65535 w) (block-words b u L q s)
+  made-effect (erase b) false u s L w q = ap (λ (t : Bool). cond t 65535 w) (lowest-words b u L q s)
+  made-effect (buffer l ws) true u s L w q = rw s
+  made-effect (buffer l ws) false u s L w q = refl
 
-  reading-applied : (e : Entry Operation) → Whole e → (L w : ℕ) → L < words g → reading g e L w ≡ entries.applied (kinds g) e L w
-  reading-applied (entry (program l d) u finished) s L w q = ap (λ (t : Bool). cond t (bitAnd w d) w) (only-word l u L s)
-  reading-applied (entry (program l d) u running) s L w q = rw (no-word l u L s)
-  reading-applied (entry (program l d) u suspended) s L w q = rw (no-word l u L s)
-  reading-applied (entry (program l d) u broken-off) s L w q = rw (no-word l u L s)
-  reading-applied (entry (erase b) u finished) s L w q = ap (λ (t : Bool). cond t 65535 w) (block-words b u L q s)
-  reading-applied (entry (erase b) u running) s L w q = ap (λ (t : Bool). cond t 65535 w) (lowest-words b u L q s)
-  reading-applied (entry (erase b) u suspended) s L w q = ap (λ (t : Bool). cond t 65535 w) (lowest-words b u L q s)
-  reading-applied (entry (erase b) u broken-off) s L w q = ap (λ (t : Bool). cond t 65535 w) (lowest-words b u L q s)
-  reading-applied (entry (buffer l ws) u finished) s L w q = rw s
-  reading-applied (entry (buffer l ws) u running) s L w q = refl
-  reading-applied (entry (buffer l ws) u suspended) s L w q = refl
-  reading-applied (entry (buffer l ws) u broken-off) s L w q = refl
-
-  readings-after : (r : Bool) (s : List (Live Operation)) (j : List (Entry Operation)) → Matches g r s j → (L w : ℕ) → L < words g → readings g j L w ≡ After g j L w
-  readings-after r s j entries.start L w q = refl
-  readings-after r s j (entries.done {j = i} k u e a m) L w q =
-      reading-applied (entry k u finished) e L (readings g i L w) q ∙ ap (λ (x : ℕ). entries.applied (kinds g) (entry k u finished) L x) (readings-after _ _ i m L w q)
-  readings-after r s j (entries.lost {j = i} k u e a m) L w q =
-      reading-applied (entry k u broken-off) e L (readings g i L w) q ∙ ap (λ (x : ℕ). entries.applied (kinds g) (entry k u broken-off) L x) (readings-after _ _ i m L w q)
-  readings-after r s j (entries.runs {j = i} k u e a m) L w q =
-      reading-applied (entry k u running) e L (readings g i L w) q ∙ ap (λ (x : ℕ). entries.applied (kinds g) (entry k u running) L x) (readings-after _ _ i m L w q)
-  readings-after r s j (entries.waits {j = i} k u e a m) L w q =
-      reading-applied (entry k u suspended) e L (readings g i L w) q ∙ ap (λ (x : ℕ). entries.applied (kinds g) (entry k u suspended) L x) (readings-after _ _ i m L w q)
+  readings-after : (L w : ℕ) → L < words g → {r : Bool} {s : List (Live Operation)} {j : List (Entry Operation)} → Matches g r s j → readings g j L w ≡ After g j L w
+  readings-after L w q m = entries.match-each (kinds g) (λ j. readings g j L w ≡ After g j L w) refl (λ k u t j e h. made-effect k (isFinished t) u e L (readings g j L w) q ∙ ap (λ (x : ℕ). entries.effect (kinds g) k u L x) h) m
 
   in-order : (j r : List (Entry Operation)) (L w : ℕ) → foldl (λ x e. reading g e L x) w (reverseAux j r) ≡ foldl (λ x e. reading g e L x) (readings g j L w) r
   in-order [] r L w = refl
@@ -114,7 +93,7 @@ module _ (g : Geometry) (sound : Sound g) where
 pub agree-words : (p : Part) (xs₀ : List ℕ) (m : Machine) (c : Recorder) → Agree p xs₀ m c → (L : ℕ) → L < words (geometryOf p)
     → getD (m .array) L 0 ≡ applied (geometryOf p) (c .journal) L (getD xs₀ L 0)
 agree-words p xs₀ m c a L h =
-    a .word L h ∙ sym (readings-after (geometryOf p) (laws.sound p) _ _ (c .journal) (a .sim .match) L (getD xs₀ L 0) h)
+    a .word L h ∙ sym (readings-after (geometryOf p) (laws.sound p) L (getD xs₀ L 0) h (a .sim .match))
     ∙ sym (readings-applied (geometryOf p) (laws.sound p) (c .journal) L (getD xs₀ L 0))
 
 -- what is reached from power-up by a list of steps agrees with the recorder that was told of them

@@ -9,7 +9,7 @@ use lib.Dec.{eqb}
 use Rattle.geometry.specs.declared.Part.{Part}
 use Rattle.geometry.specs.Blocks.{geometryOf, blocks}
 use Rattle.semantics.specs.declared.Step.{Step}
-use Rattle.semantics.specs.Entries.{Phase, Entry, entry, running, suspended, finished, broken-off}
+use Rattle.semantics.specs.Entries.{Entry, entry, isFinished}
 use Rattle.semantics.specs.Recorder.{Operation, program, erase, buffer, journalOf}
 use Rattle.wear.specs.Counts.{Counts, countOf, sharedZero}
 
@@ -18,12 +18,6 @@ abbrev pub erases : ℕ → Operation → Bool
 erases b (program l w) = false
 erases b (erase c) = eqb c b
 erases b (buffer l ws) = false
-
-abbrev pub isFinished : Phase → Bool
-isFinished running = false
-isFinished suspended = false
-isFinished finished = true
-isFinished broken-off = false
 
 abbrev pub isFinishedErase : ℕ → Entry Operation → Bool
 isFinishedErase b (entry k u t) = isFinished t && erases b k

@@ -3,16 +3,16 @@
 -- Assumes nothing.
 use mathlib.Core.Path.{_≡_, refl, sym, ap, _∙_, subst}
 use mathlib.Core.List.{List, [], _∷_, map}
-use mathlib.Core.Bool.{Bool, true, false, cond, _&&_, _||_}
+use mathlib.Core.Bool.{Bool, true, false, cond, _&&_, true≢false}
 use mathlib.Core.Logic.{_⊎_, inl, inr}
-use Prim.Native.Nat.{ℕ, suc, _+_, _-_, _≤_, _<_, _%_, min}
+use Prim.Native.Nat.{ℕ, suc, _+_, _-_, _≤_, _<_, min}
 use native.Mathlib.Omega.{arith}
-use lib.Dec.{ltb, leb, eqb}
+use lib.Dec.{ltb, eqb}
 use lib.ListN.{length, getD, getD-replicate, replicate}
 use borrow.Author.Tests.{lt-ltb, le-leb, lt-leb, ltb-true, ltb-false, eq-eqb, ne-eqb, eqb-true, eqb-false}
 use Rattle.geometry.specs.declared.Part.{Part}
 use Rattle.geometry.specs.declared.Geometry.{Geometry}
-use Rattle.geometry.specs.Blocks.{Sound, geometryOf, words, blocks, location, blockOf, startOf, sizeOf}
+use Rattle.geometry.specs.Blocks.{Sound, geometryOf, words, blocks, sizeOf}
 use Rattle.geometry.specs.Laws as laws
 use Rattle.semantics.specs.declared.State.{State}
 use Rattle.semantics.specs.declared.Running.{Running}
@@ -22,95 +22,43 @@ use Rattle.semantics.specs.declared.SuspendedErase.{SuspendedErase}
 use Rattle.semantics.specs.declared.Step.{Step}
 use Rattle.semantics.specs.declared.Step.the-variants.{Read, Write, Work, Supply, Reset}
 use Rattle.semantics.specs.State.{geometry, runs}
-use Rattle.semantics.specs.Branches.{of-cond}
 use Rattle.semantics.specs.Working.{unitsLeft, unitsDone, runningAfter}
-use Rattle.semantics.specs.Steps.{stepRefusal, firstRefusal, Machine, after}
+use Rattle.semantics.specs.Steps.{stepRefusal, firstRefusal, Machine}
 use Rattle.semantics.specs.Entries as entries
-use Rattle.semantics.specs.Entries.{Phase, Entry, entry, Live, live, paused, resumed, brokenOff, idle-worked}
-use Rattle.semantics.specs.Recorder.{Operation, program, erase, buffer, Setup, no-setup, program-setup, erase-setup, lock-setup, count-setup, first-setup, words-setup, Conditions, Recorder, beginning, recorded, recordedAll}
-use Rattle.semantics.specs.Recorder.{Event, nothing, supplied, was-reset, units, suspend, event, journal-after}
-use Rattle.semantics.specs.Recorder.{Command, commandOf, suspend-command, resume-command, program-command, lock-command, erase-command, buffer-command, other-command, first-cycle, cycle, acceptable, kinds, len, isProgram, isErase, isAny, isNone}
-use Rattle.semantics.specs.Numbers.{within}
+use Rattle.semantics.specs.Entries.{Entry, entry, Live, live, isFinished, idle-worked}
+use Rattle.semantics.specs.Recorder.{Operation, program, erase, buffer, Conditions, Recorder, beginning, recorded, recordedAll}
+use Rattle.semantics.specs.Recorder.{Event, event, journal-after}
+use Rattle.semantics.specs.Recorder.{kinds, len}
 use Rattle.semantics.specs.Engine.{stack, busy, held?, Matches, rules-agree}
+use Rattle.semantics.specs.Events.{OnJournal, adds, works, rephases, changes}
+use Rattle.semantics.specs.Causes.{Cause, by-work, cause}
 use Rattle.semantics.specs.Follows.{conditions, underWay, underWayOf, eventOf}
 use Rattle.semantics.specs.Invariant.{Agree, agree-formed, agree-after, agree-fresh, state-good, count-good, count-bad}
 use Rattle.wear.specs.Counts.{Counts, rowOf, placeIn, countAt, countOf, sharedZero, noCounts, oneMore, countsAfter}
 use Rattle.wear.specs.Steps.{deviceRefusal, refusalWith, acceptedCounts, countsWith, Counted, afterWith, afterAllWith, freshWith}
 use Rattle.wear.specs.Places.{placed, Shaped, count-with, shape-with}
-use Rattle.wear.specs.Refused.{shared-kept, shared-all, fresh-shared, device-alone, counts-still, after-alone}
-use Rattle.wear.specs.Claim.{erases, isFinished, isFinishedErase, finishedErases, CountsStand}
+use Rattle.wear.specs.Refused.{isWork, only-work, shared-kept, shared-all, fresh-shared, device-alone, after-alone}
+use Rattle.wear.specs.Claim.{erases, isFinishedErase, finishedErases, CountsStand}
 
 -- ---- what an event makes of the number of finished erases
 
-module _ (b : ℕ) where
-  map-kept : (f : Entry Operation → Entry Operation) → ((e : Entry Operation) → isFinishedErase b (f e) ≡ isFinishedErase b e) → (j : List (Entry Operation)) → finishedErases b (map f j) ≡ finishedErases b j
-  map-kept f h [] = refl
-  map-kept f h (e ∷ j) = (λ i. cond (h e i) (suc (map-kept f h j i)) (map-kept f h j i))
-
-  paused-kept : (e : Entry Operation) → isFinishedErase b (paused e) ≡ isFinishedErase b e
-  paused-kept (entry k u entries.running) = refl
-  paused-kept (entry k u entries.suspended) = refl
-  paused-kept (entry k u entries.finished) = refl
-  paused-kept (entry k u entries.broken-off) = refl
-
-  -- a phase by a test, neither of which is finished
-  neither : (t : Bool) (x y : Phase) (v : Bool) → isFinished x ≡ false → isFinished y ≡ false → (isFinished (cond t x y) && v) ≡ false
-  neither t x y v h k = rw (of-cond (λ (z : Phase). isFinished z ≡ false) t x y h k)
-
-  resumed-kept : (p : Operation → Bool) (e : Entry Operation) → isFinishedErase b (resumed p e) ≡ isFinishedErase b e
-  resumed-kept p (entry k u entries.running) = refl
-  resumed-kept p (entry k u entries.suspended) = neither (p k) entries.running entries.suspended (erases b k) refl refl
-  resumed-kept p (entry k u entries.finished) = refl
-  resumed-kept p (entry k u entries.broken-off) = refl
-
-  broken-kept : (r : Bool) (p : Operation → Bool) (e : Entry Operation) → isFinishedErase b (brokenOff r p e) ≡ isFinishedErase b e
-  broken-kept r p (entry k u entries.running) = neither r entries.broken-off entries.running (erases b k) refl refl
-  broken-kept r p (entry k u entries.suspended) = neither (p k) entries.broken-off entries.suspended (erases b k) refl refl
-  broken-kept r p (entry k u entries.finished) = refl
-  broken-kept r p (entry k u entries.broken-off) = refl
-
--- an event that finishes no erase
-record Still (g : Geometry) (v : Event) : Type 0 where
-  same : (b : ℕ) (j : List (Entry Operation)) → finishedErases b (journal-after g v j) ≡ finishedErases b j
-
 module _ (g : Geometry) where
-  still-suspend : Still g suspend
-  still-suspend = record { same = λ b j. map-kept b paused (paused-kept b) j }
+  -- a change of phases finishes none
+  map-kept : (b : ℕ) (f : Entry Operation → Entry Operation) → entries.Rephases (kinds g) f → (j : List (Entry Operation)) → finishedErases b (map f j) ≡ finishedErases b j
+  map-kept b f h [] = refl
+  map-kept b f h (entry k u t ∷ j) =
+      let e : isFinishedErase b (f (entry k u t)) ≡ isFinishedErase b (entry k u t) = ap (isFinishedErase b) (h k u t .0) ∙ ap (λ (x : Bool). x && erases b k) (h k u t .1) in
+      (λ i. cond (e i) (suc (map-kept b f h j i)) (map-kept b f h j i))
 
-  still-resumed : (p : Operation → Bool) (b : ℕ) (j : List (Entry Operation)) → finishedErases b (map (resumed p) j) ≡ finishedErases b j
-  still-resumed p b j = map-kept b (resumed p) (resumed-kept b p) j
-
-  still-broken : (r : Bool) (p : Operation → Bool) (b : ℕ) (j : List (Entry Operation)) → finishedErases b (map (brokenOff r p) j) ≡ finishedErases b j
-  still-broken r p b j = map-kept b (brokenOff r p) (broken-kept b r p) j
-
-  still-supplied : (on : Bool) → Still g (supplied on)
-  still-supplied true = record { same = λ b j. refl }
-  still-supplied false = record { same = still-broken true isNone }
-
-  module _ (d : Conditions) (r : Bool) (h : (Operation → Bool) → Bool) where
-    still-first : (b : ℕ) (c : Command) → Still g (first-cycle g d r h b c)
-    still-first b suspend-command = of-cond (Still g) r _ _ still-suspend (record { same = λ b j. refl })
-    still-first b resume-command =
-        of-cond (Still g) r _ _ (record { same = λ b j. refl })
-        (of-cond (Still g) (h isProgram) _ _ (of-cond (Still g) (d .supply) _ _ (record { same = still-resumed isProgram }) (record { same = still-broken false isProgram }))
-        (of-cond (Still g) (h isErase) _ _ (of-cond (Still g) (d .supply) _ _ (record { same = still-resumed isErase }) (record { same = still-broken false isErase })) (record { same = λ b j. refl })))
-    still-first b program-command = of-cond (Still g) (r || h isProgram) _ _ (record { same = λ b j. refl }) (record { same = λ b j. refl })
-    still-first b lock-command = of-cond (Still g) (r || h isProgram) _ _ (record { same = λ b j. refl }) (record { same = λ b j. refl })
-    still-first b erase-command = of-cond (Still g) (r || h isAny) _ _ (record { same = λ b j. refl }) (record { same = λ b j. refl })
-    still-first b buffer-command = of-cond (Still g) (r || h isProgram) _ _ (record { same = λ b j. refl }) (record { same = λ b j. refl })
-    still-first b other-command = record { same = λ b j. refl }
-
-    -- no write finishes an erase
-    still-cycle : (s : Setup) (l c w : ℕ) → Still g (cycle g d r h s l c w)
-    still-cycle no-setup l c w = still-first (blockOf g l) (commandOf c)
-    still-cycle lock-setup l c w = of-cond (Still g) (eqb c 0xD0) _ _ (record { same = λ b j. refl }) (of-cond (Still g) (eqb c 0x01) _ _ (record { same = λ b j. refl }) (record { same = λ b j. refl }))
-    still-cycle program-setup l c w = of-cond (Still g) (acceptable g d r h (blockOf g l)) _ _ (record { same = λ b j. refl }) (record { same = λ b j. refl })
-    still-cycle erase-setup l c w = of-cond (Still g) (eqb c 0xD0 && acceptable g d r h (blockOf g l)) _ _ (record { same = λ b j. refl }) (record { same = λ b j. refl })
-    still-cycle (count-setup n) l c w = of-cond (Still g) (eqb (blockOf g l) n && leb w 31) _ _ (record { same = λ b j. refl }) (record { same = λ b j. refl })
-    still-cycle (first-setup n m) l c w = of-cond (Still g) (eqb (blockOf g l) n && leb (l + m) (startOf g n + sizeOf g n)) _ _ (record { same = λ b j. refl }) (record { same = λ b j. refl })
-    still-cycle (words-setup s ws due) l c w =
-        of-cond (Still g) (eqb due 0) _ _ (of-cond (Still g) ((eqb c 0xD0 && eqb (blockOf g l) (blockOf g s)) && acceptable g d r h (blockOf g l)) _ _ (record { same = λ b j. refl }) (record { same = λ b j. refl }))
-        (of-cond (Still g) (within s (length ws) l) _ _ (record { same = λ b j. refl }) (record { same = λ b j. refl }))
+  -- and no step but work finishes an erase
+  still : {d : Conditions} {r : Bool} {h : (Operation → Bool) → Bool} {x : Step} {v : Event} → Cause g d r h x v → isWork x ≡ false → (b : ℕ) (j : List (Entry Operation))
+      → finishedErases b (journal-after g v j) ≡ finishedErases b j
+  still {d} {r} {h} {x} {v} c e b j = go (changes g v .0) c
+    where
+      go : {v : Event} → OnJournal g v → Cause g d r h x v → finishedErases b (journal-after g v j) ≡ finishedErases b j
+      go (adds k) c = refl
+      go (works n) (by-work _ z) = absurd (true≢false (sym (ap isWork z) ∙ e))
+      go (rephases v f q i) c = rw (i j) (map-kept b f q j)
 
   -- one more or not, as a sum
   more-if : (t : Bool) (n : ℕ) → cond t (suc n) n ≡ cond t 1 0 + n
@@ -235,25 +183,24 @@ right-own xs₀ m c k x a z r = subst (λ (v : Event). Right (countsWith (m .sta
     good : deviceRefusal (m .state) k (length (m .array)) ≡ 0
     good = device-alone (m .state) k z (length (m .array)) ∙ state-good (m .state) (length (m .array)) (a .size) (agree-formed (m .state .part) xs₀ m c a)
 
-    -- a step that leaves the counts, and an event that finishes no erase
-    stays : (y : Step) (v : Event) → countsWith (m .state) k (m .array) y ≡ k → Still (geometry (m .state)) v
-        → Right (countsWith (m .state) k (m .array) y) (journal-after (geometry (m .state)) v (c .journal))
-    stays y v e h = rw e (right-still k (c .journal) _ (λ b. h .same b (c .journal)) r)
+    -- a step that is no work leaves the counts
+    stays : (y : Step) → isWork y ≡ false → Right (countsWith (m .state) k (m .array) y) (journal-after (geometry (m .state)) (eventOf (geometry (m .state)) (m .state) y) (c .journal))
+    stays y e =
+        rw (only-work (m .state) k (m .array) y e)
+        (right-still k (c .journal) _ (λ b. still g (cause (geometry (m .state)) (conditions (m .state)) (busy (underWay (m .state))) (held? (underWay (m .state))) y) e b (c .journal)) r)
 
     work : (n : ℕ) → (65535 < n) ⊎ (n ≤ 65535) → Right (countsWith (m .state) k (m .array) (Work n)) (journal-after (geometry (m .state)) (eventOf (geometry (m .state)) (m .state) (Work n)) (c .journal))
-    work n (inl h) = rw (lt-leb n 65535 h) (stays (Work n) nothing (worked-refused s k (m .array) n good h) (record { same = λ b j. refl }))
+    work n (inl h) = rw (lt-leb n 65535 h, worked-refused s k (m .array) n good h) r
     work n (inr h) =
         rw (le-leb n 65535 h, worked-counted s k (m .array) n good h)
         (right-worked (geometry (m .state)) (laws.sound (m .state .part)) (laws.part-blocks (m .state .part)) (s .buffer) n (s .control .activity .running) (s .control .activity .program) (s .control .activity .erase) k (c .journal) (a .sim .match) r)
 
     go : (y : Step) → Right (countsWith (m .state) k (m .array) y) (journal-after (geometry (m .state)) (eventOf (geometry (m .state)) (m .state) y) (c .journal))
-    go (Read address) = stays (Read address) nothing (counts-still s k (m .array) (Read address) refl) (record { same = λ b j. refl })
-    go (Write address w) =
-        stays (Write address w) (eventOf (geometry (m .state)) (m .state) (Write address w)) (counts-still s k (m .array) (Write address w) refl)
-        (of-cond (Still (geometry (m .state))) (ltb address 16777216) _ _ (still-cycle (geometry (m .state)) (conditions s) (busy (underWay s)) (held? (underWay s)) (conditions s .setup) (location (geometry (m .state)) address) (w % 256) w) (record { same = λ b j. refl }))
+    go (Read address) = stays (Read address) refl
+    go (Write address w) = stays (Write address w) refl
     go (Work n) = work n (laws.order 65535 n)
-    go (Supply on) = stays (Supply on) (supplied on) (counts-still s k (m .array) (Supply on) refl) (still-supplied (geometry (m .state)) on)
-    go Reset = stays Reset was-reset (counts-still s k (m .array) Reset refl) (record { same = still-broken (geometry (m .state)) true isAny })
+    go (Supply on) = stays (Supply on) refl
+    go Reset = stays Reset refl
 
 pub right-after : (p : Part) (xs₀ : List ℕ) (m : Machine) (c : Recorder) (k : Counts) (x : Step) → Agree p xs₀ m c → sharedZero (k .main) ≡ true → Right k (c .journal)
     → Right (countsWith (m .state) k (m .array) x) (recorded (geometryOf p) c x .journal)
