@@ -23,11 +23,14 @@ pub mod StatusCases
 pub mod RegisterCases
 pub mod SupplyCases
 pub mod SupplyStates
+pub mod KnownLength
 pub mod FurtherCases
+pub mod AnswerCases
 pub mod Encoding
 pub mod Entries
 pub mod Recorder
 pub mod JournalCases
+pub mod RecorderCases
 pub mod Demand
 pub mod Layout
 pub mod Engine
