@@ -1,17 +1,18 @@
 -- Lines and their steps, and of each place of a line of each form the bytes that may stand there, each as one table under one statement: the checker computes each through the definitions. A wrong entry
 -- is refused.
 -- Assumes nothing.
-use Prim.Native.Nat.{ℕ, zero, suc}
+use Prim.Native.Nat.{ℕ}
 use Prim.Native.Char.{code}
 use Prim.Native.String.{String, [] as none, _∷_ as first}
-use mathlib.Core.Bool.{Bool, true, false, cond, _&&_}
+use mathlib.Core.Bool.{Bool, true, false, _&&_}
 use mathlib.Core.List.{List, [], _∷_}
 use mathlib.Core.Path.{_≡_, refl}
-use lib.Dec.{T, eqb}
+use lib.Dec.{T}
 use lib.ListN.{set}
 use Rattle.semantics.specs.declared.Step.the-variants.{Read, Write, Work, Supply, Reset}
 use Rattle.semantics.specs.declared.Decoded.{Decoded}
 use Rattle.semantics.specs.declared.Decoded.the-variants.{Valid, Invalid}
+use Rattle.semantics.specs.Exactly.{exactly}
 use Rattle.line.specs.Forms.{hexValue, digits, number, begins, isRead, isWrite, isWork, isSupply, isReset, stepOfLine}
 
 infix 20 _⟶_
@@ -146,20 +147,9 @@ abbrev pub isForm : Decoded → Bool
 isForm (Valid x) = true
 isForm Invalid = false
 
--- those of the bytes below n, before others
-abbrev below : List ℕ → ℕ → ℕ → List ℕ → List ℕ
-below line at zero l = l
-below line at (suc b) l = below line at b (cond (isForm (stepOfLine (set line at b))) (b ∷ l) l)
-
-abbrev same : List ℕ → List ℕ → Bool
-same [] [] = true
-same [] (y ∷ m) = false
-same (x ∷ l) [] = false
-same (x ∷ l) (y ∷ m) = eqb x y && same l m
-
 abbrev pub every : List Place → Bool
 every [] = true
-every (place line at s ∷ l) = same (below (bytes line) at 256 []) (bytes s) && every l
+every (place line at s ∷ l) = exactly (λ b. isForm (stepOfLine (set (bytes line) at b))) (bytes s) && every l
 
 abbrev hexes : String
 hexes = "0123456789ABCDEF"

@@ -13,9 +13,11 @@ pub mod RegisterBits
 pub mod Working
 pub mod Arrays
 pub mod Steps
+pub mod Exactly
 pub mod Cases
 pub mod ReadingCases
 pub mod WritingCases
+pub mod CodeCases
 pub mod OperationCases
 pub mod RefusalCases
 pub mod BufferCases

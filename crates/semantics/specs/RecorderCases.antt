@@ -2,8 +2,8 @@
 -- of a word. JournalCases has the phases of an entry. The checker computes each, with no device and no array in it.
 -- Bench bottom: block 4 has the locations 40h to 7Fh, block 5 80h to BFh, and block 6 C0h to FFh.
 -- Assumes nothing.
-use Prim.Native.Nat.{ℕ, zero, suc}
-use mathlib.Core.Bool.{Bool, true, false, cond, _&&_}
+use Prim.Native.Nat.{ℕ}
+use mathlib.Core.Bool.{Bool, true, false, _&&_}
 use mathlib.Core.List.{List, [], _∷_, _++_, map}
 use mathlib.Core.Path.{_≡_, refl}
 use lib.Dec.{T, eqb}
@@ -12,6 +12,7 @@ use Rattle.geometry.specs.declared.Part.the-variants.{BenchBottom, BenchTop}
 use Rattle.geometry.specs.Blocks.{geometryOf, mirror, blockFrom, blockOf, sizeOf, startFrom, startOf}
 use Rattle.semantics.specs.declared.Step.{Step}
 use Rattle.semantics.specs.declared.Step.the-variants.{Read, Write, Work, Supply, Reset}
+use Rattle.semantics.specs.Exactly.{exactly}
 use Rattle.semantics.specs.Entries.{Entry, entry, running, suspended, finished, broken-off}
 use Rattle.semantics.specs.Recorder.{Operation, program, erase, buffer, applied, journalOf}
 use Rattle.semantics.specs.JournalCases.{Case, _⟶_, drawn, expected, cycles, ready, erases, programs, pause, resume, on, off, work}
@@ -73,10 +74,9 @@ recorders =
     -- its words may end at the block's end, and not past it; D0h is the next cycle's data, and then a resume
     ∷ (ready ++ load 1 (Write 0xBE 1 ∷ Write 0xBF 2 ∷ []) ⟶ entry (buffer 0xBE (1 ∷ 2 ∷ [])) 0 running ∷ [])
     ∷ (ready ++ load 1 (Write 0xBF 1 ∷ Write 0xBF 2 ∷ []) ⟶ [])
-    -- the count counts whole: 31 is one, 32, 100h, 101h, 4000h and 8000h are none, and what follows is read as commands
-    ∷ (ready ++ load 31 [] ++ Write 0x80 0xB0 ∷ [] ⟶ [])
-    ∷ (ready ++ load 31 (cycles 0x80 0x60 0x01) ++ programs ⟶ [])
-    ∷ (ready ++ load 32 (cycles 0x80 0x60 0x01) ++ cycles 0x40 0x40 7 ⟶ entry (program 0x40 7) 0 running ∷ [])
+    -- the count counts whole: 31 is one, 32, 100h, 101h, 4000h and 8000h are none, and then what follows is read as commands
+    ∷ (ready ++ cycles 0x80 0xE8 31 ++ programs ⟶ [])
+    ∷ (ready ++ cycles 0x80 0xE8 32 ++ programs ⟶ entry (program 0x80 0x1234) 0 running ∷ [])
     ∷ (ready ++ load 0x100 (Write 0x80 0xAAAA ∷ []) ⟶ [])
     ∷ (ready ++ load 0x101 (Write 0x80 0xAAAA ∷ Write 0x81 0xBBBB ∷ []) ⟶ [])
     ∷ (ready ++ load 0x4000 (Write 0x80 0xAAAA ∷ []) ⟶ [])
@@ -140,20 +140,9 @@ abbrev empty : List (Entry Operation) → Bool
 empty [] = true
 empty (e ∷ j) = false
 
--- those of the codes below n with which it passes, before others
-abbrev below : (ℕ → List Step) → (List (Entry Operation) → Bool) → ℕ → List ℕ → List ℕ
-below f p zero l = l
-below f p (suc c) l = below f p c (cond (p (journalOf (geometryOf BenchBottom) (f c))) (c ∷ l) l)
-
-abbrev same : List ℕ → List ℕ → Bool
-same [] [] = true
-same [] (y ∷ m) = false
-same (x ∷ l) [] = false
-same (x ∷ l) (y ∷ m) = eqb x y && same l m
-
 abbrev pub allCodes : List Codes → Bool
 allCodes [] = true
-allCodes (codes f p cs ∷ l) = same (below f p 256 []) cs && allCodes l
+allCodes (codes f p cs ∷ l) = exactly (λ c. p (journalOf (geometryOf BenchBottom) (f c))) cs && allCodes l
 
 abbrev pub commands : List Codes
 commands =
