@@ -25,16 +25,16 @@ expected (l ⟶ j) = j
 
 -- ---- steps: supply on, and blocks 4 (40h to 7Fh) and 5 (80h to BFh) unprotected; an erase of block 4; a program, and a buffer program of two words, in block 5; what D0h, B0h and supply off are
 
-abbrev cycles : ℕ → ℕ → ℕ → List Step
+abbrev pub cycles : ℕ → ℕ → ℕ → List Step
 cycles a c w = Write a c ∷ Write a w ∷ []
 
-abbrev ready : List Step
+abbrev pub ready : List Step
 ready = Supply true ∷ cycles 0x40 0x60 0xD0 ++ cycles 0x80 0x60 0xD0
 
-abbrev erases : List Step
+abbrev pub erases : List Step
 erases = cycles 0x40 0x20 0xD0
 
-abbrev programs : List Step
+abbrev pub programs : List Step
 programs = cycles 0x80 0x40 0x1234
 
 abbrev loads : List Step
@@ -46,19 +46,19 @@ two = loads ++ Write 0x80 0xD0 ∷ []
 abbrev words : List ℕ
 words = 0xAAAA ∷ 0xBBBB ∷ []
 
-abbrev pause : List Step
+abbrev pub pause : List Step
 pause = Write 0x0 0xB0 ∷ []
 
-abbrev resume : List Step
+abbrev pub resume : List Step
 resume = Write 0x0 0xD0 ∷ []
 
-abbrev on : List Step
+abbrev pub on : List Step
 on = Supply true ∷ []
 
-abbrev off : List Step
+abbrev pub off : List Step
 off = Supply false ∷ []
 
-abbrev work : ℕ → List Step
+abbrev pub work : ℕ → List Step
 work n = Work n ∷ []
 
 abbrev pub journals : List Case

@@ -15,9 +15,11 @@ pub mod RegisterBits
 pub mod Working
 pub mod Arrays
 pub mod Steps
+pub mod Exactly
 pub mod Cases
 pub mod ReadingCases
 pub mod WritingCases
+pub mod CodeCases
 pub mod OperationCases
 pub mod RefusalCases
 pub mod BufferCases
@@ -25,7 +27,9 @@ pub mod StatusCases
 pub mod RegisterCases
 pub mod SupplyCases
 pub mod SupplyStates
+pub mod KnownLength
 pub mod FurtherCases
+pub mod AnswerCases
 pub mod Encoding
 pub mod Entries
 pub mod Recorder
@@ -33,6 +37,7 @@ pub mod Tests
 pub mod Events
 pub mod Causes
 pub mod JournalCases
+pub mod RecorderCases
 pub mod Demand
 pub mod Layout
 pub mod Engine
