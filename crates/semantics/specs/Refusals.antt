@@ -2,7 +2,7 @@
 -- Assumes nothing.
 use mathlib.Core.Path.{_≡_, refl, sym, _∙_}
 use mathlib.Core.List.{List}
-use mathlib.Core.Bool.{true, false, and-false}
+use mathlib.Core.Bool.{true, false, cond, and-false}
 use Prim.Native.Nat.{ℕ, suc}
 use native.Mathlib.Omega.{arith}
 use lib.Dec.{eqb, eqb·suc-zero}
@@ -15,12 +15,14 @@ use Rattle.semantics.specs.declared.Step.{Step}
 use Rattle.semantics.specs.declared.Step.the-variants.{Read, Write, Work, Supply, Reset}
 use Rattle.semantics.specs.declared.Answer.the-variants.{Refused}
 use Rattle.semantics.specs.declared.Next.{Next}
-use Rattle.semantics.specs.Branches.{of-cond, by-cond, by-test}
+use Rattle.semantics.specs.Branches.{of-cond, by-cond, by-cond₂, by-test}
 use Rattle.semantics.specs.State.{geometry, runs}
 use Rattle.semantics.specs.Register.{isReserved, reservedZero}
 use Rattle.semantics.specs.RegisterBits.{zero-each}
 use Rattle.semantics.specs.WellFormed.{activityFormed, placesUsed, zeroFrom, runsSupplied, wellFormed}
-use Rattle.semantics.specs.Steps.{stateRefusal, firstRefusal, refusalOf, next, accepted, acceptedArray, stepOf, arrayOf, numberOf, reportedOf}
+use Rattle.semantics.specs.Reading.{readWord}
+use Rattle.semantics.specs.Working.{unitsDone}
+use Rattle.semantics.specs.Steps.{stateRefusal, firstRefusal, refusalOf, next, accepted, acceptedArray, stepOf, arrayOf, numberOf, valueOf, reportedOf}
 
 -- what holds of a step that is accepted, and of one that is refused, holds of every step; and so of the array
 pub of-step : (P : Next → Type 0) (s : State) (xs : List ℕ) (x : Step) → P (accepted s xs x)
@@ -38,19 +40,39 @@ pub refusal-changes-nothing : (s : State) (xs : List ℕ) (x : Step) (n : ℕ) �
 unfolding stepOf arrayOf
 refusal-changes-nothing s xs x n h = (rw (h, eqb·suc-zero n), rw (h, eqb·suc-zero n))
 
--- the number of the answer is the refusal, 0 where there is none
+-- what a step answers by document 01's number and value, where r is its refusal or 0: a step that is accepted answers the word that was read, the units that were done, or 0
+abbrev pub valueGiven : State → List ℕ → Step → ℕ
+valueGiven s xs (Read a) = readWord s xs a
+valueGiven s xs (Write a w) = 0
+valueGiven s xs (Work n) = unitsDone (geometry s) (s .control .activity .running) n
+valueGiven s xs (Supply on) = 0
+valueGiven s xs Reset = 0
+
+module _ (s : State) (xs : List ℕ) (x : Step) (r : ℕ) where
+  told : (x : Step) → (numberOf (accepted s xs x .answer) ≡ 0) × (valueOf (accepted s xs x .answer) ≡ valueGiven s xs x)
+  unfolding accepted
+  told (Read a) = (refl, refl)
+  told (Write a w) = (refl, refl)
+  told (Work n) = (refl, refl)
+  told (Supply on) = (refl, refl)
+  told Reset = (refl, refl)
+
+  pub number-by : numberOf (cond (eqb r 0) (accepted s xs x) (next s (Refused r)) .answer) ≡ r
+  number-by =
+      by-cond (λ (y : Next). numberOf (y .answer) ≡ r) (eqb r 0) _ _ (λ e. told x .0 ∙ sym (eqb-true r 0 e)) (λ e. refl)
+
+  pub value-by : valueOf (cond (eqb r 0) (accepted s xs x) (next s (Refused r)) .answer) ≡ cond (eqb r 0) (valueGiven s xs x) 0
+  value-by = by-cond₂ (λ (y : Next) (v : ℕ). valueOf (y .answer) ≡ v) (eqb r 0) _ _ _ _ (λ e. told x .1) (λ e. refl)
+
+-- the number of the answer is the refusal, 0 where there is none; and "A refusal gives its number beside the answer 0"
 pub answer-number : (s : State) (xs : List ℕ) (x : Step) → numberOf (stepOf s xs x .answer) ≡ refusalOf s (length xs) x
-unfolding stepOf accepted
-answer-number s xs x =
-    by-cond (λ (y : Next). numberOf (y .answer) ≡ refusalOf s (length xs) x) (eqb (refusalOf s (length xs) x) 0) _ _
-    (λ e. none x ∙ sym (eqb-true (refusalOf s (length xs) x) 0 e)) (λ e. refl)
-  where
-    none : (x : Step) → numberOf (accepted s xs x .answer) ≡ 0
-    none (Read a) = refl
-    none (Write a w) = refl
-    none (Work n) = refl
-    none (Supply on) = refl
-    none Reset = refl
+unfolding stepOf
+answer-number s xs x = number-by s xs x (refusalOf s (length xs) x)
+
+pub answer-value : (s : State) (xs : List ℕ) (x : Step) → valueOf (stepOf s xs x .answer)
+    ≡ cond (eqb (refusalOf s (length xs) x) 0) (valueGiven s xs x) 0
+unfolding stepOf
+answer-value s xs x = value-by s xs x (refusalOf s (length xs) x)
 
 -- "array length is not 256u": every step is refused 1, whatever the state
 pub refusal-1 : (s : State) (n : ℕ) (x : Step) → (n ≡ words (geometry s) → ⊥) → refusalOf s n x ≡ 1

@@ -1,6 +1,7 @@
 pub mod Counts
 pub mod Steps
 pub mod Claim
+pub mod Card
 pub mod CountCases
 pub mod WearCases
 pub mod ReportCases
