@@ -32,7 +32,8 @@ use Rattle.semantics.specs.Reading.{bitIf}
 use Rattle.semantics.specs.WellFormed.{runningAlone, programAlone, eraseAlone, setupFits, runningFits, programFits, suspendedEraseFits, allFit, runningApart, programApart, apart, activityFormed, wellFormed}
 use Rattle.semantics.specs.Register.{isReserved}
 use Rattle.semantics.specs.Refusals.{reserved-unformed}
-use Rattle.saved.specs.Saved.{partNumber, modeNumber, modeNumbered, bankNumber, bankNumbered, flagNumbered, setupNumbers, setupOf, runningNumbers, runningOf, programNumbers, programOf, eraseNumbers, eraseOf, flagNumbers, joined, inHalves, ofHalves, bytes, fromByte, listed, first, modesWord, modesIn, bankWords, activityWords, activityOf, flagsIn, controlWord, restOf, packed, lane, packedAt, laneAt, bufferWords, bufferIn, savedOf, loadedOf, same, isSaved, noState, stateOf, putInto}
+use Rattle.saved.specs.declared.Four.{Four}
+use Rattle.saved.specs.Saved.{partNumber, modeNumber, modeNumbered, bankNumber, bankNumbered, flagNumbered, half, setupNumbers, setupOf, runningNumbers, runningOf, programNumbers, programOf, eraseNumbers, eraseOf, flagNumbers, joined, inHalves, ofHalves, bytes, fromByte, listed, first, modesWord, modesIn, bankWords, activityWords, activityOf, flagsIn, controlWord, restOf, packed, lane, packedAt, laneAt, bufferWords, bufferIn, savedOf, loadedOf, same, isSaved, noState, stateOf, putInto}
 
 -- ---- lists
 
@@ -227,7 +228,7 @@ flags-back f = λ j. flagsOf (at 0 (f .sr5) refl j) (at 1 (f .sr4) refl j) (at 2
     at : (k : ℕ) (b : Bool) → getD (flagNumbers f) k 0 ≡ bitIf b 1 → flagNumbered (fromByte k (bytes (flagNumbers f))) ≡ b
     at k b e = byte (fromByte k (bytes (flagNumbers f))) ∙ ap flagNumbered (byte-back (flagNumbers f) (flags-bytes f) k ∙ e) ∙ flag-back b
 
-pub flags-small : (f : Flags) → bytes (flagNumbers f) < 4294967296
+pub flags-small : (f : Flags) → bytes (flagNumbers f) < half
 flags-small f = bytes-small 4 (flagNumbers f) (omega arith) (flags-bytes f)
 
 -- ---- the buffer
@@ -272,24 +273,24 @@ SetupFitting setup.Nothing = Unit {0}
 SetupFitting setup.Program = Unit {0}
 SetupFitting setup.Erase = Unit {0}
 SetupFitting setup.Lock = Unit {0}
-SetupFitting (setup.BufferCount b) = b < 4294967296
-SetupFitting (setup.BufferFirst b n) = (b < 4294967296) × (n < 4294967296)
-SetupFitting (setup.BufferWords l n k) = (l < 4294967296) × (n < 4294967296) × (k < 4294967296)
+SetupFitting (setup.BufferCount b) = b < half
+SetupFitting (setup.BufferFirst b n) = (b < half) × (n < half)
+SetupFitting (setup.BufferWords l n k) = (l < half) × (n < half) × (k < half)
 
 abbrev pub RunningFitting : Running → Type 0
 RunningFitting running.Idle = Unit {0}
-RunningFitting (running.Program l w) = (l < 4294967296) × (w < 65536)
-RunningFitting (running.Erase b n) = (b < 4294967296) × (n < 4294967296)
-RunningFitting (running.Buffer l n d) = (l < 4294967296) × (n < 4294967296) × (d < 4294967296)
+RunningFitting (running.Program l w) = (l < half) × (w < 65536)
+RunningFitting (running.Erase b n) = (b < half) × (n < half)
+RunningFitting (running.Buffer l n d) = (l < half) × (n < half) × (d < half)
 
 abbrev pub ProgramFitting : SuspendedProgram → Type 0
 ProgramFitting program.Nothing = Unit {0}
-ProgramFitting (program.Program l w) = (l < 4294967296) × (w < 65536)
-ProgramFitting (program.Buffer l n d) = (l < 4294967296) × (n < 4294967296) × (d < 4294967296)
+ProgramFitting (program.Program l w) = (l < half) × (w < 65536)
+ProgramFitting (program.Buffer l n d) = (l < half) × (n < half) × (d < half)
 
 abbrev pub EraseFitting : SuspendedErase → Type 0
 EraseFitting erase.Nothing = Unit {0}
-EraseFitting (erase.Erase b n) = (b < 4294967296) × (n < 4294967296)
+EraseFitting (erase.Erase b n) = (b < half) × (n < half)
 
 -- what every state that the code holds has, by its types
 pub record Fitting (s : State) : Type 0 where
@@ -303,83 +304,54 @@ pub record Fitting (s : State) : Type 0 where
   pub places : length (s .buffer) ≡ 32
   pub buffer : (k : ℕ) → getD (s .buffer) k 0 < 65536
 
-setup-back : (s : Setup) → SetupFitting s → setupOf (getD (setupNumbers s) 0 0) (getD (setupNumbers s) 1 0) (getD (setupNumbers s) 2 0) (getD (setupNumbers s) 3 0) ≡ s
+-- ---- four numbers in two words
+
+-- numbers that fit are got back
+four-back : (k a b c : ℕ) → k < half → a < half → b < half → c < half → ofHalves (joined half k a) (joined half b c) ≡ (k, a, b, c)
+four-back k a b c p q r s = λ j. (low k a p j, high k a p q j, low b c r j, high b c r s j)
+  where
+    low : (x y : ℕ) → x < half → joined half x y % half ≡ x
+    low = first-back half
+
+    high : (x y : ℕ) → x < half → y < half → joined half x y / half % half ≡ y
+    high x y h k = ap (λ (n : ℕ). n % half) (second-back half x y h) ∙ mod-eq-of-lt k
+
+-- and so is the value that they are made of
+module _ {A : Type 0} (numbers : A → Four) (of : Four → A) where
+  abbrev Back : A → Type 0
+  Back s = of (ofHalves (joined half (numbers s .0) (numbers s .1)) (joined half (numbers s .2) (numbers s .3))) ≡ s
+
+setup-back : (s : Setup) → SetupFitting s → Back setupNumbers setupOf s
 setup-back setup.Nothing h = refl
 setup-back setup.Program h = refl
 setup-back setup.Erase h = refl
 setup-back setup.Lock h = refl
-setup-back (setup.BufferCount b) h = rw (mod-eq-of-lt h)
-setup-back (setup.BufferFirst b n) h = rw (mod-eq-of-lt (h .0), mod-eq-of-lt (h .1))
-setup-back (setup.BufferWords l n k) h = rw (mod-eq-of-lt (h .0), mod-eq-of-lt (h .1), mod-eq-of-lt (h .2))
+setup-back (setup.BufferCount b) h = ap setupOf (four-back 4 b 0 0 (omega arith) h (omega arith) (omega arith))
+setup-back (setup.BufferFirst b n) h = ap setupOf (four-back 5 b n 0 (omega arith) (h .0) (h .1) (omega arith))
+setup-back (setup.BufferWords l n k) h = ap setupOf (four-back 6 l n k (omega arith) (h .0) (h .1) (h .2))
 
-running-back : (r : Running) → RunningFitting r → runningOf (getD (runningNumbers r) 0 0) (getD (runningNumbers r) 1 0) (getD (runningNumbers r) 2 0) (getD (runningNumbers r) 3 0) ≡ r
+running-back : (r : Running) → RunningFitting r → Back runningNumbers runningOf r
 running-back running.Idle h = refl
-running-back (running.Program l w) h = rw (mod-eq-of-lt (h .0), mod-eq-of-lt (h .1))
-running-back (running.Erase b n) h = rw (mod-eq-of-lt (h .0), mod-eq-of-lt (h .1))
-running-back (running.Buffer l n d) h = rw (mod-eq-of-lt (h .0), mod-eq-of-lt (h .1), mod-eq-of-lt (h .2))
+running-back (running.Program l w) h = ap runningOf (four-back 1 l w 0 (omega arith) (h .0) (omega (arith, h .1)) (omega arith)) ∙ rw (mod-eq-of-lt (h .1))
+running-back (running.Erase b n) h = ap runningOf (four-back 2 b n 0 (omega arith) (h .0) (h .1) (omega arith))
+running-back (running.Buffer l n d) h = ap runningOf (four-back 3 l n d (omega arith) (h .0) (h .1) (h .2))
 
-program-back : (p : SuspendedProgram) → ProgramFitting p → programOf (getD (programNumbers p) 0 0) (getD (programNumbers p) 1 0) (getD (programNumbers p) 2 0) (getD (programNumbers p) 3 0) ≡ p
+program-back : (p : SuspendedProgram) → ProgramFitting p → Back programNumbers programOf p
 program-back program.Nothing h = refl
-program-back (program.Program l w) h = rw (mod-eq-of-lt (h .0), mod-eq-of-lt (h .1))
-program-back (program.Buffer l n d) h = rw (mod-eq-of-lt (h .0), mod-eq-of-lt (h .1), mod-eq-of-lt (h .2))
+program-back (program.Program l w) h = ap programOf (four-back 1 l w 0 (omega arith) (h .0) (omega (arith, h .1)) (omega arith)) ∙ rw (mod-eq-of-lt (h .1))
+program-back (program.Buffer l n d) h = ap programOf (four-back 2 l n d (omega arith) (h .0) (h .1) (h .2))
 
-erase-back : (e : SuspendedErase) → EraseFitting e → eraseOf (getD (eraseNumbers e) 0 0) (getD (eraseNumbers e) 1 0) (getD (eraseNumbers e) 2 0) ≡ e
+erase-back : (e : SuspendedErase) → EraseFitting e → Back eraseNumbers eraseOf e
 erase-back erase.Nothing h = refl
-erase-back (erase.Erase b n) h = rw (mod-eq-of-lt (h .0), mod-eq-of-lt (h .1))
-
--- ---- four numbers in two words
-
--- those that go in a lower half fit it
-abbrev pub Halves : List ℕ → Type 0
-Halves l = (getD l 0 0 < 4294967296) × (getD l 2 0 < 4294967296)
-
--- which they do for every value that is made of numbers, whichever way its tests go
-either : {A : Type 0} (P : A → Type 0) (t : Bool) {a b : A} → P a → P b → P (cond t a b)
-either P true p q = p
-either P false p q = q
-
-pub setup-halves : (k a b c : ℕ) → Halves (setupNumbers (setupOf k a b c))
-setup-halves k a b c =
-    either H (ltb k 4) (either H (eqb k 0) (omega arith, omega arith) (either H (eqb k 1) (omega arith, omega arith) (either H (eqb k 2) (omega arith, omega arith) (omega arith, omega arith))))
-    (either H (eqb k 4) (omega arith, omega arith) (either H (eqb k 5) (omega arith, omega arith) (omega arith, omega arith)))
-  where
-    H : Setup → Type 0
-    H s = Halves (setupNumbers s)
-
-pub running-halves : (k a b c : ℕ) → Halves (runningNumbers (runningOf k a b c))
-running-halves k a b c = either H (eqb k 0) (omega arith, omega arith) (either H (eqb k 1) (omega arith, omega arith) (either H (eqb k 2) (omega arith, omega arith) (omega arith, omega arith)))
-  where
-    H : Running → Type 0
-    H r = Halves (runningNumbers r)
-
-pub program-halves : (k a b c : ℕ) → Halves (programNumbers (programOf k a b c))
-program-halves k a b c = either H (eqb k 0) (omega arith, omega arith) (either H (eqb k 1) (omega arith, omega arith) (omega arith, omega arith))
-  where
-    H : SuspendedProgram → Type 0
-    H p = Halves (programNumbers p)
-
-pub erase-halves : (k a b : ℕ) → Halves (eraseNumbers (eraseOf k a b))
-erase-halves k a b = either (λ (e : SuspendedErase). Halves (eraseNumbers e)) (eqb k 0) (omega arith, omega arith) (omega arith, omega arith)
-
--- a value is got back from its two words
-module _ {A : Type 0} (numbers : A → List ℕ) (of : ℕ → ℕ → ℕ → ℕ → A) (halves : (k a b c : ℕ) → Halves (numbers (of k a b c))) where
-  halves-back : (s : A) → of (getD (numbers s) 0 0) (getD (numbers s) 1 0) (getD (numbers s) 2 0) (getD (numbers s) 3 0) ≡ s
-      → ofHalves of (getD (inHalves (numbers s)) 0 0) (getD (inHalves (numbers s)) 1 0) ≡ s
-  halves-back s e =
-      let l : List ℕ = numbers s in
-      let h : Halves l = subst (λ (t : A). Halves (numbers t)) e (halves (getD l 0 0) (getD l 1 0) (getD l 2 0) (getD l 3 0)) in
-      (λ j. of (first-back 4294967296 (getD l 0 0) (getD l 1 0) (h .0) j) (second-back 4294967296 (getD l 0 0) (getD l 1 0) (h .0) j) (first-back 4294967296 (getD l 2 0) (getD l 3 0) (h .1) j) (second-back 4294967296 (getD l 2 0) (getD l 3 0) (h .1) j))
-      ∙ e
+erase-back (erase.Erase b n) h = ap eraseOf (four-back 1 b n 0 (omega arith) (h .0) (h .1) (omega arith))
 
 -- ---- the whole state
 
 activity-back : (s : State) → Fitting s → activityOf (savedOf s) ≡ s .control .activity
 unfolding savedOf
-activity-back s h = λ j. activity
-    (halves-back setupNumbers setupOf setup-halves (s .control .activity .setup) (setup-back (s .control .activity .setup) (h .setup)) j)
-    (halves-back runningNumbers runningOf running-halves (s .control .activity .running) (running-back (s .control .activity .running) (h .running)) j)
-    (halves-back programNumbers programOf program-halves (s .control .activity .program) (program-back (s .control .activity .program) (h .program)) j)
-    (halves-back eraseNumbers (λ k a b c. eraseOf k a b) (λ k a b c. erase-halves k a b) (s .control .activity .erase) (erase-back (s .control .activity .erase) (h .erase)) j)
+activity-back s h =
+    let a = s .control .activity in
+    λ j. activity (setup-back (a .setup) (h .setup) j) (running-back (a .running) (h .running) j) (program-back (a .program) (h .program) j) (erase-back (a .erase) (h .erase) j)
 
 -- a state is got back from its words
 pub loaded-saved : (s : State) → Fitting s → loadedOf (savedOf s) ≡ s
@@ -387,8 +359,8 @@ unfolding savedOf loadedOf
 loaded-saved s h =
     let k = s .control in
     let b = bitIf (k .supply) 1 in
-    let low = first-back 4294967296 (bytes (flagNumbers (k .flags))) (joined 65536 (k .configuration) b) (flags-small (k .flags)) in
-    let high = second-back 4294967296 (bytes (flagNumbers (k .flags))) (joined 65536 (k .configuration) b) (flags-small (k .flags)) in
+    let low = first-back half (bytes (flagNumbers (k .flags))) (joined 65536 (k .configuration) b) (flags-small (k .flags)) in
+    let high = second-back half (bytes (flagNumbers (k .flags))) (joined 65536 (k .configuration) b) (flags-small (k .flags)) in
     λ j. record {
       part = part-back (s .part) j;
       banks = banks-back (s .banks) (h .banks) j;
@@ -427,7 +399,7 @@ unfolding stateOf noState powerUp runningAlone programAlone eraseAlone setupFits
 unsaved-refused ws h = rw h
 
 -- and so do words whose register has a reserved bit set, in bits 32 to 47 of word 11
-pub reserved-words : (ws : List ℕ) (i : ℕ) → isReserved i ≡ true → bit (getD ws 11 0 / 4294967296 % 65536) i ≡ 1 → wellFormed (stateOf ws) ≡ false
+pub reserved-words : (ws : List ℕ) (i : ℕ) → isReserved i ≡ true → bit (getD ws 11 0 / half % 65536) i ≡ 1 → wellFormed (stateOf ws) ≡ false
 unfolding stateOf loadedOf
 reserved-words ws i e h = go (isSaved ws) refl
   where

@@ -26,6 +26,7 @@ use Rattle.semantics.specs.declared.Flags.{Flags}
 use Rattle.semantics.specs.declared.State.{State}
 use Rattle.semantics.specs.State.{withProtection, activity, flagsOf, powerUp}
 use Rattle.semantics.specs.Reading.{bitIf}
+use Rattle.saved.specs.declared.Four.{Four}
 use Rattle.saved.specs.declared.Found.{Found}
 
 -- ---- a field as numbers, and back. Of the numbers of an enum the last stands for every other number too
@@ -58,65 +59,66 @@ bankNumbered n = record { mode = modeNumbered (n % 4) }
 abbrev pub flagNumbered : ℕ → Bool
 flagNumbered n = not (eqb (n % 2) 0)
 
+-- 2^32: the upper half of a word of 64 bits is from here on
+abbrev pub half : ℕ
+half = 4294967296
+
 -- what is pending, runs or is suspended: its kind, and three numbers, of which one that it does not use is 0.
 -- Set-up: 0 nothing, 1 program, 2 erase, 3 lock; of a load 4, block (its count is due), or 5, block, number of words (its first word), or 6, start, number of words,
 -- data cycles that are due
-abbrev pub setupNumbers : Setup → List ℕ
-setupNumbers setup.Nothing = 0 ∷ 0 ∷ 0 ∷ 0 ∷ []
-setupNumbers setup.Program = 1 ∷ 0 ∷ 0 ∷ 0 ∷ []
-setupNumbers setup.Erase = 2 ∷ 0 ∷ 0 ∷ 0 ∷ []
-setupNumbers setup.Lock = 3 ∷ 0 ∷ 0 ∷ 0 ∷ []
-setupNumbers (setup.BufferCount b) = 4 ∷ b ∷ 0 ∷ 0 ∷ []
-setupNumbers (setup.BufferFirst b n) = 5 ∷ b ∷ n ∷ 0 ∷ []
-setupNumbers (setup.BufferWords l n k) = 6 ∷ l ∷ n ∷ k ∷ []
+abbrev pub setupNumbers : Setup → Four
+setupNumbers setup.Nothing = (0, 0, 0, 0)
+setupNumbers setup.Program = (1, 0, 0, 0)
+setupNumbers setup.Erase = (2, 0, 0, 0)
+setupNumbers setup.Lock = (3, 0, 0, 0)
+setupNumbers (setup.BufferCount b) = (4, b, 0, 0)
+setupNumbers (setup.BufferFirst b n) = (5, b, n, 0)
+setupNumbers (setup.BufferWords l n k) = (6, l, n, k)
 
 -- the set-ups that have no number; every other kind is lock
 abbrev pub plainSetup : ℕ → Setup
 plainSetup k = cond (eqb k 0) setup.Nothing (cond (eqb k 1) setup.Program (cond (eqb k 2) setup.Erase setup.Lock))
 
 -- those of a load; every other kind is the last
-abbrev pub loadOf : ℕ → ℕ → ℕ → ℕ → Setup
-loadOf k a b c =
-    cond (eqb k 4) (setup.BufferCount (a % 4294967296))
-    (cond (eqb k 5) (setup.BufferFirst (a % 4294967296) (b % 4294967296))
-    (setup.BufferWords (a % 4294967296) (b % 4294967296) (c % 4294967296)))
+abbrev pub loadOf : Four → Setup
+loadOf f = cond (eqb (f .0) 4) (setup.BufferCount (f .1)) (cond (eqb (f .0) 5) (setup.BufferFirst (f .1) (f .2)) (setup.BufferWords (f .1) (f .2) (f .3)))
 
-abbrev pub setupOf : ℕ → ℕ → ℕ → ℕ → Setup
-setupOf k a b c = cond (ltb k 4) (plainSetup k) (loadOf k a b c)
+abbrev pub setupOf : Four → Setup
+setupOf f = cond (ltb (f .0) 4) (plainSetup (f .0)) (loadOf f)
 
 -- 0 idle; 1 program, location, data; 2 erase, block, words done; 3 buffer program, start, number of words, words done
-abbrev pub runningNumbers : Running → List ℕ
-runningNumbers running.Idle = 0 ∷ 0 ∷ 0 ∷ 0 ∷ []
-runningNumbers (running.Program l w) = 1 ∷ l ∷ w ∷ 0 ∷ []
-runningNumbers (running.Erase b n) = 2 ∷ b ∷ n ∷ 0 ∷ []
-runningNumbers (running.Buffer l n d) = 3 ∷ l ∷ n ∷ d ∷ []
+abbrev pub runningNumbers : Running → Four
+runningNumbers running.Idle = (0, 0, 0, 0)
+runningNumbers (running.Program l w) = (1, l, w, 0)
+runningNumbers (running.Erase b n) = (2, b, n, 0)
+runningNumbers (running.Buffer l n d) = (3, l, n, d)
 
-abbrev pub runningOf : ℕ → ℕ → ℕ → ℕ → Running
-runningOf k a b c =
-    cond (eqb k 0) running.Idle
-    (cond (eqb k 1) (running.Program (a % 4294967296) (b % 65536))
-    (cond (eqb k 2) (running.Erase (a % 4294967296) (b % 4294967296))
-    (running.Buffer (a % 4294967296) (b % 4294967296) (c % 4294967296))))
+abbrev pub runningOf : Four → Running
+runningOf f =
+    cond (eqb (f .0) 0) running.Idle
+    (cond (eqb (f .0) 1) (running.Program (f .1) (f .2 % 65536))
+    (cond (eqb (f .0) 2) (running.Erase (f .1) (f .2))
+    (running.Buffer (f .1) (f .2) (f .3))))
 
 -- 0 nothing; 1 program, location, data; 2 buffer program, start, number of words, words done
-abbrev pub programNumbers : SuspendedProgram → List ℕ
-programNumbers program.Nothing = 0 ∷ 0 ∷ 0 ∷ 0 ∷ []
-programNumbers (program.Program l w) = 1 ∷ l ∷ w ∷ 0 ∷ []
-programNumbers (program.Buffer l n d) = 2 ∷ l ∷ n ∷ d ∷ []
+abbrev pub programNumbers : SuspendedProgram → Four
+programNumbers program.Nothing = (0, 0, 0, 0)
+programNumbers (program.Program l w) = (1, l, w, 0)
+programNumbers (program.Buffer l n d) = (2, l, n, d)
 
-abbrev pub programOf : ℕ → ℕ → ℕ → ℕ → SuspendedProgram
-programOf k a b c =
-    cond (eqb k 0) program.Nothing
-    (cond (eqb k 1) (program.Program (a % 4294967296) (b % 65536))
-    (program.Buffer (a % 4294967296) (b % 4294967296) (c % 4294967296)))
+abbrev pub programOf : Four → SuspendedProgram
+programOf f =
+    cond (eqb (f .0) 0) program.Nothing
+    (cond (eqb (f .0) 1) (program.Program (f .1) (f .2 % 65536))
+    (program.Buffer (f .1) (f .2) (f .3)))
 
 -- 0 nothing; 1 erase, block, words done
-abbrev pub eraseNumbers : SuspendedErase → List ℕ
-eraseNumbers erase.Nothing = 0 ∷ 0 ∷ 0 ∷ 0 ∷ []
-eraseNumbers (erase.Erase b n) = 1 ∷ b ∷ n ∷ 0 ∷ []
+abbrev pub eraseNumbers : SuspendedErase → Four
+eraseNumbers erase.Nothing = (0, 0, 0, 0)
+eraseNumbers (erase.Erase b n) = (1, b, n, 0)
 
-abbrev pub eraseOf : ℕ → ℕ → ℕ → SuspendedErase
-eraseOf k a b = cond (eqb k 0) erase.Nothing (erase.Erase (a % 4294967296) (b % 4294967296))
+abbrev pub eraseOf : Four → SuspendedErase
+eraseOf f = cond (eqb (f .0) 0) erase.Nothing (erase.Erase (f .1) (f .2))
 
 abbrev pub flagNumbers : Flags → List ℕ
 flagNumbers f = bitIf (f .sr5) 1 ∷ bitIf (f .sr4) 1 ∷ bitIf (f .sr3) 1 ∷ bitIf (f .sr1) 1 ∷ []
@@ -129,12 +131,20 @@ joined m x y = x + y * m
 
 -- four numbers in two words: the first in the lower half of the first word (bits 0 to 31), the second in its upper half (from bit 32), the third and the fourth
 -- so in the second word
-abbrev pub inHalves : List ℕ → List ℕ
-inHalves l = joined 4294967296 (getD l 0 0) (getD l 1 0) ∷ joined 4294967296 (getD l 2 0) (getD l 3 0) ∷ []
+abbrev pub inHalves : Four → List ℕ
+inHalves f = joined half (f .0) (f .1) ∷ joined half (f .2) (f .3) ∷ []
 
--- what f says of the four numbers of two words
-abbrev pub ofHalves : {A : Type 0} → (ℕ → ℕ → ℕ → ℕ → A) → ℕ → ℕ → A
-ofHalves f v w = f (v % 4294967296) (v / 4294967296) (w % 4294967296) (w / 4294967296)
+-- the four numbers of two words
+abbrev pub ofHalves : ℕ → ℕ → Four
+ofHalves v w = (v % half, v / half % half, w % half, w / half % half)
+
+-- those of words i and i + 1
+abbrev pub fourAt : List ℕ → ℕ → Four
+fourAt ws i = ofHalves (getD ws i 0) (getD ws (i + 1) 0)
+
+-- words i and i + 1 hold these four
+abbrev pub holds : List ℕ → ℕ → Four → Bool
+holds ws i f = eqb (getD ws i 0) (joined half (f .0) (f .1)) && eqb (getD ws (i + 1) 0) (joined half (f .2) (f .3))
 
 -- a byte each, the first lowest
 abbrev pub bytes : List ℕ → ℕ
@@ -177,7 +187,7 @@ activityWords a = inHalves (setupNumbers (a .setup)) ++ (inHalves (runningNumber
 
 -- the flags a byte each (bits 0 to 31), the configuration register (bits 32 to 47), the supply (from bit 48)
 abbrev pub controlWord : Flags → ℕ → Bool → ℕ
-controlWord f configuration supply = joined 4294967296 (bytes (flagNumbers f)) (joined 65536 configuration (bitIf supply 1))
+controlWord f configuration supply = joined half (bytes (flagNumbers f)) (joined 65536 configuration (bitIf supply 1))
 
 -- the words of the rest of a state, but for the buffer
 abbrev pub restWords : Flags → List ℕ → ℕ → Bool → List ℕ
@@ -188,11 +198,11 @@ restOf s = restWords (s .control .flags) (s .unprotected) (s .control .configura
 
 -- four words of the buffer in one, the first lowest
 abbrev pub packed : ℕ → ℕ → ℕ → ℕ → ℕ
-packed a b c d = a + b * 65536 + c * 4294967296 + d * 281474976710656
+packed a b c d = a + b * 65536 + c * half + d * 281474976710656
 
 -- and back, that with the number k. The last is all that is left, which of a word of 64 bits is 16 bits
 abbrev pub lane : ℕ → ℕ → ℕ
-lane w k = cond (eqb k 0) (w % 65536) (cond (eqb k 1) (w / 65536 % 65536) (cond (eqb k 2) (w / 4294967296 % 65536) (w / 281474976710656)))
+lane w k = cond (eqb k 0) (w % 65536) (cond (eqb k 1) (w / 65536 % 65536) (cond (eqb k 2) (w / half % 65536) (w / 281474976710656)))
 
 -- word j of the words of a buffer, and word i of the buffer that words say
 abbrev pub packedAt : List ℕ → ℕ → ℕ
@@ -220,8 +230,7 @@ savedOf s =
 -- for a protection word, and for a word of the buffer, are all
 abbrev pub activityOf : List ℕ → Activity
 activityOf ws =
-    activity (ofHalves setupOf (getD ws 3 0) (getD ws 4 0)) (ofHalves runningOf (getD ws 5 0) (getD ws 6 0)) (ofHalves programOf (getD ws 7 0) (getD ws 8 0))
-    (ofHalves (λ k a b c. eraseOf k a b) (getD ws 9 0) (getD ws 10 0))
+    activity (setupOf (fourAt ws 3)) (runningOf (fourAt ws 5)) (programOf (fourAt ws 7)) (eraseOf (fourAt ws 9))
 
 abbrev pub flagsIn : ℕ → Flags
 flagsIn w = flagsOf (flagNumbered w) (flagNumbered (fromByte 1 w)) (flagNumbered (fromByte 2 w)) (flagNumbered (fromByte 3 w))
@@ -233,9 +242,9 @@ protectionIn ws = getD ws 12 0 ∷ getD ws 13 0 ∷ getD ws 14 0 ∷ getD ws 15 
 abbrev pub controlOf : List ℕ → Control
 controlOf ws = record {
   activity = activityOf ws;
-  flags = flagsIn (getD ws 11 0 % 4294967296);
-  configuration = getD ws 11 0 / 4294967296 % 65536;
-  supply = flagNumbered (getD ws 11 0 / 4294967296 / 65536);
+  flags = flagsIn (getD ws 11 0 % half);
+  configuration = getD ws 11 0 / half % 65536;
+  supply = flagNumbered (getD ws 11 0 / half / 65536);
 }
 
 unfoldable pub loadedOf : List ℕ → State
@@ -268,51 +277,24 @@ foundOf ws = record { saved = isSaved ws; state = stateOf ws }
 unfoldable pub putInto : List ℕ → List ℕ → List ℕ
 putInto room ws = cond (eqb (length room) 25) ws room
 
--- ---- a saved state by the range of each word: `is-saved-in-range` (Ranges) says that it is the same
+-- ---- a saved state by the range of each word, but for those of what is under way: `is-saved-in-range` (Ranges) says that it is the same
 
 -- the lowest n bytes, and what is above them, are each below m
 unfoldable pub bytesBelow : ℕ → ℕ → ℕ → Bool
 bytesBelow m zero w = ltb w m
 bytesBelow m (suc n) w = ltb (w % 256) m && bytesBelow m n (w / 256)
 
--- three numbers are each below its bound, which is 1 for one that is not used
-abbrev pub belowThree : ℕ → ℕ → ℕ → ℕ → ℕ → ℕ → Bool
-belowThree a b c l m n = ltb a l && (ltb b m && ltb c n)
-
--- the kind and the numbers of the set-up, of what runs, and of what is suspended
-abbrev pub setupInRange : ℕ → ℕ → ℕ → ℕ → Bool
-setupInRange k a b c =
-    cond (ltb k 4) (belowThree a b c 1 1 1)
-    (cond (eqb k 4) (belowThree a b c 4294967296 1 1)
-    (cond (eqb k 5) (belowThree a b c 4294967296 4294967296 1)
-    (eqb k 6 && belowThree a b c 4294967296 4294967296 4294967296)))
-
-abbrev pub runningInRange : ℕ → ℕ → ℕ → ℕ → Bool
-runningInRange k a b c =
-    cond (eqb k 0) (belowThree a b c 1 1 1)
-    (cond (eqb k 1) (belowThree a b c 4294967296 65536 1)
-    (cond (eqb k 2) (belowThree a b c 4294967296 4294967296 1)
-    (eqb k 3 && belowThree a b c 4294967296 4294967296 4294967296)))
-
-abbrev pub programInRange : ℕ → ℕ → ℕ → ℕ → Bool
-programInRange k a b c =
-    cond (eqb k 0) (belowThree a b c 1 1 1)
-    (cond (eqb k 1) (belowThree a b c 4294967296 65536 1)
-    (eqb k 2 && belowThree a b c 4294967296 4294967296 4294967296))
-
-abbrev pub eraseInRange : ℕ → ℕ → ℕ → ℕ → Bool
-eraseInRange k a b c = cond (eqb k 0) (belowThree a b c 1 1 1) (eqb k 1 && belowThree a b c 4294967296 4294967296 1)
-
-unfoldable pub activityInRange : List ℕ → Bool
-activityInRange ws =
-    ofHalves setupInRange (getD ws 3 0) (getD ws 4 0)
-    && (ofHalves runningInRange (getD ws 5 0) (getD ws 6 0)
-    && (ofHalves programInRange (getD ws 7 0) (getD ws 8 0)
-    && ofHalves eraseInRange (getD ws 9 0) (getD ws 10 0)))
+-- what is under way is compared with what it is saved as
+unfoldable pub activitySame : List ℕ → Bool
+activitySame ws =
+    holds ws 3 (setupNumbers (activityOf ws .setup))
+    && (holds ws 5 (runningNumbers (activityOf ws .running))
+    && (holds ws 7 (programNumbers (activityOf ws .program))
+    && holds ws 9 (eraseNumbers (activityOf ws .erase))))
 
 -- the four flags 0 or 1, and so the supply; the configuration register is any 16 bits, of which `wellFormed` judges the reserved ones
 abbrev pub controlInRange : ℕ → Bool
-controlInRange w = bytesBelow 2 3 (w % 4294967296) && ltb (w / 4294967296 / 65536) 2
+controlInRange w = bytesBelow 2 3 (w % half) && ltb (w / half / 65536) 2
 
 -- 25 words; the part below 4, and each mode; what is under way; the flags and the supply; a protection word is any number, and so is one of the buffer
 unfoldable pub inRange : List ℕ → Bool
@@ -321,4 +303,4 @@ inRange ws =
     && (ltb (getD ws 0 0) 4
     && (bytesBelow 4 7 (getD ws 1 0)
     && (bytesBelow 4 7 (getD ws 2 0)
-    && (activityInRange ws && controlInRange (getD ws 11 0)))))
+    && (activitySame ws && controlInRange (getD ws 11 0)))))

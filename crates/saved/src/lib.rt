@@ -16,11 +16,14 @@ ghost use lib.ListN.{length, getD};
 ghost use lib.Seq.{sets};
 ghost use Rattle.geometry.specs.Blocks.{partNumbered};
 ghost use Rattle.semantics.specs.Reading.{bitIf};
-ghost use Rattle.saved.specs.Saved.{partNumber, bankNumber, bankNumbered, flagNumbered, setupNumbers, plainSetup, loadOf, setupOf, runningNumbers, runningOf, programNumbers, programOf, eraseNumbers, eraseOf, joined, inHalves, modesWord, modesIn, bankWords, banksOf, activityWords, controlWord, restWords, packed, bufferWords, bufferIn, savedOf, loadedOf, isSaved, noState, foundOf, putInto, activityOf, flagsIn, protectionIn, bytesBelow, belowThree, setupInRange, runningInRange, programInRange, eraseInRange, activityInRange};
+ghost use Rattle.saved.specs.Saved.{partNumber, bankNumber, bankNumbered, flagNumbered, half, setupNumbers, plainSetup, loadOf, setupOf, runningNumbers, runningOf, programNumbers, programOf, eraseNumbers, eraseOf, joined, inHalves, fourAt, holds, modesWord, modesIn, bankWords, banksOf, activityWords, controlWord, restWords, packed, bufferWords, bufferIn, savedOf, loadedOf, isSaved, noState, foundOf, putInto, activityOf, flagsIn, protectionIn, bytesBelow, activitySame};
 ghost use Rattle.saved.specs.Laws.{Fitting};
 
 // The upper half of a word is from here on.
 const HALF: u64 = 4294967296;
+
+// What is pending, runs or is suspended as numbers: its kind, and three numbers, of which one that it does not use is 0.
+struct Four(u32, u32, u32, u32);
 
 // Whether words are a saved state, and the state of the words.
 pub struct Found {
@@ -61,66 +64,51 @@ fn flag_number(on: bool) -> u64
     if on { 1 } else { 0 }
 }
 
-fn setup_numbers(setup: Setup) -> [u32; 4]
-    ensures { λ w. ⌜ w ≡ setupNumbers setup ⌝ }
+fn setup_numbers(setup: Setup) -> Four
+    ensures { λ r. ⌜ r ≡ setupNumbers setup ⌝ }
 {
     match setup {
-        Setup::Nothing => [0, 0, 0, 0],
-        Setup::Program => [1, 0, 0, 0],
-        Setup::Erase => [2, 0, 0, 0],
-        Setup::Lock => [3, 0, 0, 0],
-        Setup::BufferCount { block } => [4, block, 0, 0],
-        Setup::BufferFirst { block, words } => [5, block, words, 0],
-        Setup::BufferWords { start, words, due } => [6, start, words, due],
+        Setup::Nothing => Four(0, 0, 0, 0),
+        Setup::Program => Four(1, 0, 0, 0),
+        Setup::Erase => Four(2, 0, 0, 0),
+        Setup::Lock => Four(3, 0, 0, 0),
+        Setup::BufferCount { block } => Four(4, block, 0, 0),
+        Setup::BufferFirst { block, words } => Four(5, block, words, 0),
+        Setup::BufferWords { start, words, due } => Four(6, start, words, due),
     }
 }
 
-fn running_numbers(r: Running) -> [u32; 4]
-    ensures { λ w. ⌜ w ≡ runningNumbers r ⌝ }
+fn running_numbers(r: Running) -> Four
+    ensures { λ f. ⌜ f ≡ runningNumbers r ⌝ }
 {
     match r {
-        Running::Idle => [0, 0, 0, 0],
-        Running::Program { location, word } => [1, location, word as u32, 0],
-        Running::Erase { block, done } => [2, block, done, 0],
-        Running::Buffer { start, words, done } => [3, start, words, done],
+        Running::Idle => Four(0, 0, 0, 0),
+        Running::Program { location, word } => Four(1, location, word as u32, 0),
+        Running::Erase { block, done } => Four(2, block, done, 0),
+        Running::Buffer { start, words, done } => Four(3, start, words, done),
     }
 }
 
-fn program_numbers(p: SuspendedProgram) -> [u32; 4]
-    ensures { λ w. ⌜ w ≡ programNumbers p ⌝ }
+fn program_numbers(p: SuspendedProgram) -> Four
+    ensures { λ f. ⌜ f ≡ programNumbers p ⌝ }
 {
     match p {
-        SuspendedProgram::Nothing => [0, 0, 0, 0],
-        SuspendedProgram::Program { location, word } => [1, location, word as u32, 0],
-        SuspendedProgram::Buffer { start, words, done } => [2, start, words, done],
+        SuspendedProgram::Nothing => Four(0, 0, 0, 0),
+        SuspendedProgram::Program { location, word } => Four(1, location, word as u32, 0),
+        SuspendedProgram::Buffer { start, words, done } => Four(2, start, words, done),
     }
 }
 
-fn erase_numbers(e: SuspendedErase) -> [u32; 4]
-    ensures { λ w. ⌜ w ≡ eraseNumbers e ⌝ }
+fn erase_numbers(e: SuspendedErase) -> Four
+    ensures { λ f. ⌜ f ≡ eraseNumbers e ⌝ }
 {
     match e {
-        SuspendedErase::Nothing => [0, 0, 0, 0],
-        SuspendedErase::Erase { block, done } => [1, block, done, 0],
+        SuspendedErase::Nothing => Four(0, 0, 0, 0),
+        SuspendedErase::Erase { block, done } => Four(1, block, done, 0),
     }
 }
 
 // ---- and back: the last number of an enum stands for every other number too
-
-fn part_numbered(n: u64) -> Part
-    ensures { λ r. ⌜ r ≡ partNumbered n ⌝ }
-{
-    if n == 0 {
-        return Part::FullBottom;
-    }
-    if n == 1 {
-        return Part::FullTop;
-    }
-    if n == 2 {
-        return Part::BenchBottom;
-    }
-    Part::BenchTop
-}
 
 // Of a byte the two lowest bits.
 fn bank_numbered(w: u64) -> Bank
@@ -142,7 +130,7 @@ fn bank_numbered(w: u64) -> Bank
 }
 
 // The set-ups that have no number.
-fn plain_setup(kind: u64) -> Setup
+fn plain_setup(kind: u32) -> Setup
     ensures { λ r. ⌜ r ≡ plainSetup kind ⌝ }
 {
     if kind == 0 {
@@ -158,89 +146,87 @@ fn plain_setup(kind: u64) -> Setup
 }
 
 // Those of a load.
-fn load_of(kind: u64, a: u64, b: u64, c: u64) -> Setup
-    ensures { λ r. ⌜ r ≡ loadOf kind a b c ⌝ }
+fn load_of(f: Four) -> Setup
+    ensures { λ r. ⌜ r ≡ loadOf f ⌝ }
 {
-    if kind == 4 {
-        return Setup::BufferCount {
-            block: (a % HALF) as u32,
-        };
+    if f.0 == 4 {
+        return Setup::BufferCount { block: f.1 };
     }
-    if kind == 5 {
+    if f.0 == 5 {
         return Setup::BufferFirst {
-            block: (a % HALF) as u32,
-            words: (b % HALF) as u32,
+            block: f.1,
+            words: f.2,
         };
     }
     Setup::BufferWords {
-        start: (a % HALF) as u32,
-        words: (b % HALF) as u32,
-        due: (c % HALF) as u32,
+        start: f.1,
+        words: f.2,
+        due: f.3,
     }
 }
 
-fn setup_of(kind: u64, a: u64, b: u64, c: u64) -> Setup
-    ensures { λ r. ⌜ r ≡ setupOf kind a b c ⌝ }
+fn setup_of(f: Four) -> Setup
+    ensures { λ r. ⌜ r ≡ setupOf f ⌝ }
 {
-    if kind < 4 {
-        return plain_setup(kind);
+    if f.0 < 4 {
+        return plain_setup(f.0);
     }
-    load_of(kind, a, b, c)
+    load_of(f)
 }
 
-fn running_of(kind: u64, a: u64, b: u64, c: u64) -> Running
-    ensures { λ r. ⌜ r ≡ runningOf kind a b c ⌝ }
+fn running_of(f: Four) -> Running
+    ensures { λ r. ⌜ r ≡ runningOf f ⌝ }
 {
-    if kind == 0 {
+    if f.0 == 0 {
         return Running::Idle;
     }
-    if kind == 1 {
+    if f.0 == 1 {
         return Running::Program {
-            location: (a % HALF) as u32,
-            word: (b % 65536) as u16,
+            location: f.1,
+            word: (f.2 % 65536) as u16,
         };
     }
-    if kind == 2 {
+    if f.0 == 2 {
         return Running::Erase {
-            block: (a % HALF) as u32,
-            done: (b % HALF) as u32,
+            block: f.1,
+            done: f.2,
         };
     }
     Running::Buffer {
-        start: (a % HALF) as u32,
-        words: (b % HALF) as u32,
-        done: (c % HALF) as u32,
+        start: f.1,
+        words: f.2,
+        done: f.3,
     }
 }
 
-fn program_of(kind: u64, a: u64, b: u64, c: u64) -> SuspendedProgram
-    ensures { λ r. ⌜ r ≡ programOf kind a b c ⌝ }
+fn program_of(f: Four) -> SuspendedProgram
+    ensures { λ r. ⌜ r ≡ programOf f ⌝ }
 {
-    if kind == 0 {
+    if f.0 == 0 {
         return SuspendedProgram::Nothing;
     }
-    if kind == 1 {
+    if f.0 == 1 {
         return SuspendedProgram::Program {
-            location: (a % HALF) as u32,
-            word: (b % 65536) as u16,
+            location: f.1,
+            word: (f.2 % 65536) as u16,
         };
     }
     SuspendedProgram::Buffer {
-        start: (a % HALF) as u32,
-        words: (b % HALF) as u32,
-        done: (c % HALF) as u32,
+        start: f.1,
+        words: f.2,
+        done: f.3,
     }
 }
 
-fn erase_of(kind: u64, a: u64, b: u64) -> SuspendedErase
-    ensures { λ r. ⌜ r ≡ eraseOf kind a b ⌝ }
+fn erase_of(f: Four) -> SuspendedErase
+    ensures { λ r. ⌜ r ≡ eraseOf f ⌝ }
 {
-    if kind == 0 {
+    if f.0 == 0 {
         return SuspendedErase::Nothing;
     }
     SuspendedErase::Erase {
-        block: (a % HALF) as u32,
-        done: (b % HALF) as u32,
+        block: f.1,
+        done: f.2,
     }
 }
 
@@ -251,6 +237,74 @@ fn word_at(words: &[u64], i: usize) -> u64
     ensures { λ r. ⌜ r ≡ getD (now (words .entry)) i 0 ⌝ }
 {
     if i < words.len() { words[i] } else { 0 }
+}
+
+// The part that the first word names: every other number is the last.
+fn part_in(words: &[u64]) -> Part
+    ensures { λ r. ⌜ r ≡ partNumbered (getD (now (words .entry)) 0 0) ⌝ }
+{
+    let n = word_at(words, 0);
+    if n < 3 {
+        return geometry::part_numbered(n as u32);
+    }
+    Part::BenchTop
+}
+
+// The four numbers of two words.
+fn four_at(words: &[u64], at: usize) -> Four
+    requires { ⌜ at ≤ 9 ⌝ }
+    ensures { λ r. ⌜ r ≡ fourAt (now (words .entry)) at ⌝ }
+{
+    let v = word_at(words, at);
+    let w = word_at(words, at + 1);
+    Four(
+        (v % HALF) as u32,
+        (v / HALF) as u32,
+        (w % HALF) as u32,
+        (w / HALF) as u32,
+    )
+}
+
+// The first in the lower half.
+fn halves(a: u32, b: u32) -> u64
+    ensures { λ r. ⌜ r ≡ joined half a b ⌝ }
+{
+    a as u64 + (b as u64) * HALF
+}
+
+// Two words hold these four numbers.
+fn holds(words: &[u64], at: usize, f: Four) -> bool
+    requires { ⌜ at ≤ 9 ⌝ }
+    ensures { λ r. ⌜ r ≡ holds (now (words .entry)) at f ⌝ }
+{
+    (word_at(words, at) == halves(f.0, f.1)) & (word_at(words, at + 1) == halves(f.2, f.3))
+}
+
+fn activity_of(words: &[u64]) -> Activity
+    ensures { λ r. ⌜ r ≡ activityOf (now (words .entry)) ⌝ }
+{
+    Activity {
+        setup: setup_of(four_at(words, 3)),
+        running: running_of(four_at(words, 5)),
+        program: program_of(four_at(words, 7)),
+        erase: erase_of(four_at(words, 9)),
+    }
+}
+
+// Whether the words of what is under way are those that it is saved as.
+fn activity_same(words: &[u64]) -> bool
+    ensures { λ r. ⌜ r ≡ activitySame (now (words .entry)) ⌝ }
+{
+    let a = activity_of(words);
+    let setup = a.setup;
+    let running = a.running;
+    let program = a.program;
+    let erase = a.erase;
+    let s = holds(words, 3, setup_numbers(setup));
+    let r = holds(words, 5, running_numbers(running));
+    let p = holds(words, 7, program_numbers(program));
+    let e = holds(words, 9, erase_numbers(erase));
+    s & (r & (p & e))
 }
 
 // The lowest n bytes, and what is above them, are each below m. No return from the loop, so that the compiler makes a test of one mask of it.
@@ -268,88 +322,7 @@ fn bytes_below(m: u64, n: usize, w: u64) -> bool
     below & (rest < m)
 }
 
-// Three numbers are each below its bound. HALF is no bound for half of a word: the definition, whose words are any numbers, has it.
-fn below_three(a: u64, b: u64, c: u64, l: u64, m: u64, n: u64) -> bool
-    ensures { λ r. ⌜ r ≡ belowThree a b c l m n ⌝ }
-{
-    (a < l) & ((b < m) & (c < n))
-}
-
-// The kind and the numbers of the set-up.
-fn setup_in_range(kind: u64, a: u64, b: u64, c: u64) -> bool
-    ensures { λ r. ⌜ r ≡ setupInRange kind a b c ⌝ }
-{
-    if kind < 4 {
-        return below_three(a, b, c, 1, 1, 1);
-    }
-    if kind == 4 {
-        return below_three(a, b, c, HALF, 1, 1);
-    }
-    if kind == 5 {
-        return below_three(a, b, c, HALF, HALF, 1);
-    }
-    (kind == 6) & below_three(a, b, c, HALF, HALF, HALF)
-}
-
-// Those of what runs.
-fn running_in_range(kind: u64, a: u64, b: u64, c: u64) -> bool
-    ensures { λ r. ⌜ r ≡ runningInRange kind a b c ⌝ }
-{
-    if kind == 0 {
-        return below_three(a, b, c, 1, 1, 1);
-    }
-    if kind == 1 {
-        return below_three(a, b, c, HALF, 65536, 1);
-    }
-    if kind == 2 {
-        return below_three(a, b, c, HALF, HALF, 1);
-    }
-    (kind == 3) & below_three(a, b, c, HALF, HALF, HALF)
-}
-
-// Those of a suspended program.
-fn program_in_range(kind: u64, a: u64, b: u64, c: u64) -> bool
-    ensures { λ r. ⌜ r ≡ programInRange kind a b c ⌝ }
-{
-    if kind == 0 {
-        return below_three(a, b, c, 1, 1, 1);
-    }
-    if kind == 1 {
-        return below_three(a, b, c, HALF, 65536, 1);
-    }
-    (kind == 2) & below_three(a, b, c, HALF, HALF, HALF)
-}
-
-// Those of a suspended erase.
-fn erase_in_range(kind: u64, a: u64, b: u64, c: u64) -> bool
-    ensures { λ r. ⌜ r ≡ eraseInRange kind a b c ⌝ }
-{
-    if kind == 0 {
-        return below_three(a, b, c, 1, 1, 1);
-    }
-    (kind == 1) & below_three(a, b, c, HALF, HALF, 1)
-}
-
-// All four.
-fn activity_in_range(words: &[u64]) -> bool
-    ensures { λ r. ⌜ r ≡ activityInRange (now (words .entry)) ⌝ }
-{
-    let s = word_at(words, 3);
-    let t = word_at(words, 4);
-    let a = setup_in_range(s % HALF, s / HALF, t % HALF, t / HALF);
-    let r = word_at(words, 5);
-    let u = word_at(words, 6);
-    let b = running_in_range(r % HALF, r / HALF, u % HALF, u / HALF);
-    let p = word_at(words, 7);
-    let v = word_at(words, 8);
-    let c = program_in_range(p % HALF, p / HALF, v % HALF, v / HALF);
-    let e = word_at(words, 9);
-    let w = word_at(words, 10);
-    let d = erase_in_range(e % HALF, e / HALF, w % HALF, w / HALF);
-    a & (b & (c & d))
-}
-
-// Whether the words are what the state that they say is saved as: by the range of each.
+// Whether the words are what the state that they say is saved as: what is under way is compared, of the rest the range of each word is tested.
 pub fn is_saved(words: &[u64]) -> bool
     ensures { λ r. ⌜ r ≡ isSaved (now (words .entry)) ⌝ }
 {
@@ -365,7 +338,7 @@ pub fn is_saved(words: &[u64]) -> bool
     if !bytes_below(4, 7, words[2]) {
         return false;
     }
-    if !activity_in_range(words) {
+    if !activity_same(words) {
         return false;
     }
     let w = words[11];
@@ -396,29 +369,6 @@ fn banks_of(words: &[u64]) -> [Bank; 16]
     let none = [Bank { mode: Mode::Array }; 16];
     let half = with_modes(none, 0, word_at(words, 1));
     with_modes(half, 8, word_at(words, 2))
-}
-
-fn activity_of(words: &[u64]) -> Activity
-    ensures { λ r. ⌜ r ≡ activityOf (now (words .entry)) ⌝ }
-{
-    let s = word_at(words, 3);
-    let t = word_at(words, 4);
-    let setup = setup_of(s % HALF, s / HALF, t % HALF, t / HALF);
-    let r = word_at(words, 5);
-    let u = word_at(words, 6);
-    let running = running_of(r % HALF, r / HALF, u % HALF, u / HALF);
-    let p = word_at(words, 7);
-    let v = word_at(words, 8);
-    let program = program_of(p % HALF, p / HALF, v % HALF, v / HALF);
-    let e = word_at(words, 9);
-    let w = word_at(words, 10);
-    let erase = erase_of(e % HALF, e / HALF, w % HALF);
-    Activity {
-        setup,
-        running,
-        program,
-        erase,
-    }
 }
 
 // Of a byte the lowest bit.
@@ -474,7 +424,7 @@ pub fn load(words: &[u64]) -> State
 {
     let w = word_at(words, 11);
     State {
-        part: part_numbered(word_at(words, 0)),
+        part: part_in(words),
         banks: banks_of(words),
         unprotected: protection_of(words),
         control: Control {
@@ -491,10 +441,7 @@ pub fn load(words: &[u64]) -> State
 pub fn no_state(words: &[u64]) -> State
     ensures { λ r. ⌜ r ≡ noState (now (words .entry)) ⌝ }
 {
-    state::with_protection(
-        state::power_up(part_numbered(word_at(words, 0))),
-        [0, 0, 0, 0, 8],
-    )
+    state::with_protection(state::power_up(part_in(words)), [0, 0, 0, 0, 8])
 }
 
 // Tests the words, once, and gives their state: of a saved state that which was saved.
@@ -537,20 +484,13 @@ fn put_banks(words: &mut [u64], banks: [Bank; 16])
     words[2] = modes_word(banks, 8);
 }
 
-// The first in the lower half.
-fn halves(a: u32, b: u32) -> u64
-    ensures { λ r. ⌜ r ≡ joined 4294967296 a b ⌝ }
-{
-    a as u64 + (b as u64) * HALF
-}
-
 // Four numbers in two words.
-fn put_four(words: &mut [u64], at: usize, four: [u32; 4])
+fn put_four(words: &mut [u64], at: usize, f: Four)
     requires { ⌜ at + 2 ≤ length (now words) ⌝ }
-    ensures { λ _. ⌜ now (words .exit) ≡ sets (now (words .entry)) at (inHalves four) ⌝ }
+    ensures { λ _. ⌜ now (words .exit) ≡ sets (now (words .entry)) at (inHalves f) ⌝ }
 {
-    words[at] = halves(four[0], four[1]);
-    words[at + 1] = halves(four[2], four[3]);
+    words[at] = halves(f.0, f.1);
+    words[at + 1] = halves(f.2, f.3);
 }
 
 fn put_activity(words: &mut [u64], a: Activity)

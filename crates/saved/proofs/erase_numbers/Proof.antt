@@ -5,14 +5,11 @@ use Rattle.saved.specs.Saved.{eraseNumbers}
 use Rattle.saved.proofs.erase_numbers.Statement.{statement}
 use Rattle.saved.proofs.erase_numbers.Tie as tie
 
-returns-2 : tie.Need-returns-2
-returns-2 c = ap eraseNumbers (sym (c .before .e .given .1))
-
 pub erase-numbers-spec : {M : Type 1} → statement M
 erase-numbers-spec =
     tie.close
     (tie.spec
     (λ c. search needs)
     (λ c. search needs)
-    (λ c. search needs)
-    returns-2)
+    (λ c. ap eraseNumbers (sym (c .enum-told .given .1)))
+    (λ c. ap eraseNumbers (sym (c .before .e .given .1))))

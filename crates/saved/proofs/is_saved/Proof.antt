@@ -25,11 +25,11 @@ returns-4 c = sym (is-saved-in-range _ ∙ rw (eq-eqb _ 25 (c .before .before .b
 
 returns-5 : tie.Need-returns-5
 unfolding inRange
-returns-5 c = sym (is-saved-in-range _ ∙ rw (eq-eqb _ 25 (c .before .before .before .before .before .before .before .before .before .before .if1 .left), lt-ltb _ 4 (c .before .before .before .before .before .before .before .before .if2 .left), sym (c .before .before .before .before .before .before .bytes-below .ensures) ∙ not-false _ (c .before .before .before .before .before .if3 .left), sym (c .before .before .before .bytes-below2 .ensures) ∙ not-false _ (c .before .before .if4 .left), sym (c .before .activity-in-range .ensures) ∙ not-true _ (c .if5 .taken)))
+returns-5 c = sym (is-saved-in-range _ ∙ rw (eq-eqb _ 25 (c .before .before .before .before .before .before .before .before .before .before .if1 .left), lt-ltb _ 4 (c .before .before .before .before .before .before .before .before .if2 .left), sym (c .before .before .before .before .before .before .bytes-below .ensures) ∙ not-false _ (c .before .before .before .before .before .if3 .left), sym (c .before .before .before .bytes-below2 .ensures) ∙ not-false _ (c .before .before .if4 .left), sym (c .before .activity-same .ensures) ∙ not-true _ (c .if5 .taken)))
 
 returns-6 : tie.Need-returns-6
 unfolding inRange
-returns-6 c = sym (is-saved-in-range _ ∙ rw (eq-eqb _ 25 (c .before .before .before .before .before .before .before .before .before .before .before .before .if1 .left), lt-ltb _ 4 (c .before .before .before .before .before .before .before .before .before .before .if2 .left), sym (c .before .before .before .before .before .before .before .before .bytes-below .ensures) ∙ not-false _ (c .before .before .before .before .before .before .before .if3 .left), sym (c .before .before .before .before .before .bytes-below2 .ensures) ∙ not-false _ (c .before .before .before .before .if4 .left), sym (c .before .before .before .activity-in-range .ensures) ∙ not-false _ (c .before .before .if5 .left), ← c .bytes-below3 .ensures))
+returns-6 c = sym (is-saved-in-range _ ∙ rw (eq-eqb _ 25 (c .before .before .before .before .before .before .before .before .before .before .before .before .if1 .left), lt-ltb _ 4 (c .before .before .before .before .before .before .before .before .before .before .if2 .left), sym (c .before .before .before .before .before .before .before .before .bytes-below .ensures) ∙ not-false _ (c .before .before .before .before .before .before .before .if3 .left), sym (c .before .before .before .before .before .bytes-below2 .ensures) ∙ not-false _ (c .before .before .before .before .if4 .left), sym (c .before .before .before .activity-same .ensures) ∙ not-false _ (c .before .before .if5 .left), ← c .bytes-below3 .ensures))
 
 pub is-saved-spec : {M : Type 1} → statement M
 is-saved-spec =

@@ -6,13 +6,12 @@ use Rattle.saved.proofs.load.Tie as tie
 
 returns : tie.Need-returns
 unfolding loadedOf
-returns c = simp (c .before .before .before .before .before .before .part-numbered .ensures, c .before .before .before .before .before .before .before .word-at2 .ensures, c .before .before .before .before .before .banks-of .ensures, c .before .before .before .before .protection-of .ensures, c .before .before .before .activity-of .ensures, c .before .before .flags-of .ensures, c .before .flag-numbered .ensures, c .before .before .before .before .before .before .before .before .word-at .ensures, c .buffer-of .ensures)
+returns c = simp (c .before .before .before .before .before .before .part-in .ensures, c .before .before .before .before .before .banks-of .ensures, c .before .before .before .before .protection-of .ensures, c .before .before .before .activity-of .ensures, c .before .before .flags-of .ensures, c .before .flag-numbered .ensures, c .before .before .before .before .before .before .before .word-at .ensures, c .buffer-of .ensures)
 
 pub load-spec : {M : Type 1} → statement M
 load-spec =
     tie.close
     (tie.spec
-    (λ c κs. search needs)
     (λ c κs. search needs)
     (λ c κs. search needs)
     (λ c κs. search needs)

@@ -5,12 +5,6 @@ use Rattle.saved.specs.Saved.{programNumbers}
 use Rattle.saved.proofs.program_numbers.Statement.{statement}
 use Rattle.saved.proofs.program_numbers.Tie as tie
 
-returns-2 : tie.Need-returns-2
-returns-2 c = ap programNumbers (sym (c .before .p .given .1))
-
-returns-3 : tie.Need-returns-3
-returns-3 c = ap programNumbers (sym (c .before .p2 .given .1))
-
 pub program-numbers-spec : {M : Type 1} → statement M
 program-numbers-spec =
     tie.close
@@ -19,6 +13,6 @@ program-numbers-spec =
     (λ c. search needs)
     (λ c. search needs)
     (λ c. search needs)
-    (λ c. search needs)
-    returns-2
-    returns-3)
+    (λ c. ap programNumbers (sym (c .enum-told .given .1)))
+    (λ c. ap programNumbers (sym (c .before .p .given .1)))
+    (λ c. ap programNumbers (sym (c .before .p2 .given .1))))

@@ -5,15 +5,6 @@ use Rattle.saved.specs.Saved.{runningNumbers}
 use Rattle.saved.proofs.running_numbers.Statement.{statement}
 use Rattle.saved.proofs.running_numbers.Tie as tie
 
-returns-2 : tie.Need-returns-2
-returns-2 c = ap runningNumbers (sym (c .before .r .given .1))
-
-returns-3 : tie.Need-returns-3
-returns-3 c = ap runningNumbers (sym (c .before .r2 .given .1))
-
-returns-4 : tie.Need-returns-4
-returns-4 c = ap runningNumbers (sym (c .before .r3 .given .1))
-
 pub running-numbers-spec : {M : Type 1} → statement M
 running-numbers-spec =
     tie.close
@@ -23,7 +14,7 @@ running-numbers-spec =
     (λ c. search needs)
     (λ c. search needs)
     (λ c. search needs)
-    (λ c. search needs)
-    returns-2
-    returns-3
-    returns-4)
+    (λ c. ap runningNumbers (sym (c .enum-told .given .1)))
+    (λ c. ap runningNumbers (sym (c .before .r .given .1)))
+    (λ c. ap runningNumbers (sym (c .before .r2 .given .1)))
+    (λ c. ap runningNumbers (sym (c .before .r3 .given .1))))
