@@ -5,6 +5,7 @@ use Prim.Native.Nat.{ℕ}
 use Rattle.semantics.specs.declared.State.{State}
 use Rattle.semantics.specs.declared.Step.{Step}
 use Rattle.semantics.specs.declared.Next.{Next}
+use Rattle.semantics.specs.declared.Answer.the-variants.{Refused}
 use Rattle.wear.specs.Counts.{Counts}
 use Rattle.wear.specs.Steps.{stepWith, arrayWith, countsWith}
 use Rattle.device.specs.declared.Device.{Device}
@@ -15,6 +16,10 @@ holding s = record { state = s }
 
 abbrev pub outcomeOf : Next → Outcome
 outcomeOf n = record { device = holding (n .state); answer = n .answer }
+
+-- that of a refused step
+abbrev pub refused : Device → ℕ → Outcome
+refused d e = record { device = d; answer = Refused e }
 
 -- the outcome of a step of a device with its counts, and the array and the counts after it
 abbrev pub outcome : Device → Counts → List ℕ → Step → Outcome

@@ -5,39 +5,39 @@ use mathlib.Core.List.{List}
 use mathlib.Core.Path.{_≡_}
 use lib.ListN.{length}
 use borrow.Author.Tests.{eq-eqb, ne-eqb}
-use Rattle.semantics.specs.declared.State.{State}
 use Rattle.semantics.specs.declared.Step.{Step}
-use Rattle.semantics.specs.declared.Answer.the-variants.{Refused}
 use Rattle.semantics.specs.State.{geometry}
-use Rattle.semantics.specs.Steps.{stepRefusal, firstRefusal, next, accepted, acceptedArray}
+use Rattle.semantics.specs.Steps.{stepRefusal, firstRefusal, accepted, acceptedArray}
 use Rattle.wear.specs.Counts.{Counts}
 use Rattle.wear.specs.Steps.{deviceRefusal, refusalWith, stepWith, arrayWith, countsWith, acceptedCounts}
+use Rattle.device.specs.declared.Device.{Device}
+use Rattle.device.specs.Outcomes.{refused, outcomeOf, outcome, arrayOut, countsOut}
 
-module _ (s : State) (k : Counts) (xs : List ℕ) (x : Step) (e a b : ℕ) (device : a ≡ deviceRefusal s k (length xs)) (own : b ≡ stepRefusal (geometry s) x) (found : e ≡ firstRefusal a b) where
-  refusal-is : refusalWith s k (length xs) x ≡ e
+module _ (d : Device) (k : Counts) (xs : List ℕ) (x : Step) (e a b : ℕ) (device : a ≡ deviceRefusal (d .state) k (length xs)) (own : b ≡ stepRefusal (geometry (d .state)) x) (found : e ≡ firstRefusal a b) where
+  refusal-is : refusalWith (d .state) k (length xs) x ≡ e
   unfolding refusalWith
   refusal-is = rw (← device, ← own, ← found)
 
-  pub step-accepted : e ≡ 0 → stepWith s k xs x ≡ accepted s xs x
+  pub outcome-accepted : e ≡ 0 → outcomeOf (accepted (d .state) xs x) ≡ outcome d k xs x
   unfolding stepWith
-  step-accepted h = rw (refusal-is, eq-eqb e 0 h)
+  outcome-accepted h = rw (refusal-is, eq-eqb e 0 h)
 
-  pub step-refused : (e ≡ 0 → ⊥) → stepWith s k xs x ≡ next s (Refused e)
+  pub outcome-refused : (e ≡ 0 → ⊥) → refused d e ≡ outcome d k xs x
   unfolding stepWith
-  step-refused h = rw (refusal-is, ne-eqb e 0 h)
+  outcome-refused h = rw (refusal-is, ne-eqb e 0 h)
 
-  pub array-accepted : e ≡ 0 → arrayWith s k xs x ≡ acceptedArray s xs x
+  pub array-accepted : e ≡ 0 → acceptedArray (d .state) xs x ≡ arrayOut d k xs x
   unfolding arrayWith
   array-accepted h = rw (refusal-is, eq-eqb e 0 h)
 
-  pub array-refused : (e ≡ 0 → ⊥) → arrayWith s k xs x ≡ xs
+  pub array-refused : (e ≡ 0 → ⊥) → xs ≡ arrayOut d k xs x
   unfolding arrayWith
   array-refused h = rw (refusal-is, ne-eqb e 0 h)
 
-  pub counts-accepted : e ≡ 0 → countsWith s k xs x ≡ acceptedCounts s k x
+  pub counts-accepted : e ≡ 0 → acceptedCounts (d .state) k x ≡ countsOut d k xs x
   unfolding countsWith
   counts-accepted h = rw (refusal-is, eq-eqb e 0 h)
 
-  pub counts-refused : (e ≡ 0 → ⊥) → countsWith s k xs x ≡ k
+  pub counts-refused : (e ≡ 0 → ⊥) → k ≡ countsOut d k xs x
   unfolding countsWith
   counts-refused h = rw (refusal-is, ne-eqb e 0 h)

@@ -13,7 +13,7 @@ ghost use Prim.Native.Nat.{ℕ};
 ghost use Rattle.semantics.specs.State.{powerUp};
 ghost use Rattle.wear.specs.Counts.{lent, noCounts};
 ghost use Rattle.wear.specs.Steps.{formedWith, deviceRefusal, reportedWith, mostWornWith, eraseCountWith};
-ghost use Rattle.device.specs.Outcomes.{holding, outcome, arrayOut, countsOut};
+ghost use Rattle.device.specs.Outcomes.{holding, refused, outcome, arrayOut, countsOut};
 
 // All that a device holds is its state. (Methods stand in the crate of their struct; the definitions of the state stand in a crate without code.)
 pub struct Device {
@@ -39,6 +39,16 @@ pub fn refusal_of(s: State, main: &[[u16; 16]; 16], n: usize) -> u32
 {
     let part = s.part;
     state::refusal_beside(part, formed_with(s, main), n)
+}
+
+// A step that is refused: nothing changes.
+fn refused(d: Device, e: u32) -> Outcome
+    ensures { λ r. ⌜ r ≡ refused d e ⌝ }
+{
+    Outcome {
+        device: d,
+        answer: Answer::Refused(e),
+    }
 }
 
 impl Device {
@@ -76,10 +86,7 @@ impl Device {
                 answer: Answer::Word(word),
             };
         }
-        Outcome {
-            device: self,
-            answer: Answer::Refused(e),
-        }
+        refused(self, e)
     }
 
     // A write of a word to an address: a cycle of a command.
@@ -106,10 +113,7 @@ impl Device {
                 answer: Answer::Done,
             };
         }
-        Outcome {
-            device: self,
-            answer: Answer::Refused(e),
-        }
+        refused(self, e)
     }
 
     // Up to so many units of work.
@@ -146,10 +150,7 @@ impl Device {
                 answer: Answer::Units(o.units),
             };
         }
-        Outcome {
-            device: self,
-            answer: Answer::Refused(e),
-        }
+        refused(self, e)
     }
 
     // The supply (VPP) switched on or off: off ends what runs.
@@ -174,10 +175,7 @@ impl Device {
                 answer: Answer::Done,
             };
         }
-        Outcome {
-            device: self,
-            answer: Answer::Refused(e),
-        }
+        refused(self, e)
     }
 
     // Reset: the power-up state, but for the supply.
@@ -193,10 +191,7 @@ impl Device {
                 answer: Answer::Done,
             };
         }
-        Outcome {
-            device: self,
-            answer: Answer::Refused(e),
-        }
+        refused(self, e)
     }
 
     // Any of the five.

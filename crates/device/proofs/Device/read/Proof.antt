@@ -1,9 +1,8 @@
 -- `Device::read` meets its contract: the step by the refusal that was found. Assumes nothing.
-use mathlib.Core.Path.{sym, ap}
+use mathlib.Core.Path.{_∙_}
 use Rattle.semantics.specs.declared.Step.the-variants.{Read}
 use Rattle.semantics.specs.Steps.{accepted, stepRefusal}
-use Rattle.device.specs.Outcomes.{outcomeOf}
-use Rattle.device.specs.Refusals.{step-accepted, step-refused}
+use Rattle.device.specs.Refusals.{outcome-accepted, outcome-refused}
 use borrow.Author.Needs.{needs}
 use Rattle.device.proofs.Device.read.Statement.{statement}
 use Rattle.device.proofs.Device.read.Tie as tie
@@ -11,11 +10,11 @@ use Rattle.device.proofs.Device.read.Tie as tie
 returns : tie.Need-returns
 unfolding accepted stepRefusal
 returns c = rw (c .read-word .ensures)
-    (sym (ap outcomeOf (step-accepted _ _ _ (Read _) _ _ _ (c .before .before .before .before .refusal-of .ensures _) (c .before .before .before .address-refusal .ensures) (c .before .before .first-refusal .ensures) (c .before .if1 .taken))))
+    (outcome-accepted _ _ _ (Read _) _ _ _ (c .before .before .before .before .refusal-of .ensures _) (c .before .before .before .address-refusal .ensures) (c .before .before .first-refusal .ensures) (c .before .if1 .taken))
 
 returns-2 : tie.Need-returns-2
 unfolding stepRefusal
-returns-2 c = sym (ap outcomeOf (step-refused _ _ _ (Read _) _ _ _ (c .before .before .before .refusal-of .ensures _) (c .before .before .address-refusal .ensures) (c .before .first-refusal .ensures) (c .if1 .left)))
+returns-2 c = c .refused .ensures ∙ outcome-refused _ _ _ (Read _) _ _ _ (c .before .before .before .before .refusal-of .ensures _) (c .before .before .before .address-refusal .ensures) (c .before .before .first-refusal .ensures) (c .before .if1 .left)
 
 pub read-spec : {M : Type 1} → statement M
 read-spec =
@@ -26,4 +25,5 @@ read-spec =
     (λ c κs. search needs)
     (λ c κs. search needs)
     returns
+    (λ c κs. search needs)
     returns-2)

@@ -1,20 +1,19 @@
 -- `Device::reset` meets its contract: the step by the refusal that was found. Assumes nothing.
-use mathlib.Core.Path.{refl, sym, ap}
+use mathlib.Core.Path.{refl, _∙_}
 use Rattle.semantics.specs.declared.Step.the-variants.{Reset}
 use Rattle.semantics.specs.Steps.{accepted, stepRefusal}
-use Rattle.device.specs.Outcomes.{outcomeOf}
-use Rattle.device.specs.Refusals.{step-accepted, step-refused}
+use Rattle.device.specs.Refusals.{outcome-accepted, outcome-refused}
 use borrow.Author.Needs.{needs}
 use Rattle.device.proofs.Device.reset.Statement.{statement}
 use Rattle.device.proofs.Device.reset.Tie as tie
 
 returns : tie.Need-returns
 unfolding accepted stepRefusal
-returns c = rw (c .reset .ensures) (sym (ap outcomeOf (step-accepted _ _ _ Reset _ _ _ (c .before .before .before .refusal-of .ensures _) refl (c .before .before .first-refusal .ensures) (c .before .if1 .taken))))
+returns c = rw (c .reset .ensures) (outcome-accepted _ _ _ Reset _ _ _ (c .before .before .before .refusal-of .ensures _) refl (c .before .before .first-refusal .ensures) (c .before .if1 .taken))
 
 returns-2 : tie.Need-returns-2
 unfolding stepRefusal
-returns-2 c = sym (ap outcomeOf (step-refused _ _ _ Reset _ _ _ (c .before .before .refusal-of .ensures _) refl (c .before .first-refusal .ensures) (c .if1 .left)))
+returns-2 c = c .refused .ensures ∙ outcome-refused _ _ _ Reset _ _ _ (c .before .before .before .refusal-of .ensures _) refl (c .before .before .first-refusal .ensures) (c .before .if1 .left)
 
 pub reset-spec : {M : Type 1} → statement M
 reset-spec =
@@ -24,4 +23,5 @@ reset-spec =
     (λ c κs. search needs)
     (λ c κs. search needs)
     returns
+    (λ c κs. search needs)
     returns-2)
