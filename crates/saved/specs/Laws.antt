@@ -1,12 +1,12 @@
 -- Laws of the saved words: a state whose numbers fit their types is got back from its words, and words that are no saved state say one that the device refuses.
 -- Assumes nothing.
 use Prim.Native.Nat.{ℕ, zero, suc, _+_, _*_, _/_, _%_, _^_, _<_, _≤_}
-use mathlib.Core.Bool.{Bool, true, false, cond, _&&_}
+use mathlib.Core.Bool.{Bool, true, false, _&&_}
 use mathlib.Core.List.{List, [], _∷_, _++_}
 use mathlib.Core.Path.{_≡_, refl, sym, ap, _∙_, subst}
 use native.Mathlib.Nat.{mod-eq-of-lt, div-eq-of-lt, mod-add-div', add-mul-mod-self-right, add-mul-div-right}
 use native.Mathlib.Omega.{arith}
-use lib.Dec.{eqb, ltb}
+use lib.Dec.{eqb}
 use lib.ListN.{length, getD, take, drop, set, length-drop, replicate}
 use lib.Seq.{drop-cons, getD-drop, sets}
 use borrow.Author.Tests.{eq-eqb, ne-eqb, eqb-true, eqb-false}
@@ -33,7 +33,7 @@ use Rattle.semantics.specs.WellFormed.{runningAlone, programAlone, eraseAlone, 
 use Rattle.semantics.specs.Register.{isReserved}
 use Rattle.semantics.specs.Refusals.{reserved-unformed}
 use Rattle.saved.specs.declared.Four.{Four}
-use Rattle.saved.specs.Saved.{partNumber, modeNumber, modeNumbered, bankNumber, bankNumbered, flagNumbered, half, setupNumbers, setupOf, runningNumbers, runningOf, programNumbers, programOf, eraseNumbers, eraseOf, flagNumbers, joined, inHalves, ofHalves, bytes, fromByte, listed, first, modesWord, modesIn, bankWords, activityWords, activityOf, flagsIn, controlWord, restOf, packed, lane, packedAt, laneAt, bufferWords, bufferIn, savedOf, loadedOf, same, isSaved, noState, stateOf, putInto}
+use Rattle.saved.specs.Saved.{partNumber, modeNumber, modeNumbered, bankNumber, bankNumbered, flagNumbered, half, setupNumbers, setupOf, runningNumbers, runningOf, programNumbers, programOf, eraseNumbers, eraseOf, flagNumbers, joined, ofHalves, bytes, fromByte, listed, first, modesWord, modesIn, bankWords, activityWords, activityOf, flagsIn, restOf, packed, lane, packedAt, laneAt, bufferWords, bufferIn, savedOf, loadedOf, same, isSaved, noState, stateOf, putInto}
 
 -- ---- lists
 

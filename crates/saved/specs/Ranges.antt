@@ -1,7 +1,7 @@
 -- Words are a saved state exactly where each number in them is in its range (is-saved-in-range). Assumes nothing.
 use Prim.Native.Nat.{ℕ, zero, suc, _<_, _≤_, _+_, _/_, _%_}
 use mathlib.Core.Bool.{Bool, true, false, not, cond, _&&_, and-assoc, and-true}
-use mathlib.Core.List.{List, [], _∷_}
+use mathlib.Core.List.{List}
 use mathlib.Core.Path.{_≡_, refl, sym, ap, _∙_, subst}
 use native.Mathlib.Nat.{mod-eq-of-lt, mod-lt}
 use native.Mathlib.Omega.{arith}

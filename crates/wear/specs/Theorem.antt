@@ -24,11 +24,11 @@ use Rattle.semantics.specs.declared.Step.the-variants.{Read, Write, Work, Suppl
 use Rattle.semantics.specs.State.{geometry, runs}
 use Rattle.semantics.specs.Supplied.{of-cond}
 use Rattle.semantics.specs.Working.{unitsLeft, unitsDone, runningAfter}
-use Rattle.semantics.specs.Steps.{stepRefusal, firstRefusal, Machine, after}
+use Rattle.semantics.specs.Steps.{stepRefusal, firstRefusal, Machine}
 use Rattle.semantics.specs.Entries as entries
 use Rattle.semantics.specs.Entries.{Phase, Entry, entry, Live, live, paused, resumed, brokenOff, idle-worked}
-use Rattle.semantics.specs.Recorder.{Operation, program, erase, buffer, Setup, no-setup, program-setup, erase-setup, lock-setup, count-setup, first-setup, words-setup, Conditions, Recorder, beginning, recorded, recordedAll}
-use Rattle.semantics.specs.Recorder.{Event, nothing, supplied, was-reset, units, suspend, event, journal-after}
+use Rattle.semantics.specs.Recorder.{Operation, Setup, no-setup, program-setup, erase-setup, lock-setup, count-setup, first-setup, words-setup, Conditions, Recorder, beginning, recorded, recordedAll}
+use Rattle.semantics.specs.Recorder.{Event, nothing, supplied, was-reset, suspend, event, journal-after}
 use Rattle.semantics.specs.Recorder.{Command, commandOf, suspend-command, resume-command, program-command, lock-command, erase-command, buffer-command, other-command, first-cycle, cycle, acceptable, kinds, len, isProgram, isErase, isAny, isNone}
 use Rattle.semantics.specs.Numbers.{within}
 use Rattle.semantics.specs.Engine.{stack, busy, held?, Matches, rules-agree}

@@ -1,6 +1,6 @@
 -- `saved::modes_word` meets its contract. The invariant: the bytes from `i` on are joined. Assumes nothing.
 use Prim.Native.Nat.{_≤_, _+_, _-_, suc}
-use mathlib.Core.Path.{_≡_, refl, _∙_}
+use mathlib.Core.Path.{_≡_, refl}
 use native.Mathlib.Omega.{arith}
 use lib.ListN.{getD, drop}
 use borrow.Author.Needs.{needs}
