@@ -1,6 +1,6 @@
 -- Words are a saved state exactly where each number in them is in its range (is-saved-in-range). Assumes nothing.
 use Prim.Native.Nat.{ℕ, zero, suc, _<_, _≤_, _+_, _/_, _%_}
-use mathlib.Core.Bool.{Bool, true, false, not, cond, _&&_, and-assoc, and-true}
+use mathlib.Core.Bool.{Bool, true, false, not, cond, _&&_, and-assoc, and-comm, and-true}
 use mathlib.Core.List.{List}
 use mathlib.Core.Path.{_≡_, refl, sym, ap, _∙_, subst}
 use native.Mathlib.Nat.{mod-eq-of-lt, mod-lt}
@@ -11,8 +11,9 @@ use borrow.Author.Tests.{eq-eqb, ne-eqb, eqb-true, eqb-false, ltb-true, ltb-fals
 use Rattle.geometry.specs.declared.Part.the-variants.{FullBottom, FullTop, BenchBottom, BenchTop}
 use Rattle.geometry.specs.Blocks.{partNumbered}
 use Rattle.semantics.specs.declared.Mode.the-variants.{Array, Status, Signature, Query}
+use Rattle.semantics.specs.declared.Activity.{Activity}
 use Rattle.semantics.specs.Reading.{bitIf}
-use Rattle.saved.specs.Saved.{partNumber, modeNumber, bankNumber, bankNumbered, flagNumbered, half, flagNumbers, joined, bytes, fromByte, listed, flagsIn, controlWord, packed, lane, savedOf, loadedOf, same, isSaved, activityWords, activityOf, bytesBelow, activitySame, controlInRange, inRange}
+use Rattle.saved.specs.Saved.{partNumber, modeNumber, bankNumber, bankNumbered, flagNumbered, half, setupNumbers, runningNumbers, programNumbers, eraseNumbers, holds, flagNumbers, joined, bytes, fromByte, listed, flagsIn, controlWord, packed, lane, savedOf, loadedOf, same, isSaved, activityWords, activityOf, bytesBelow, activitySame, controlInRange, restInRange, inRange}
 use Rattle.saved.specs.Laws.{first-all, joined-eq, flags-small, packed-lanes, saved-length}
 
 -- ---- one number: what is saved of what it says is the number itself, where it is in its range
@@ -95,9 +96,9 @@ at ws k = eqb (getD ws (3 + k) 0) (getD (activityWords (activityOf ws)) k 0)
 
 -- the eight words of what is under way, in front of further tests
 under-way : (ws : List ℕ) {t u : Bool} → t ≡ u
-    → (at ws 0 && (at ws 1 && (at ws 2 && (at ws 3 && (at ws 4 && (at ws 5 && (at ws 6 && (at ws 7 && t)))))))) ≡ (activitySame ws && u)
+    → (at ws 0 && (at ws 1 && (at ws 2 && (at ws 3 && (at ws 4 && (at ws 5 && (at ws 6 && (at ws 7 && t)))))))) ≡ (u && activitySame ws (activityOf ws))
 unfolding activitySame
-under-way ws q = simp (and-assoc, q)
+under-way ws {u = u} q = let e : (u && activitySame ws (activityOf ws)) ≡ (activitySame ws (activityOf ws) && u) = and-comm u _ in rw e (simp (and-assoc, q))
 
 -- a word of the buffer is that of the four that it holds
 full : (w : ℕ) {t : Bool} → t ≡ true → (eqb w (packed (lane w 0) (lane w 1) (lane w 2) (lane w 3)) && t) ≡ true
@@ -107,17 +108,21 @@ last : {a b t : Bool} → a ≡ b → t ≡ true → (a && t) ≡ b
 last {b = b} p q = both p q ∙ and-true b
 
 in-range : (f : ℕ → ℕ) → isSaved (listed 25 f) ≡ inRange (listed 25 f)
-unfolding isSaved savedOf loadedOf same activitySame inRange
+unfolding isSaved savedOf loadedOf same activitySame restInRange
 in-range f =
     both (part-range (f 0)) (both (modes-range (f 1)) (both (modes-range (f 2))
     (under-way (listed 25 f)
     (last (control-range (f 11))
     (any (f 12) (any (f 13) (any (f 14) (any (f 15) (any (f 16)
     (full (f 17) (full (f 18) (full (f 19) (full (f 20) (full (f 21) (full (f 22) (full (f 23) (full (f 24) refl)))))))))))))))))
+    ∙ grouped (ltb (f 0) 4) (bytesBelow 4 7 (f 1)) (bytesBelow 4 7 (f 2)) (controlInRange (f 11)) (activitySame (listed 25 f) (activityOf (listed 25 f)))
+  where
+    grouped : (a b c d e : Bool) → (a && (b && (c && (d && e)))) ≡ ((a && (b && (c && d))) && e)
+    grouped a b c d e = simp and-assoc
 
 -- a list of another length is neither
 short-is : (ws : List ℕ) → eqb (length ws) 25 ≡ false → false ≡ inRange ws
-unfolding inRange
+unfolding restInRange
 short-is ws e = rw e
 
 pub is-saved-in-range : (ws : List ℕ) → isSaved ws ≡ inRange ws
@@ -130,3 +135,13 @@ is-saved-in-range ws = go (eqb (length ws) 25) refl
     go : (t : Bool) → eqb (length ws) 25 ≡ t → isSaved ws ≡ inRange ws
     go true e = subst (λ (l : List ℕ). isSaved l ≡ inRange l) (first-all 25 ws (eqb-true (length ws) 25 e)) (in-range (λ k. getD ws k 0))
     go false e = other e (isSaved ws) refl ∙ short-is ws e
+
+-- by what the two tests come to, of which the first decides where it fails
+pub saved-by : (ws : List ℕ) (x y : Bool) → restInRange ws ≡ x → activitySame ws (activityOf ws) ≡ y → isSaved ws ≡ (x && y)
+saved-by ws x y p q = is-saved-in-range ws ∙ both p q
+
+-- what is under way by what its four tests come to, of which the first that fails decides
+pub same-by : (ws : List ℕ) (a : Activity) (p q r s : Bool) → holds ws 3 (setupNumbers (a .setup)) ≡ p → holds ws 5 (runningNumbers (a .running)) ≡ q
+    → holds ws 7 (programNumbers (a .program)) ≡ r → holds ws 9 (eraseNumbers (a .erase)) ≡ s → activitySame ws a ≡ (p && (q && (r && s)))
+unfolding activitySame
+same-by ws a p q r s e f g h = both e (both f (both g h))

@@ -273,6 +273,9 @@ stateOf ws = cond (isSaved ws) (loadedOf ws) (noState ws)
 abbrev pub foundOf : List ℕ → Found
 foundOf ws = record { saved = isSaved ws; state = stateOf ws }
 
+abbrev pub notFound : List ℕ → Found
+notFound ws = record { saved = false; state = noState ws }
+
 -- room for a saved state stays as it is where it has not 25 words
 unfoldable pub putInto : List ℕ → List ℕ → List ℕ
 putInto room ws = cond (eqb (length room) 25) ws room
@@ -284,23 +287,17 @@ unfoldable pub bytesBelow : ℕ → ℕ → ℕ → Bool
 bytesBelow m zero w = ltb w m
 bytesBelow m (suc n) w = ltb (w % 256) m && bytesBelow m n (w / 256)
 
--- what is under way is compared with what it is saved as
-unfoldable pub activitySame : List ℕ → Bool
-activitySame ws =
-    holds ws 3 (setupNumbers (activityOf ws .setup))
-    && (holds ws 5 (runningNumbers (activityOf ws .running))
-    && (holds ws 7 (programNumbers (activityOf ws .program))
-    && holds ws 9 (eraseNumbers (activityOf ws .erase))))
+-- the words of what is under way are those that this is saved as
+unfoldable pub activitySame : List ℕ → Activity → Bool
+activitySame ws a = holds ws 3 (setupNumbers (a .setup)) && (holds ws 5 (runningNumbers (a .running)) && (holds ws 7 (programNumbers (a .program)) && holds ws 9 (eraseNumbers (a .erase))))
 
 -- the four flags 0 or 1, and so the supply; the configuration register is any 16 bits, of which `wellFormed` judges the reserved ones
 abbrev pub controlInRange : ℕ → Bool
 controlInRange w = bytesBelow 2 3 (w % half) && ltb (w / half / 65536) 2
 
--- 25 words; the part below 4, and each mode; what is under way; the flags and the supply; a protection word is any number, and so is one of the buffer
-unfoldable pub inRange : List ℕ → Bool
-inRange ws =
-    eqb (length ws) 25
-    && (ltb (getD ws 0 0) 4
-    && (bytesBelow 4 7 (getD ws 1 0)
-    && (bytesBelow 4 7 (getD ws 2 0)
-    && (activitySame ws && controlInRange (getD ws 11 0)))))
+-- 25 words; the part below 4, and each mode; the flags and the supply; a protection word is any number, and so is one of the buffer
+unfoldable pub restInRange : List ℕ → Bool
+restInRange ws = eqb (length ws) 25 && (ltb (getD ws 0 0) 4 && (bytesBelow 4 7 (getD ws 1 0) && (bytesBelow 4 7 (getD ws 2 0) && controlInRange (getD ws 11 0))))
+
+abbrev pub inRange : List ℕ → Bool
+inRange ws = restInRange ws && activitySame ws (activityOf ws)

@@ -16,7 +16,7 @@ ghost use lib.ListN.{length, getD};
 ghost use lib.Seq.{sets};
 ghost use Rattle.geometry.specs.Blocks.{partNumbered};
 ghost use Rattle.semantics.specs.Reading.{bitIf};
-ghost use Rattle.saved.specs.Saved.{partNumber, bankNumber, bankNumbered, flagNumbered, half, setupNumbers, plainSetup, loadOf, setupOf, runningNumbers, runningOf, programNumbers, programOf, eraseNumbers, eraseOf, joined, inHalves, fourAt, holds, modesWord, modesIn, bankWords, banksOf, activityWords, controlWord, restWords, packed, bufferWords, bufferIn, savedOf, loadedOf, isSaved, noState, foundOf, putInto, activityOf, flagsIn, protectionIn, bytesBelow, activitySame};
+ghost use Rattle.saved.specs.Saved.{partNumber, bankNumber, bankNumbered, flagNumbered, half, setupNumbers, plainSetup, loadOf, setupOf, runningNumbers, runningOf, programNumbers, programOf, eraseNumbers, eraseOf, joined, inHalves, fourAt, holds, modesWord, modesIn, bankWords, banksOf, activityWords, controlWord, restWords, packed, bufferWords, bufferIn, savedOf, loadedOf, isSaved, noState, foundOf, putInto, activityOf, flagsIn, protectionIn, bytesBelow, activitySame, restInRange, notFound};
 ghost use Rattle.saved.specs.Laws.{Fitting};
 
 // The upper half of a word is from here on.
@@ -291,20 +291,24 @@ fn activity_of(words: &[u64]) -> Activity
     }
 }
 
-// Whether the words of what is under way are those that it is saved as.
-fn activity_same(words: &[u64]) -> bool
-    ensures { λ r. ⌜ r ≡ activitySame (now (words .entry)) ⌝ }
+// The words of what is under way are those that this is saved as.
+fn activity_same(words: &[u64], a: Activity) -> bool
+    ensures { λ r. ⌜ r ≡ activitySame (now (words .entry)) a ⌝ }
 {
-    let a = activity_of(words);
     let setup = a.setup;
     let running = a.running;
     let program = a.program;
     let erase = a.erase;
-    let s = holds(words, 3, setup_numbers(setup));
-    let r = holds(words, 5, running_numbers(running));
-    let p = holds(words, 7, program_numbers(program));
-    let e = holds(words, 9, erase_numbers(erase));
-    s & (r & (p & e))
+    if !holds(words, 3, setup_numbers(setup)) {
+        return false;
+    }
+    if !holds(words, 5, running_numbers(running)) {
+        return false;
+    }
+    if !holds(words, 7, program_numbers(program)) {
+        return false;
+    }
+    holds(words, 9, erase_numbers(erase))
 }
 
 // The lowest n bytes, and what is above them, are each below m. No return from the loop, so that the compiler makes a test of one mask of it.
@@ -322,9 +326,9 @@ fn bytes_below(m: u64, n: usize, w: u64) -> bool
     below & (rest < m)
 }
 
-// Whether the words are what the state that they say is saved as: what is under way is compared, of the rest the range of each word is tested.
-pub fn is_saved(words: &[u64]) -> bool
-    ensures { λ r. ⌜ r ≡ isSaved (now (words .entry)) ⌝ }
+// There are 25 words, and each is in its range, but for those of what is under way.
+fn rest_in_range(words: &[u64]) -> bool
+    ensures { λ r. ⌜ r ≡ restInRange (now (words .entry)) ⌝ }
 {
     if words.len() != 25 {
         return false;
@@ -338,11 +342,18 @@ pub fn is_saved(words: &[u64]) -> bool
     if !bytes_below(4, 7, words[2]) {
         return false;
     }
-    if !activity_same(words) {
-        return false;
-    }
     let w = words[11];
     bytes_below(2, 3, w % HALF) & (w / HALF / 65536 < 2)
+}
+
+// Whether the words are what the state that they say is saved as: those of what is under way are compared, of the rest the range is tested.
+pub fn is_saved(words: &[u64]) -> bool
+    ensures { λ r. ⌜ r ≡ isSaved (now (words .entry)) ⌝ }
+{
+    if !rest_in_range(words) {
+        return false;
+    }
+    activity_same(words, activity_of(words))
 }
 
 // ---- the state of words
@@ -418,8 +429,9 @@ fn buffer_of(words: &[u64]) -> [u16; 32]
     buffer
 }
 
-// The state that words say.
-pub fn load(words: &[u64]) -> State
+// The state that words say, with what is under way, that they say.
+fn load_with(words: &[u64], a: Activity) -> State
+    requires { ⌜ a ≡ activityOf (now words) ⌝ }
     ensures { λ r. ⌜ r ≡ loadedOf (now (words .entry)) ⌝ }
 {
     let w = word_at(words, 11);
@@ -428,13 +440,19 @@ pub fn load(words: &[u64]) -> State
         banks: banks_of(words),
         unprotected: protection_of(words),
         control: Control {
-            activity: activity_of(words),
+            activity: a,
             flags: flags_of(w % HALF),
             configuration: (w / HALF % 65536) as u16,
             supply: flag_numbered(w / HALF / 65536),
         },
         buffer: buffer_of(words),
     }
+}
+
+pub fn load(words: &[u64]) -> State
+    ensures { λ r. ⌜ r ≡ loadedOf (now (words .entry)) ⌝ }
+{
+    load_with(words, activity_of(words))
 }
 
 // The state for words that are no saved state: the device refuses every step on it.
@@ -444,19 +462,29 @@ pub fn no_state(words: &[u64]) -> State
     state::with_protection(state::power_up(part_in(words)), [0, 0, 0, 0, 8])
 }
 
+fn not_found(words: &[u64]) -> Found
+    ensures { λ r. ⌜ r ≡ notFound (now (words .entry)) ⌝ }
+{
+    Found {
+        saved: false,
+        state: no_state(words),
+    }
+}
+
 // Tests the words, once, and gives their state: of a saved state that which was saved.
 pub fn found_in(words: &[u64]) -> Found
     ensures { λ r. ⌜ r ≡ foundOf (now (words .entry)) ⌝ }
 {
-    if is_saved(words) {
-        return Found {
-            saved: true,
-            state: load(words),
-        };
+    if !rest_in_range(words) {
+        return not_found(words);
+    }
+    let a = activity_of(words);
+    if !activity_same(words, a) {
+        return not_found(words);
     }
     Found {
-        saved: false,
-        state: no_state(words),
+        saved: true,
+        state: load_with(words, a),
     }
 }
 
