@@ -92,11 +92,13 @@ pub record Sound (g : Geometry) : Type 0 where
   pub unit-limit : g .unit ≤ 16777216
   pub smalls-pos : 0 < g .smalls
   pub places-pos : 0 < g .places
+  pub group-pos : 0 < g .group
   pub small-pos : 0 < small g
   pub whole : g .smalls * small g ≡ g .unit
   pub banks-whole : g .places / g .group * g .group ≡ g .places
   pub words-pos : 0 < words g
   pub limit : words g ≤ 16777216
+  pub blocks-limit : blocks g ≤ 65535
   pub bank-pos : 0 < bankWords g
   pub bank-limit : bankWords g ≤ words g
 
