@@ -1,4 +1,5 @@
--- Words are a saved state exactly where each number in them is in its range (is-saved-in-range). Assumes nothing.
+-- Words are a saved state exactly where those of what is under way are what it is saved as, and each other number is in
+-- its range (is-saved-in-range). Assumes nothing.
 use Prim.Native.Nat.{ℕ, zero, suc, _<_, _≤_, _+_, _/_, _%_}
 use mathlib.Core.Bool.{Bool, true, false, not, cond, _&&_, and-assoc, and-comm, and-true}
 use mathlib.Core.List.{List}
@@ -96,9 +97,12 @@ at ws k = eqb (getD ws (3 + k) 0) (getD (activityWords (activityOf ws)) k 0)
 
 -- the eight words of what is under way, in front of further tests
 under-way : (ws : List ℕ) {t u : Bool} → t ≡ u
-    → (at ws 0 && (at ws 1 && (at ws 2 && (at ws 3 && (at ws 4 && (at ws 5 && (at ws 6 && (at ws 7 && t)))))))) ≡ (u && activitySame ws (activityOf ws))
+    → (at ws 0 && (at ws 1 && (at ws 2 && (at ws 3 && (at ws 4 && (at ws 5 && (at ws 6 && (at ws 7 && t))))))))
+    ≡ (u && activitySame ws (activityOf ws))
 unfolding activitySame
-under-way ws {u = u} q = let e : (u && activitySame ws (activityOf ws)) ≡ (activitySame ws (activityOf ws) && u) = and-comm u _ in rw e (simp (and-assoc, q))
+under-way ws {u = u} q =
+    let e : (u && activitySame ws (activityOf ws)) ≡ (activitySame ws (activityOf ws) && u) = and-comm u _ in
+    rw e (simp (and-assoc, q))
 
 -- a word of the buffer is that of the four that it holds
 full : (w : ℕ) {t : Bool} → t ≡ true → (eqb w (packed (lane w 0) (lane w 1) (lane w 2) (lane w 3)) && t) ≡ true

@@ -280,7 +280,8 @@ notFound ws = record { saved = false; state = noState ws }
 unfoldable pub putInto : List ℕ → List ℕ → List ℕ
 putInto room ws = cond (eqb (length room) 25) ws room
 
--- ---- a saved state by the range of each word, but for those of what is under way: `is-saved-in-range` (Ranges) says that it is the same
+-- ---- a saved state by the range of each word, but for those of what is under way, which are compared:
+-- `is-saved-in-range` (Ranges) says that it is the same
 
 -- the lowest n bytes, and what is above them, are each below m
 unfoldable pub bytesBelow : ℕ → ℕ → ℕ → Bool
@@ -289,15 +290,25 @@ bytesBelow m (suc n) w = ltb (w % 256) m && bytesBelow m n (w / 256)
 
 -- the words of what is under way are those that this is saved as
 unfoldable pub activitySame : List ℕ → Activity → Bool
-activitySame ws a = holds ws 3 (setupNumbers (a .setup)) && (holds ws 5 (runningNumbers (a .running)) && (holds ws 7 (programNumbers (a .program)) && holds ws 9 (eraseNumbers (a .erase))))
+activitySame ws a =
+    holds ws 3 (setupNumbers (a .setup))
+    && (holds ws 5 (runningNumbers (a .running))
+    && (holds ws 7 (programNumbers (a .program))
+    && holds ws 9 (eraseNumbers (a .erase))))
 
 -- the four flags 0 or 1, and so the supply; the configuration register is any 16 bits, of which `wellFormed` judges the reserved ones
 abbrev pub controlInRange : ℕ → Bool
 controlInRange w = bytesBelow 2 3 (w % half) && ltb (w / half / 65536) 2
 
--- 25 words; the part below 4, and each mode; the flags and the supply; a protection word is any number, and so is one of the buffer
+-- 25 words; the part below 4, and each mode; the flags and the supply; a protection word is any number, and so is
+-- one of the buffer
 unfoldable pub restInRange : List ℕ → Bool
-restInRange ws = eqb (length ws) 25 && (ltb (getD ws 0 0) 4 && (bytesBelow 4 7 (getD ws 1 0) && (bytesBelow 4 7 (getD ws 2 0) && controlInRange (getD ws 11 0))))
+restInRange ws =
+    eqb (length ws) 25
+    && (ltb (getD ws 0 0) 4
+    && (bytesBelow 4 7 (getD ws 1 0)
+    && (bytesBelow 4 7 (getD ws 2 0)
+    && controlInRange (getD ws 11 0))))
 
 abbrev pub inRange : List ℕ → Bool
 inRange ws = restInRange ws && activitySame ws (activityOf ws)

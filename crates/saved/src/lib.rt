@@ -346,7 +346,8 @@ fn rest_in_range(words: &[u64]) -> bool
     bytes_below(2, 3, w % HALF) & (w / HALF / 65536 < 2)
 }
 
-// Whether the words are what the state that they say is saved as: those of what is under way are compared, of the rest the range is tested.
+// Whether the words are what the state that they say is saved as: those of what is under way are compared, of the
+// rest the range is tested.
 pub fn is_saved(words: &[u64]) -> bool
     ensures { λ r. ⌜ r ≡ isSaved (now (words .entry)) ⌝ }
 {
