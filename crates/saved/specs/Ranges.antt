@@ -13,8 +13,9 @@ use Rattle.geometry.specs.declared.Part.the-variants.{FullBottom, FullTop, Benc
 use Rattle.geometry.specs.Blocks.{partNumbered}
 use Rattle.semantics.specs.declared.Mode.the-variants.{Array, Status, Signature, Query}
 use Rattle.semantics.specs.declared.Activity.{Activity}
+use Rattle.semantics.specs.Tabulate.{tabulate}
 use Rattle.semantics.specs.Reading.{bitIf}
-use Rattle.saved.specs.Saved.{partNumber, modeNumber, bankNumber, bankNumbered, flagNumbered, half, setupNumbers, runningNumbers, programNumbers, eraseNumbers, holds, flagNumbers, joined, bytes, fromByte, listed, flagsIn, controlWord, packed, lane, savedOf, loadedOf, same, isSaved, activityWords, activityOf, bytesBelow, activitySame, controlInRange, restInRange, inRange}
+use Rattle.saved.specs.Saved.{partNumber, modeNumber, bankNumber, bankNumbered, flagNumbered, half, setupNumbers, runningNumbers, programNumbers, eraseNumbers, holds, flagNumbers, joined, bytes, fromByte, flagsIn, controlWord, packed, lane, savedOf, loadedOf, same, isSaved, activityWords, activityOf, bytesBelow, activitySame, controlInRange, restInRange, inRange}
 use Rattle.saved.specs.Laws.{first-all, joined-eq, flags-small, packed-lanes, saved-length}
 
 -- ---- one number: what is saved of what it says is the number itself, where it is in its range
@@ -67,17 +68,18 @@ flag-reduced n = go (eqb (n % 2) 0) refl
 
 -- bytes of which each is so reduced
 module _ (m : ℕ) (least : 0 < m) (most : m ≤ 256) (g : ℕ → ℕ) (reduced : (n : ℕ) → g n ≡ n % m) (byte : (n : ℕ) → n % m ≡ n % 256 % m) where
-  bytes-range : (n w : ℕ) → eqb w (bytes (listed (suc n) (λ k. g (fromByte k w)))) ≡ bytesBelow m n w
-  unfolding bytesBelow
+  bytes-range : (n w : ℕ) → eqb w (bytes (tabulate (suc n) (λ k. g (fromByte k w)))) ≡ bytesBelow m n w
+  unfolding bytesBelow tabulate
   bytes-range zero w = let e : joined 256 (g w) 0 ≡ g w = omega arith in rw (e, reduced w) (mod-range m w least)
   bytes-range (suc n) w =
-      joined-eq 256 w (g w) (bytes (listed (suc n) (λ k. g (fromByte k (w / 256))))) (omega (arith, reduced w, mod-lt w least))
+      joined-eq 256 w (g w) (bytes (tabulate (suc n) (λ k. g (fromByte k (w / 256))))) (omega (arith, reduced w, mod-lt w least))
       ∙ both (ap (eqb (w % 256)) (reduced w ∙ byte w) ∙ mod-range m (w % 256) least) (bytes-range n (w / 256))
 
-modes-range : (w : ℕ) → eqb w (bytes (listed 8 (λ k. bankNumber (bankNumbered (fromByte k w))))) ≡ bytesBelow 4 7 w
+modes-range : (w : ℕ) → eqb w (bytes (tabulate 8 (λ k. bankNumber (bankNumbered (fromByte k w))))) ≡ bytesBelow 4 7 w
 modes-range = bytes-range 4 (omega arith) (omega arith) (λ n. bankNumber (bankNumbered n)) bank-reduced (λ n. omega arith) 7
 
 flags-range : (w : ℕ) → eqb w (bytes (flagNumbers (flagsIn w))) ≡ bytesBelow 2 3 w
+unfolding tabulate
 flags-range = bytes-range 2 (omega arith) (omega arith) (λ n. bitIf (flagNumbered n) 1) flag-reduced (λ n. omega arith) 3
 
 -- the flags, any configuration register, and the supply
@@ -111,15 +113,15 @@ full w q = rw (eq-eqb w (packed (lane w 0) (lane w 1) (lane w 2) (lane w 3)) (sy
 last : {a b t : Bool} → a ≡ b → t ≡ true → (a && t) ≡ b
 last {b = b} p q = both p q ∙ and-true b
 
-in-range : (f : ℕ → ℕ) → isSaved (listed 25 f) ≡ inRange (listed 25 f)
-unfolding isSaved savedOf loadedOf same activitySame restInRange
+in-range : (f : ℕ → ℕ) → isSaved (tabulate 25 f) ≡ inRange (tabulate 25 f)
+unfolding isSaved savedOf loadedOf same activitySame restInRange tabulate
 in-range f =
     both (part-range (f 0)) (both (modes-range (f 1)) (both (modes-range (f 2))
-    (under-way (listed 25 f)
+    (under-way (tabulate 25 f)
     (last (control-range (f 11))
     (any (f 12) (any (f 13) (any (f 14) (any (f 15) (any (f 16)
     (full (f 17) (full (f 18) (full (f 19) (full (f 20) (full (f 21) (full (f 22) (full (f 23) (full (f 24) refl)))))))))))))))))
-    ∙ grouped (ltb (f 0) 4) (bytesBelow 4 7 (f 1)) (bytesBelow 4 7 (f 2)) (controlInRange (f 11)) (activitySame (listed 25 f) (activityOf (listed 25 f)))
+    ∙ grouped (ltb (f 0) 4) (bytesBelow 4 7 (f 1)) (bytesBelow 4 7 (f 2)) (controlInRange (f 11)) (activitySame (tabulate 25 f) (activityOf (tabulate 25 f)))
   where
     grouped : (a b c d e : Bool) → (a && (b && (c && (d && e)))) ≡ ((a && (b && (c && d))) && e)
     grouped a b c d e = simp and-assoc

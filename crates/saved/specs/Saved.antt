@@ -25,6 +25,7 @@ use Rattle.semantics.specs.declared.Control.{Control}
 use Rattle.semantics.specs.declared.Flags.{Flags}
 use Rattle.semantics.specs.declared.State.{State}
 use Rattle.semantics.specs.State.{withProtection, activity, flagsOf, powerUp}
+use Rattle.semantics.specs.Tabulate.{tabulate}
 use Rattle.semantics.specs.Reading.{bitIf}
 use Rattle.saved.specs.declared.Four.{Four}
 use Rattle.saved.specs.declared.Found.{Found}
@@ -158,21 +159,16 @@ fromByte (suc k) w = fromByte k (w / 256)
 
 -- ---- the 25 words
 
--- the list of f at each number below n
-abbrev pub listed : {A : Type 0} → ℕ → (ℕ → A) → List A
-listed zero f = []
-listed (suc n) f = f 0 ∷ listed n (λ k. f (suc k))
-
 -- the first n words of a list, 0 where it has none
 abbrev pub first : ℕ → List ℕ → List ℕ
-first n l = listed n (λ k. getD l k 0)
+first n l = tabulate n (λ k. getD l k 0)
 
 -- the modes of eight banks from bank i on, a byte each, and the eight banks that a word says
 abbrev pub modesWord : List Bank → ℕ → ℕ
-modesWord l i = bytes (listed 8 (λ k. bankNumber (getD l (i + k) (record { mode = Array }))))
+modesWord l i = bytes (tabulate 8 (λ k. bankNumber (getD l (i + k) (record { mode = Array }))))
 
 abbrev pub modesIn : ℕ → List Bank
-modesIn w = listed 8 (λ k. bankNumbered (fromByte k w))
+modesIn w = tabulate 8 (λ k. bankNumbered (fromByte k w))
 
 -- the words of the banks, and the banks that words say
 abbrev pub bankWords : List Bank → List ℕ
@@ -212,10 +208,10 @@ abbrev pub laneAt : List ℕ → ℕ → ℕ
 laneAt ws i = lane (getD ws (i / 4) 0) (i % 4)
 
 abbrev pub bufferWords : List ℕ → List ℕ
-bufferWords bs = listed 8 (packedAt bs)
+bufferWords bs = tabulate 8 (packedAt bs)
 
 abbrev pub bufferIn : List ℕ → List ℕ
-bufferIn ws = listed 32 (laneAt (drop 17 ws))
+bufferIn ws = tabulate 32 (laneAt (drop 17 ws))
 
 -- word 0 the part; 1 and 2 the modes of banks 0 to 7 and 8 to 15, a byte each, the lowest bank in the lowest byte;
 -- 3 and 4 the set-up; 5 and 6 what runs; 7 and 8 the suspended program; 9 and 10 the suspended erase: the kind in the lower half of the first word, the numbers in
