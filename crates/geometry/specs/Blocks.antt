@@ -3,7 +3,7 @@
 -- 256 main-size places, 16 of which make a bank.
 -- Assumes nothing.
 use Prim.Native.Nat.{ℕ, _+_, _-_, _*_, _/_, _%_, _<_, _≤_}
-use mathlib.Core.Bool.{Bool, true, false, cond}
+use mathlib.Core.Bool.{true, false, cond}
 use mathlib.Core.Path.{_≡_}
 use lib.Dec.{ltb, leb, eqb}
 use Rattle.geometry.specs.declared.Part.{Part}
@@ -99,7 +99,6 @@ pub record Sound (g : Geometry) : Type 0 where
   pub words-pos : 0 < words g
   pub limit : words g ≤ 16777216
   pub blocks-limit : blocks g ≤ 65535
-  pub banks-limit : banks g ≤ 65535
   pub bank-pos : 0 < bankWords g
   pub bank-limit : bankWords g ≤ words g
 

@@ -13,7 +13,7 @@ use borrow.Author.Tests.{lt-ltb, le-ltb}
 use Rattle.geometry.specs.declared.Part.{Part}
 use Rattle.geometry.specs.declared.Part.the-variants.{FullBottom, FullTop, BenchBottom, BenchTop}
 use Rattle.geometry.specs.declared.Geometry.{Geometry}
-use Rattle.geometry.specs.Blocks.{geometryOf, small, bankWords, words, blocks, banks, location, mirror, blockFrom, blockOf, bankOf, sizeOf, startFrom, startOf, bankStart, blockOffset, bankOffset, bankOfBlock, Sound}
+use Rattle.geometry.specs.Blocks.{geometryOf, small, bankWords, words, blocks, banks, location, mirror, blockFrom, blockOf, bankOf, sizeOf, startFrom, startOf, bankStart, blockOffset, bankOffset, Sound}
 
 -- ---- runs of words
 
@@ -412,16 +412,6 @@ module _ (g : Geometry) (w : Sound g) where
   pub start-block : (b : ℕ) → b < blocks g → blockOf g (startOf g b) ≡ b
   start-block b h =
       only b (startOf g b) (start-lt b) (record { low = omega arith; high = omega (arith, size-pos b h) })
-
-  -- the bank of a location is the bank of its block
-  pub bank-of-block-is : (l : ℕ) → l < words g → bankOf g l ≡ bankOfBlock g (blockOf g l)
-  unfolding bankOfBlock
-  bank-of-block-is l h = same-bank l (startOf g (blockOf g l)) (sym (start-block (blockOf g l) (block-lt l h)))
-
-  -- the number of the bank of a block is a bank's
-  pub block-bank-lt : (b : ℕ) → bankOfBlock g b < banks g
-  unfolding bankOfBlock
-  block-bank-lt b = bank-lt (startOf g b) (start-lt b)
 
 -- ---- each location lies in exactly one block
 

@@ -1,7 +1,7 @@
 -- Laws of a script's lines: which are of no form for their length, and how large the numbers of a step are.
 -- Assumes nothing.
 use Prim.Native.Nat.{ℕ, zero, suc, _+_, _-_, _^_, _<_, _≤_}
-use mathlib.Core.Bool.{Bool, true, false, cond, true≢false, _&&_}
+use mathlib.Core.Bool.{Bool, true, false, true≢false, _&&_}
 use mathlib.Core.List.{List, []}
 use mathlib.Core.Path.{_≡_, refl, sym, subst}
 use native.Mathlib.Nat.{suc-mul, mul-le-mul-right, pow-le-pow-right, pow-zero, pow-suc, lt-of-lt-of-le}
@@ -13,6 +13,7 @@ use Rattle.semantics.specs.declared.Step.{Step}
 use Rattle.semantics.specs.declared.Step.the-variants.{Read, Write, Work, Supply, Reset}
 use Rattle.semantics.specs.declared.Decoded.{Decoded}
 use Rattle.semantics.specs.declared.Decoded.the-variants.{Valid, Invalid}
+use Rattle.semantics.specs.Branches.{by-cond}
 use Rattle.line.specs.Forms.{hexValue, digits, number, hexDigits, hexNumber, decimalDigits, decimalNumber, begins, isRead, isWrite, isWork, isSupply, isReset, stepOfLine}
 
 -- ---- tests
@@ -21,11 +22,6 @@ use Rattle.line.specs.Forms.{hexValue, digits, number, hexDigits, hexNum
 both : (a b : Bool) → (a && b) ≡ true → (a ≡ true) × (b ≡ true)
 both true b h = (refl, h)
 both false b h = absurd (true≢false (sym h))
-
--- what holds of x where the test passes, and of y, holds of the one that the test picks
-picked : (P : Decoded → Type 0) (t : Bool) {x y : Decoded} → (t ≡ true → P x) → P y → P (cond t x y)
-picked P true f g = f refl
-picked P false f g = g
 
 -- ---- the forms
 
@@ -96,12 +92,12 @@ NoStep d = d ≡ Invalid
 pub long-invalid : (xs : List ℕ) → 16 < length xs → stepOfLine xs ≡ Invalid
 unfolding stepOfLine
 long-invalid xs l =
-    picked NoStep (isRead xs) (λ h. absurd (omega (arith, read-parts xs h .0)))
-    (picked NoStep (isWrite xs) (λ h. absurd (omega (arith, write-parts xs h .0)))
-    (picked NoStep (isWork xs) (λ h. absurd (omega (arith, work-parts xs h .1)))
-    (picked NoStep (isSupply xs) (λ h. absurd (omega (arith, supply-length xs h)))
-    (picked NoStep (isReset xs) (λ h. absurd (omega (arith, reset-length xs h)))
-    refl))))
+    by-cond NoStep (isRead xs) _ _ (λ h. absurd (omega (arith, read-parts xs h .0)))
+    (λ _. by-cond NoStep (isWrite xs) _ _ (λ h. absurd (omega (arith, write-parts xs h .0)))
+    (λ _. by-cond NoStep (isWork xs) _ _ (λ h. absurd (omega (arith, work-parts xs h .1)))
+    (λ _. by-cond NoStep (isSupply xs) _ _ (λ h. absurd (omega (arith, supply-length xs h)))
+    (λ _. by-cond NoStep (isReset xs) _ _ (λ h. absurd (omega (arith, reset-length xs h)))
+    (λ _. refl)))))
 
 pub empty-invalid : stepOfLine [] ≡ Invalid
 unfolding stepOfLine isRead isWrite isWork isSupply isReset
@@ -124,9 +120,9 @@ pub bounded : (xs : List ℕ) (x : Step) → stepOfLine xs ≡ Valid x → Bound
 unfolding stepOfLine
 bounded xs x e =
     subst BoundedIf e
-    (picked BoundedIf (isRead xs) (λ h. read-address xs h)
-    (picked BoundedIf (isWrite xs) (λ h. (write-address xs h, write-data xs h))
-    (picked BoundedIf (isWork xs) (λ h. work-count xs h)
-    (picked BoundedIf (isSupply xs) (λ h. tt)
-    (picked BoundedIf (isReset xs) (λ h. tt)
-    tt)))))
+    (by-cond BoundedIf (isRead xs) _ _ (λ h. read-address xs h)
+    (λ _. by-cond BoundedIf (isWrite xs) _ _ (λ h. (write-address xs h, write-data xs h))
+    (λ _. by-cond BoundedIf (isWork xs) _ _ (λ h. work-count xs h)
+    (λ _. by-cond BoundedIf (isSupply xs) _ _ (λ h. tt)
+    (λ _. by-cond BoundedIf (isReset xs) _ _ (λ h. tt)
+    (λ _. tt))))))

@@ -34,10 +34,6 @@ pub advanced-in : (n at k : ℕ) → at ≤ n → advanced n at k ≡ min (at + 
 unfolding advanced
 advanced-in n at k h = omega arith
 
-pub advanced-out : (n at k : ℕ) → n ≤ at → advanced n at k ≡ at
-unfolding advanced
-advanced-out n at k h = omega arith
-
 pub advanced-none : (n at : ℕ) → advanced n at 0 ≡ at
 unfolding advanced
 advanced-none n at = omega arith
@@ -45,11 +41,6 @@ advanced-none n at = omega arith
 pub advanced-add : (n at j k : ℕ) → advanced n (advanced n at j) k ≡ advanced n at (j + k)
 unfolding advanced
 advanced-add n at j k = omega arith
-
--- the place never passes the room's end
-pub advanced-bound : (n at k : ℕ) → at ≤ n → advanced n at k ≤ n
-unfolding advanced
-advanced-bound n at k h = omega arith
 
 -- ---- the bytes of the room
 
@@ -76,9 +67,6 @@ module _ (room : List ℕ) (at : ℕ) (bytes : List ℕ) where
 
   pub placed-before : (i : ℕ) → i < at → getD (placed room at bytes) i 0 ≡ getD room i 0
   placed-before i h = placed-kept i (λ a b. omega arith)
-
-  pub placed-after : (i : ℕ) → at + length bytes ≤ i → getD (placed room at bytes) i 0 ≡ getD room i 0
-  placed-after i h = placed-kept i (λ a b. omega arith)
 
   -- a list that has each byte where it was put, and the room's elsewhere
   placed-is : (ys : List ℕ) → length ys ≡ length room

@@ -11,7 +11,7 @@ use lib.ListN.{length, getD, set, length-set, getD-replicate}
 use lib.Pow.{pow-pos}
 use lib.Seq.{getD-set-same, getD-set-other, set-out}
 use borrow.Author.Tests.{eq-eqb, ne-eqb, lt-ltb, le-ltb, ltb-true}
-use Rattle.protection.specs.Words.{bit, bitAt, withBit, isUnprotected, withUnprotected, count, Least, unprotectedCount, lowestUnprotected, reportOf, spareZero, allProtected}
+use Rattle.protection.specs.Words.{bit, bitAt, withBit, isUnprotected, withUnprotected, Least, unprotectedCount, lowestUnprotected, reportOf, spareZero, allProtected}
 use Rattle.geometry.specs.Laws.{order}
 use Rattle.protection.specs.Digits.{same, bit-lt, bit-none, with-same, with-other, with-lt, with-own, count-same, least-is, least-one, least-same}
 
@@ -21,11 +21,6 @@ use Rattle.protection.specs.Digits.{same, bit-lt, bit-none, with-same, w
 pub no-block : (ws : List ℕ) (b : ℕ) → 259 ≤ b → isUnprotected ws b ≡ false
 unfolding isUnprotected
 no-block ws b h = rw (le-ltb b 259 h)
-
--- where b is no block, nothing changes
-pub with-no-block : (ws : List ℕ) (b : ℕ) (v : Bool) → 259 ≤ b → withUnprotected ws b v ≡ ws
-unfolding withUnprotected
-with-no-block ws b v h = rw (le-ltb b 259 h)
 
 -- the length is kept
 pub with-length : (ws : List ℕ) (b : ℕ) (v : Bool) → length (withUnprotected ws b v) ≡ length ws
@@ -147,22 +142,18 @@ all-spare = refl
 abbrev pub mark : List ℕ → ℕ → ℕ
 mark ws b = cond (isUnprotected ws b) 1 0
 
+-- a digit is 1 or 0
+digit-of : (x : ℕ) → x < 2 → x ≡ cond (eqb x 1) 1 0
+digit-of x l = go (same x 1)
+  where
+    go : (x ≡ 1) ⊎ (x ≢ 1) → x ≡ cond (eqb x 1) 1 0
+    go (inl e) = rw (eq-eqb x 1 e) e
+    go (inr e) = rw (ne-eqb x 1 e) (omega arith)
+
 -- the digit of a block says whether it is unprotected
 pub bit-block : (ws : List ℕ) (b : ℕ) → b < 259 → bitAt ws b ≡ mark ws b
 unfolding isUnprotected bitAt
 bit-block ws b h = rw (lt-ltb b 259 h) (digit-of (bit (getD ws (b / 64) 0) (b % 64)) (bit-lt (getD ws (b / 64) 0) (b % 64)))
-  where
-    digit-of : (x : ℕ) → x < 2 → x ≡ cond (eqb x 1) 1 0
-    digit-of x l = go (same x 1)
-      where
-        go : (x ≡ 1) ⊎ (x ≢ 1) → x ≡ cond (eqb x 1) 1 0
-        go (inl e) = rw (eq-eqb x 1 e) e
-        go (inr e) = rw (ne-eqb x 1 e) (omega arith)
-
--- the count counts the unprotected blocks
-pub count-blocks : (ws : List ℕ) → unprotectedCount ws ≡ count 259 (mark ws)
-unfolding unprotectedCount
-count-blocks ws = count-same 259 (bitAt ws) (mark ws) (bit-block ws)
 
 -- the lowest is the least unprotected block, or 259 where there is none
 pub lowest-least : (ws : List ℕ) → Least 259 (mark ws) (lowestUnprotected ws)
@@ -189,18 +180,11 @@ with-own-block ws b = go (ltb b 259)
     i : ℕ
     i = b / 64
 
-    one : (x : ℕ) → x < 2 → x ≡ cond (eqb x 1) 1 0
-    one x l = pick (same x 1)
-      where
-        pick : (x ≡ 1) ⊎ (x ≢ 1) → x ≡ cond (eqb x 1) 1 0
-        pick (inl e) = rw (eq-eqb x 1 e) e
-        pick (inr e) = rw (ne-eqb x 1 e) (omega arith)
-
     put : (l : List ℕ) (k : ℕ) → set l k (getD l k 0) ≡ l
     put [] k = refl
     put (x ∷ l) zero = refl
     put (x ∷ l) (suc k) = ap (λ (t : List ℕ). x ∷ t) (put l k)
 
     go : (t : Bool) → cond t (set ws i (withBit (getD ws i 0) (b % 64) (cond t (eqb (bit (getD ws i 0) (b % 64)) 1) false))) ws ≡ ws
-    go true = ap (set ws i) (with-own (getD ws i 0) (b % 64) (eqb (bit (getD ws i 0) (b % 64)) 1) (one (bit (getD ws i 0) (b % 64)) (bit-lt (getD ws i 0) (b % 64)))) ∙ put ws i
+    go true = ap (set ws i) (with-own (getD ws i 0) (b % 64) (eqb (bit (getD ws i 0) (b % 64)) 1) (digit-of (bit (getD ws i 0) (b % 64)) (bit-lt (getD ws i 0) (b % 64)))) ∙ put ws i
     go false = refl

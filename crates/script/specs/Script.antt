@@ -14,7 +14,7 @@ use Rattle.semantics.specs.declared.Decoded.{Decoded}
 use Rattle.semantics.specs.declared.Decoded.the-variants.{Valid, Invalid}
 use Rattle.semantics.specs.Steps.{firstRefusal}
 use Rattle.semantics.specs.Demand.{Demand3}
-use Rattle.wear.specs.Counts.{Counts, lent}
+use Rattle.wear.specs.Counts.{Counts}
 use Rattle.wear.specs.Steps.{deviceRefusal, Counted, beside, answerWith, afterWith, freshWith}
 use Rattle.wear.specs.Claim.{CountsStand}
 use Rattle.device.specs.declared.Device.{Device}

@@ -25,7 +25,7 @@ use Rattle.semantics.specs.WellFormed.{wellFormed}
 use Rattle.semantics.specs.Steps.{stepRefusal, stateRefusal, firstRefusal, refusalOf, next, accepted, acceptedArray, stepOf, arrayOf, reportedOf, Machine, after, afterAll, answersOf}
 use Rattle.wear.specs.Counts.{Counts, lent, rowOf, placeIn, countAt, countOf, sharedZero, noCounts, putAt, withCount, oneMore, countsAfter}
 use Rattle.wear.specs.Steps.{formedWith, deviceRefusal, refusalWith, stepWith, arrayWith, countsWith, acceptedCounts, reportedWith, mostWornWith, eraseCountWith, Counted, afterWith, afterAllWith, answersWith}
-use Rattle.wear.specs.Places.{Placed, placed, Shaped, count-with}
+use Rattle.wear.specs.Places.{placed, Shaped, count-with}
 
 -- ---- a step that leaves the array, or the counts, where it is accepted
 

@@ -15,7 +15,6 @@ use borrow.Author.Tests.{eqb-true, eqb-false, lt-ltb, le-ltb, ne-eqb, le-leb, lt
 use Rattle.geometry.specs.declared.Geometry.{Geometry}
 use Rattle.geometry.specs.Blocks.{startOf}
 use Rattle.geometry.specs.Laws.{order}
-use Rattle.semantics.specs.declared.Running.{Running}
 use Rattle.semantics.specs.declared.Running.the-variants as running
 use Rattle.semantics.specs.Tabulate.{tabulate, length-tabulate, getD-tabulate, tabulate-is}
 use Rattle.semantics.specs.Working.{wordAfter, arrayAfter}

@@ -35,7 +35,7 @@ use denote.Plain.{uint-makes}
 use denote.Builtin.{u8, u16, usize}
 use denote.RattleType.{RattleType, owns}
 use denote.Array.{Array}
-use denote.Ref.{RefT, now, MutRef, ptr-vals, mut-tells}
+use denote.Ref.{RefT, MutRef, ptr-vals, mut-tells}
 use borrow.Table.Own.{keptR}
 use denote.Slice.{sliceTy, sliceVal, ShrSlice, MutSlice, Room, slice-vals, shr-slice-tells, mut-slice-tells, shr-slice-copy}
 use denote.Steps.{only, owned, facts, heard, nothing}
