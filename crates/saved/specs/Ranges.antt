@@ -11,8 +11,11 @@ use borrow.Author.Tests.{eq-eqb, ne-eqb, eqb-true, eqb-false, ltb-true, ltb-fals
 use Rattle.geometry.specs.declared.Part.the-variants.{FullBottom, FullTop, BenchBottom, BenchTop}
 use Rattle.geometry.specs.Blocks.{partNumbered}
 use Rattle.semantics.specs.declared.Mode.the-variants.{Array, Status, Signature, Query}
+use Rattle.semantics.specs.State.{activity}
 use Rattle.semantics.specs.Reading.{bitIf}
-use Rattle.saved.specs.Saved.{partNumber, modeNumber, bankNumber, bankNumbered, flagNumbered, half, flagNumbers, joined, bytes, fromByte, listed, flagsIn, controlWord, packed, lane, savedOf, loadedOf, same, isSaved, activityWords, activityOf, bytesBelow, activitySame, controlInRange, inRange}
+use Rattle.semantics.specs.Engine.{and-true-l, and-true-r}
+use Rattle.saved.specs.declared.Four.{Four}
+use Rattle.saved.specs.Saved.{partNumber, modeNumber, bankNumber, bankNumbered, flagNumbered, half, flagNumbers, joined, bytes, fromByte, listed, flagsIn, controlWord, packed, lane, savedOf, loadedOf, same, isSaved, activityWords, activityOf, bytesBelow, holdsActivity, activitySame, resting, atRest, holds, fourAt, setupOf, runningOf, programOf, eraseOf, controlInRange, inRange}
 use Rattle.saved.specs.Laws.{first-all, joined-eq, flags-small, packed-lanes, saved-length}
 
 -- ---- one number: what is saved of what it says is the number itself, where it is in its range
@@ -130,3 +133,31 @@ is-saved-in-range ws = go (eqb (length ws) 25) refl
     go : (t : Bool) → eqb (length ws) 25 ≡ t → isSaved ws ≡ inRange ws
     go true e = subst (λ (l : List ℕ). isSaved l ≡ inRange l) (first-all 25 ws (eqb-true (length ws) 25 e)) (in-range (λ k. getD ws k 0))
     go false e = other e (isSaved ws) refl ∙ short-is ws e
+
+-- ---- at rest
+
+-- two words that hold 0
+zero-at : (ws : List ℕ) (i : ℕ) → holds ws i (0, 0, 0, 0) ≡ true → fourAt ws i ≡ (0, 0, 0, 0)
+zero-at ws i h =
+    let t = eqb (getD ws i 0) 0 in
+    rw (eqb-true (getD ws i 0) 0 (and-true-l t _ h), eqb-true (getD ws (i + 1) 0) 0 (and-true-r t _ h))
+
+rest-holds : (ws : List ℕ) → atRest ws ≡ true → holdsActivity ws resting ≡ true
+unfolding atRest
+rest-holds ws = and-true-r (eqb (length ws) 25) _
+
+pub rest-activity : (ws : List ℕ) → atRest ws ≡ true → activityOf ws ≡ resting
+rest-activity ws h =
+    let none : Four = (0, 0, 0, 0) in
+    let s = rest-holds ws h in
+    let r = and-true-r (holds ws 3 none) _ s in
+    let p = and-true-r (holds ws 5 none) _ r in
+    let e = and-true-r (holds ws 7 none) _ p in
+    let f = zero-at ws 3 (and-true-l (holds ws 3 none) _ s) in
+    let g = zero-at ws 5 (and-true-l (holds ws 5 none) _ r) in
+    let k = zero-at ws 7 (and-true-l (holds ws 7 none) _ p) in
+    λ j. activity (setupOf (f j)) (runningOf (g j)) (programOf (k j)) (eraseOf (zero-at ws 9 e j))
+
+pub rest-same : (ws : List ℕ) → atRest ws ≡ true → activitySame ws ≡ true
+unfolding activitySame
+rest-same ws h = ap (holdsActivity ws) (rest-activity ws h) ∙ rest-holds ws h

@@ -284,13 +284,24 @@ unfoldable pub bytesBelow : ℕ → ℕ → ℕ → Bool
 bytesBelow m zero w = ltb w m
 bytesBelow m (suc n) w = ltb (w % 256) m && bytesBelow m n (w / 256)
 
+-- words 3 to 10 are those that this is saved as
+abbrev pub holdsActivity : List ℕ → Activity → Bool
+holdsActivity ws a =
+    holds ws 3 (setupNumbers (a .setup))
+    && (holds ws 5 (runningNumbers (a .running))
+    && (holds ws 7 (programNumbers (a .program))
+    && holds ws 9 (eraseNumbers (a .erase))))
+
 -- what is under way is compared with what it is saved as
 unfoldable pub activitySame : List ℕ → Bool
-activitySame ws =
-    holds ws 3 (setupNumbers (activityOf ws .setup))
-    && (holds ws 5 (runningNumbers (activityOf ws .running))
-    && (holds ws 7 (programNumbers (activityOf ws .program))
-    && holds ws 9 (eraseNumbers (activityOf ws .erase))))
+activitySame ws = holdsActivity ws (activityOf ws)
+
+-- nothing is pending, runs or is suspended; so 25 words say where words 3 to 10 are 0
+abbrev pub resting : Activity
+resting = activity setup.Nothing running.Idle program.Nothing erase.Nothing
+
+unfoldable pub atRest : List ℕ → Bool
+atRest ws = eqb (length ws) 25 && holdsActivity ws resting
 
 -- the four flags 0 or 1, and so the supply; the configuration register is any 16 bits, of which `wellFormed` judges the reserved ones
 abbrev pub controlInRange : ℕ → Bool

@@ -16,7 +16,7 @@ ghost use lib.ListN.{length, getD};
 ghost use lib.Seq.{sets};
 ghost use Rattle.geometry.specs.Blocks.{partNumbered};
 ghost use Rattle.semantics.specs.Reading.{bitIf};
-ghost use Rattle.saved.specs.Saved.{partNumber, bankNumber, bankNumbered, flagNumbered, half, setupNumbers, plainSetup, loadOf, setupOf, runningNumbers, runningOf, programNumbers, programOf, eraseNumbers, eraseOf, joined, inHalves, fourAt, holds, modesWord, modesIn, bankWords, banksOf, activityWords, controlWord, restWords, packed, bufferWords, bufferIn, savedOf, loadedOf, isSaved, noState, foundOf, putInto, activityOf, flagsIn, protectionIn, bytesBelow, activitySame};
+ghost use Rattle.saved.specs.Saved.{partNumber, bankNumber, bankNumbered, flagNumbered, half, setupNumbers, plainSetup, loadOf, setupOf, runningNumbers, runningOf, programNumbers, programOf, eraseNumbers, eraseOf, joined, inHalves, fourAt, holds, modesWord, modesIn, bankWords, banksOf, activityWords, controlWord, restWords, packed, bufferWords, bufferIn, savedOf, loadedOf, isSaved, noState, foundOf, putInto, activityOf, flagsIn, protectionIn, bytesBelow, holdsActivity, activitySame, resting, atRest};
 ghost use Rattle.saved.specs.Laws.{Fitting};
 
 // The upper half of a word is from here on.
@@ -280,9 +280,49 @@ fn holds(words: &[u64], at: usize, f: Four) -> bool
     (word_at(words, at) == halves(f.0, f.1)) & (word_at(words, at + 1) == halves(f.2, f.3))
 }
 
+// The words of what is under way are those that this is saved as.
+fn holds_activity(words: &[u64], a: Activity) -> bool
+    ensures { λ r. ⌜ r ≡ holdsActivity (now (words .entry)) a ⌝ }
+{
+    let setup = a.setup;
+    let running = a.running;
+    let program = a.program;
+    let erase = a.erase;
+    let s = holds(words, 3, setup_numbers(setup));
+    let r = holds(words, 5, running_numbers(running));
+    let p = holds(words, 7, program_numbers(program));
+    let e = holds(words, 9, erase_numbers(erase));
+    s & (r & (p & e))
+}
+
+// Nothing is pending, runs or is suspended.
+fn resting() -> Activity
+    ensures { λ r. ⌜ r ≡ resting ⌝ }
+{
+    Activity {
+        setup: Setup::Nothing,
+        running: Running::Idle,
+        program: SuspendedProgram::Nothing,
+        erase: SuspendedErase::Nothing,
+    }
+}
+
+// 25 words, and those of what is under way all 0: the common case of a call, so it is tested first.
+fn at_rest(words: &[u64]) -> bool
+    ensures { λ r. ⌜ r ≡ atRest (now (words .entry)) ⌝ }
+{
+    if words.len() != 25 {
+        return false;
+    }
+    holds_activity(words, resting())
+}
+
 fn activity_of(words: &[u64]) -> Activity
     ensures { λ r. ⌜ r ≡ activityOf (now (words .entry)) ⌝ }
 {
+    if at_rest(words) {
+        return resting();
+    }
     Activity {
         setup: setup_of(four_at(words, 3)),
         running: running_of(four_at(words, 5)),
@@ -296,15 +336,10 @@ fn activity_same(words: &[u64], a: Activity) -> bool
     requires { ⌜ a ≡ activityOf (now words) ⌝ }
     ensures { λ r. ⌜ r ≡ activitySame (now (words .entry)) ⌝ }
 {
-    let setup = a.setup;
-    let running = a.running;
-    let program = a.program;
-    let erase = a.erase;
-    let s = holds(words, 3, setup_numbers(setup));
-    let r = holds(words, 5, running_numbers(running));
-    let p = holds(words, 7, program_numbers(program));
-    let e = holds(words, 9, erase_numbers(erase));
-    s & (r & (p & e))
+    if at_rest(words) {
+        return true;
+    }
+    holds_activity(words, a)
 }
 
 // The lowest n bytes, and what is above them, are each below m. No return from the loop, so that the compiler makes a test of one mask of it.

@@ -1,23 +1,23 @@
--- `saved::activity_same` meets its contract, by those of the functions that give the numbers and compare them. Assumes nothing.
+-- `saved::activity_same` meets its contract: by its test, and the contract of `holds_activity`. Assumes nothing.
+use mathlib.Core.Path.{sym, _∙_}
 use borrow.Author.Needs.{needs}
 use Rattle.saved.specs.Saved.{activitySame}
+use Rattle.saved.specs.Ranges.{rest-same}
 use Rattle.saved.proofs.activity_same.Statement.{statement}
 use Rattle.saved.proofs.activity_same.Tie as tie
 
 returns : tie.Need-returns
+returns c = sym (rest-same _ (sym (c .before .at-rest .ensures) ∙ c .if1 .taken))
+
+returns-2 : tie.Need-returns-2
 unfolding activitySame
-returns c = rw (c .before .before .before .before .before .before .holds .ensures, c .before .before .before .before .holds2 .ensures, c .before .before .holds3 .ensures, c .holds4 .ensures, c .before .before .before .before .before .before .before .setup-numbers .ensures, c .before .before .before .before .before .running-numbers .ensures, c .before .before .before .program-numbers .ensures, c .before .erase-numbers .ensures, c .before .before .before .before .before .before .before .before .before .pre)
+returns-2 c = rw (c .holds-activity .ensures, c .before .before .before .before .pre)
 
 pub activity-same-spec : {M : Type 1} → statement M
 activity-same-spec =
     tie.close
     (tie.spec
     (λ c κs. search needs)
+    returns
     (λ c κs. search needs)
-    (λ c κs. search needs)
-    (λ c κs. search needs)
-    (λ c κs. search needs)
-    (λ c κs. search needs)
-    (λ c κs. search needs)
-    (λ c κs. search needs)
-    returns)
+    returns-2)
