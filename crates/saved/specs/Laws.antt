@@ -1,12 +1,12 @@
 -- Laws of the saved words: a state whose numbers fit their types is got back from its words, and words that are no saved state say one that the device refuses.
 -- Assumes nothing.
 use Prim.Native.Nat.{ℕ, zero, suc, _+_, _*_, _/_, _%_, _^_, _<_, _≤_}
-use mathlib.Core.Bool.{Bool, true, false, cond, _&&_}
+use mathlib.Core.Bool.{Bool, true, false, _&&_}
 use mathlib.Core.List.{List, [], _∷_, _++_}
 use mathlib.Core.Path.{_≡_, refl, sym, ap, _∙_, subst}
 use native.Mathlib.Nat.{mod-eq-of-lt, div-eq-of-lt, mod-add-div', add-mul-mod-self-right, add-mul-div-right}
 use native.Mathlib.Omega.{arith}
-use lib.Dec.{eqb, ltb}
+use lib.Dec.{eqb}
 use lib.ListN.{length, getD, take, drop, set, length-drop, replicate}
 use lib.Seq.{drop-cons, getD-drop, sets}
 use borrow.Author.Tests.{eq-eqb, ne-eqb, eqb-true, eqb-false}
@@ -28,33 +28,18 @@ use Rattle.semantics.specs.declared.SuspendedErase.{SuspendedErase}
 use Rattle.semantics.specs.declared.SuspendedErase.the-variants as erase
 use Rattle.semantics.specs.declared.State.{State}
 use Rattle.semantics.specs.State.{activity, flagsOf, emptyBuffer, powerUp}
+use Rattle.semantics.specs.Tabulate.{tabulate, length-tabulate, word-tabulate, tabulate-of, tabulate-is}
 use Rattle.semantics.specs.Reading.{bitIf}
 use Rattle.semantics.specs.WellFormed.{runningAlone, programAlone, eraseAlone, setupFits, runningFits, programFits, suspendedEraseFits, allFit, runningApart, programApart, apart, activityFormed, wellFormed}
 use Rattle.semantics.specs.Register.{isReserved}
 use Rattle.semantics.specs.Refusals.{reserved-unformed}
 use Rattle.saved.specs.declared.Four.{Four}
-use Rattle.saved.specs.Saved.{partNumber, modeNumber, modeNumbered, bankNumber, bankNumbered, flagNumbered, half, setupNumbers, setupOf, runningNumbers, runningOf, programNumbers, programOf, eraseNumbers, eraseOf, flagNumbers, joined, inHalves, ofHalves, bytes, fromByte, listed, first, modesWord, modesIn, bankWords, activityWords, activityOf, flagsIn, controlWord, restOf, packed, lane, packedAt, laneAt, bufferWords, bufferIn, savedOf, loadedOf, same, isSaved, noState, stateOf, putInto}
+use Rattle.saved.specs.Saved.{partNumber, modeNumber, modeNumbered, bankNumber, bankNumbered, flagNumbered, half, setupNumbers, setupOf, runningNumbers, runningOf, programNumbers, programOf, eraseNumbers, eraseOf, flagNumbers, joined, ofHalves, bytes, fromByte, first, modesWord, modesIn, bankWords, activityWords, activityOf, flagsIn, restOf, packed, lane, packedAt, laneAt, bufferWords, bufferIn, savedOf, loadedOf, same, isSaved, noState, stateOf, putInto}
 
 -- ---- lists
 
--- a list of n elements that has f k at each k below n
-listed-is : {A : Type 0} (d : A) (n : ℕ) (f : ℕ → A) (l : List A) → length l ≡ n → ((k : ℕ) → k < n → getD l k d ≡ f k) → l ≡ listed n f
-listed-is d zero f [] h e = refl
-listed-is d zero f (x ∷ l) h e = absurd (omega arith)
-listed-is d (suc n) f [] h e = absurd (omega arith)
-listed-is d (suc n) f (x ∷ l) h e = λ j. e 0 (omega arith) j ∷ listed-is d n (λ k. f (suc k)) l (omega arith) (λ k q. e (suc k) (omega arith)) j
-
-listed-at : {A : Type 0} (d : A) (n : ℕ) (f : ℕ → A) (i : ℕ) → i < n → getD (listed n f) i d ≡ f i
-listed-at d zero f i h = absurd (omega arith)
-listed-at d (suc n) f zero h = refl
-listed-at d (suc n) f (suc i) h = listed-at d n (λ k. f (suc k)) i (omega arith)
-
-listed-same : {A : Type 0} (n : ℕ) (f g : ℕ → A) → ((k : ℕ) → k < n → f k ≡ g k) → listed n f ≡ listed n g
-listed-same zero f g e = refl
-listed-same (suc n) f g e = λ j. e 0 (omega arith) j ∷ listed-same n (λ k. f (suc k)) (λ k. g (suc k)) (λ k q. e (suc k) (omega arith)) j
-
 pub first-all : (n : ℕ) (l : List ℕ) → length l ≡ n → first n l ≡ l
-first-all n l h = sym (listed-is 0 n (λ k. getD l k 0) l h (λ k q. refl))
+first-all n l h = sym (tabulate-is n (λ k. getD l k 0) l h (λ k q. refl))
 
 same-refl : (l : List ℕ) → same l l ≡ true
 unfolding same
@@ -81,17 +66,17 @@ sets-next d (v ∷ vs) l i zero h = let e : i + 0 ≡ i = omega arith in rw e
 sets-next d (v ∷ vs) l i (suc k) h = let e : i + suc k ≡ suc i + k = omega arith in rw e (sets-next d vs (set l i v) (suc i) k (omega arith))
 
 -- the same for a list of f at each number: x is the next
-pub listed-next : {A : Type 0} (d : A) (n : ℕ) (f : ℕ → A) (l now : List A) (i k at next : ℕ) (x : A) → k < n → at ≡ i + k → next ≡ k + 1 → length (listed n f) ≡ n
-    → now ≡ sets l i (take k (listed n f)) → x ≡ f k → set now at x ≡ sets l i (take next (listed n f))
-listed-next d n f l now i k at next x h a b m p q =
-    let e : getD (listed n f) k d ≡ x = listed-at d n f k h ∙ sym q in
+pub tabulate-next : {A : Type 0} (d : A) (n : ℕ) (f : ℕ → A) (l now : List A) (i k at next : ℕ) (x : A) → k < n → at ≡ i + k → next ≡ k + 1
+    → now ≡ sets l i (take k (tabulate n f)) → x ≡ f k → set now at x ≡ sets l i (take next (tabulate n f))
+tabulate-next d n f l now i k at next x h a b p q =
+    let e : getD (tabulate n f) k d ≡ x = word-tabulate n f k d h ∙ sym q in
     let c : next ≡ suc k = omega arith in
-    rw (a, c, p, ← e) (sets-next d (listed n f) l i k (omega arith))
+    rw (a, c, p, ← e) (sets-next d (tabulate n f) l i k (omega (arith, length-tabulate n f)))
 
 -- room for 25 words after the stores of a state's words, group by group
 pub stored : (s : State) (l₀ l₁ l₂ l₃ l₄ : List ℕ) (n : ℕ) → length l₀ ≡ 25 → n ≡ partNumber (s .part) → l₁ ≡ sets (set l₀ 0 n) 1 (bankWords (s .banks)) → l₂ ≡ sets l₁ 3 (activityWords (s .control .activity))
     → l₃ ≡ sets l₂ 11 (restOf s) → l₄ ≡ sets l₃ 17 (bufferWords (s .buffer)) → l₄ ≡ putInto l₀ (savedOf s)
-unfolding savedOf putInto
+unfolding savedOf putInto tabulate
 stored s l₀ l₁ l₂ l₃ l₄ n h p q r t u =
     u ∙ ap (λ (l : List ℕ). sets l 17 (bufferWords (s .buffer))) (t ∙ ap (λ (l : List ℕ). sets l 11 (restOf s)) (r ∙ ap (λ (l : List ℕ). sets l 3 (activityWords (s .control .activity))) q)) ∙ ap (all l₀) p
     ∙ subst (λ (l : List ℕ). all l (partNumber (s .part)) ≡ savedOf s) (first-all 25 l₀ h) refl ∙ rw (eq-eqb (length l₀) 25 h)
@@ -157,9 +142,10 @@ abbrev pub Bytes : List ℕ → Type 0
 Bytes [] = Unit {0}
 Bytes (x ∷ l) = (x < 256) × Bytes l
 
-bytes-listed : (n : ℕ) (f : ℕ → ℕ) → ((k : ℕ) → f k < 256) → Bytes (listed n f)
-bytes-listed zero f h = tt
-bytes-listed (suc n) f h = (h 0, bytes-listed n (λ k. f (suc k)) (λ k. h (suc k)))
+bytes-tabulate : (n : ℕ) (f : ℕ → ℕ) → ((k : ℕ) → f k < 256) → Bytes (tabulate n f)
+unfolding tabulate
+bytes-tabulate zero f h = tt
+bytes-tabulate (suc n) f h = (h 0, bytes-tabulate n (λ k. f (suc k)) (λ k. h (suc k)))
 
 -- n bytes are so small
 pub bytes-small : (n : ℕ) (l : List ℕ) → length l ≤ n → Bytes l → bytes l < 256 ^ n
@@ -190,26 +176,31 @@ module _ (l : List Bank) (i : ℕ) where
   bank k = getD l (i + k) (record { mode = Array })
 
   abbrev pub modeNumbers : List ℕ
-  modeNumbers = listed 8 (λ k. bankNumber (bank k))
+  modeNumbers = tabulate 8 (λ k. bankNumber (bank k))
 
   modes-bytes : Bytes modeNumbers
-  modes-bytes = bytes-listed 8 (λ k. bankNumber (bank k)) (λ k. omega (arith, bank-small (bank k)))
+  modes-bytes = bytes-tabulate 8 (λ k. bankNumber (bank k)) (λ k. omega (arith, bank-small (bank k)))
 
-  modes-back : modesIn (modesWord l i) ≡ listed 8 bank
-  modes-back = listed-same 8 (λ k. bankNumbered (fromByte k (modesWord l i))) bank (λ k q. byte (fromByte k (modesWord l i)) ∙ ap bankNumbered (byte-back modeNumbers modes-bytes k ∙ listed-at 0 8 (λ k. bankNumber (bank k)) k q) ∙ bank-back (bank k))
+  modes-back : modesIn (modesWord l i) ≡ tabulate 8 bank
+  modes-back =
+      tabulate-of (record { mode = Array }) 8 bank (modesIn (modesWord l i)) (length-tabulate 8 (λ k. bankNumbered (fromByte k (modesWord l i))))
+      (λ k q. word-tabulate 8 (λ k. bankNumbered (fromByte k (modesWord l i))) k (record { mode = Array }) q ∙ byte (fromByte k (modesWord l i)) ∙ ap bankNumbered (byte-back modeNumbers modes-bytes k ∙ word-tabulate 8 (λ k. bankNumber (bank k)) k 0 q) ∙ bank-back (bank k))
     where
       byte : (w : ℕ) → bankNumbered w ≡ bankNumbered (w % 256)
       byte w = let e : w % 4 ≡ w % 256 % 4 = omega arith in rw e
 
   -- for the loop from the highest bank down: seven bytes leave room for one more
   pub modes-small : (k : ℕ) → 0 < k → bytes (drop k modeNumbers) < 72057594037927936
-  modes-small k h = bytes-small 7 (drop k modeNumbers) (rw length-drop (omega arith)) (bytes-drop k modeNumbers modes-bytes)
+  modes-small k h = bytes-small 7 (drop k modeNumbers) (rw length-drop (omega (arith, length-tabulate 8 (λ k. bankNumber (bank k))))) (bytes-drop k modeNumbers modes-bytes)
 
   pub modes-next : (k x w : ℕ) → k < 8 → w ≡ bytes (drop (suc k) modeNumbers) → x ≡ bankNumber (bank k) → joined 256 x w ≡ bytes (drop k modeNumbers)
-  modes-next k x w h p q = rw (drop-cons modeNumbers k 0 h) (λ j. joined 256 ((q ∙ sym (listed-at 0 8 (λ k. bankNumber (bank k)) k h)) j) (p j))
+  modes-next k x w h p q =
+      rw (drop-cons modeNumbers k 0 (omega (arith, length-tabulate 8 (λ k. bankNumber (bank k)))))
+      (λ j. joined 256 ((q ∙ sym (word-tabulate 8 (λ k. bankNumber (bank k)) k 0 h)) j) (p j))
 
 banks-back : (l : List Bank) → length l ≡ 16 → modesIn (modesWord l 0) ++ modesIn (modesWord l 8) ≡ l
-banks-back l h = (λ j. modes-back l 0 j ++ modes-back l 8 j) ∙ sym (listed-is (record { mode = Array }) 16 (λ k. getD l k (record { mode = Array })) l h (λ k q. refl))
+unfolding tabulate
+banks-back l h = (λ j. modes-back l 0 j ++ modes-back l 8 j) ∙ sym (tabulate-of (record { mode = Array }) 16 (λ k. getD l k (record { mode = Array })) l h (λ k q. refl))
 
 -- ---- the flags
 
@@ -242,10 +233,11 @@ lanes a b c d h k m = (omega arith, omega arith, omega arith, omega arith)
 pub packed-lanes : (w : ℕ) → packed (lane w 0) (lane w 1) (lane w 2) (lane w 3) ≡ w
 packed-lanes w = omega arith
 
-buffer-back : (bs : List ℕ) → length bs ≡ 32 → ((k : ℕ) → getD bs k 0 < 65536) → listed 32 (laneAt (bufferWords bs)) ≡ bs
+buffer-back : (bs : List ℕ) → length bs ≡ 32 → ((k : ℕ) → getD bs k 0 < 65536) → tabulate 32 (laneAt (bufferWords bs)) ≡ bs
+unfolding tabulate
 buffer-back bs h f = (λ i. four 0 i ++ (four 1 i ++ (four 2 i ++ (four 3 i ++ (four 4 i ++ (four 5 i ++ (four 6 i ++ four 7 i))))))) ∙ first-all 32 bs h
   where
-    four : (j : ℕ) → listed 4 (lane (packedAt bs j)) ≡ getD bs (4 * j) 0 ∷ getD bs (4 * j + 1) 0 ∷ getD bs (4 * j + 2) 0 ∷ getD bs (4 * j + 3) 0 ∷ []
+    four : (j : ℕ) → tabulate 4 (lane (packedAt bs j)) ≡ getD bs (4 * j) 0 ∷ getD bs (4 * j + 1) 0 ∷ getD bs (4 * j + 2) 0 ∷ getD bs (4 * j + 3) 0 ∷ []
     four j =
         let p = lanes (getD bs (4 * j) 0) (getD bs (4 * j + 1) 0) (getD bs (4 * j + 2) 0) (getD bs (4 * j + 3) 0) (f _) (f _) (f _) in
         λ i. p .0 i ∷ p .1 i ∷ p .2 i ∷ p .3 i ∷ []
@@ -263,7 +255,7 @@ taken-more ws bs l j w h q t =
     one k i next e p n {now} g =
         let d : i / 4 ≡ j = omega arith in
         let m : i % 4 ≡ k = omega arith in
-        listed-next 0 32 (laneAt (drop 17 ws)) l now 0 i i next (lane w k) (omega arith) (omega arith) n refl g (rw (d, m, getD-drop) (ap (λ (x : ℕ). lane x k) q))
+        tabulate-next 0 32 (laneAt (drop 17 ws)) l now 0 i i next (lane w k) (omega arith) (omega arith) n g (rw (d, m, getD-drop) (ap (λ (x : ℕ). lane x k) q))
 
 -- ---- what is under way
 
@@ -348,14 +340,14 @@ erase-back (erase.Erase b n) h = ap eraseOf (four-back 1 b n 0 (omega arith) (h 
 -- ---- the whole state
 
 activity-back : (s : State) → Fitting s → activityOf (savedOf s) ≡ s .control .activity
-unfolding savedOf
+unfolding savedOf tabulate
 activity-back s h =
     let a = s .control .activity in
     λ j. activity (setup-back (a .setup) (h .setup) j) (running-back (a .running) (h .running) j) (program-back (a .program) (h .program) j) (erase-back (a .erase) (h .erase) j)
 
 -- a state is got back from its words
 pub loaded-saved : (s : State) → Fitting s → loadedOf (savedOf s) ≡ s
-unfolding savedOf loadedOf
+unfolding savedOf loadedOf tabulate
 loaded-saved s h =
     let k = s .control in
     let b = bitIf (k .supply) 1 in
@@ -390,7 +382,7 @@ saved-back ws h = rw h (sym (same-true ws (savedOf (loadedOf ws)) h))
 
 -- and are 25
 pub saved-length : (ws : List ℕ) → isSaved ws ≡ true → length ws ≡ 25
-unfolding isSaved savedOf
+unfolding isSaved savedOf tabulate
 saved-length ws h = ap length (same-true ws (savedOf (loadedOf ws)) h)
 
 -- words that are none say a state that is not well formed

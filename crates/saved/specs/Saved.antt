@@ -25,9 +25,11 @@ use Rattle.semantics.specs.declared.Control.{Control}
 use Rattle.semantics.specs.declared.Flags.{Flags}
 use Rattle.semantics.specs.declared.State.{State}
 use Rattle.semantics.specs.State.{withProtection, activity, flagsOf, powerUp}
+use Rattle.semantics.specs.Tabulate.{tabulate}
 use Rattle.semantics.specs.Reading.{bitIf}
 use Rattle.saved.specs.declared.Four.{Four}
 use Rattle.saved.specs.declared.Found.{Found}
+use Rattle.saved.specs.declared.Told.{Told}
 
 -- ---- a field as numbers, and back. Of the numbers of an enum the last stands for every other number too
 
@@ -158,21 +160,16 @@ fromByte (suc k) w = fromByte k (w / 256)
 
 -- ---- the 25 words
 
--- the list of f at each number below n
-abbrev pub listed : {A : Type 0} → ℕ → (ℕ → A) → List A
-listed zero f = []
-listed (suc n) f = f 0 ∷ listed n (λ k. f (suc k))
-
 -- the first n words of a list, 0 where it has none
 abbrev pub first : ℕ → List ℕ → List ℕ
-first n l = listed n (λ k. getD l k 0)
+first n l = tabulate n (λ k. getD l k 0)
 
 -- the modes of eight banks from bank i on, a byte each, and the eight banks that a word says
 abbrev pub modesWord : List Bank → ℕ → ℕ
-modesWord l i = bytes (listed 8 (λ k. bankNumber (getD l (i + k) (record { mode = Array }))))
+modesWord l i = bytes (tabulate 8 (λ k. bankNumber (getD l (i + k) (record { mode = Array }))))
 
 abbrev pub modesIn : ℕ → List Bank
-modesIn w = listed 8 (λ k. bankNumbered (fromByte k w))
+modesIn w = tabulate 8 (λ k. bankNumbered (fromByte k w))
 
 -- the words of the banks, and the banks that words say
 abbrev pub bankWords : List Bank → List ℕ
@@ -212,10 +209,10 @@ abbrev pub laneAt : List ℕ → ℕ → ℕ
 laneAt ws i = lane (getD ws (i / 4) 0) (i % 4)
 
 abbrev pub bufferWords : List ℕ → List ℕ
-bufferWords bs = listed 8 (packedAt bs)
+bufferWords bs = tabulate 8 (packedAt bs)
 
 abbrev pub bufferIn : List ℕ → List ℕ
-bufferIn ws = listed 32 (laneAt (drop 17 ws))
+bufferIn ws = tabulate 32 (laneAt (drop 17 ws))
 
 -- word 0 the part; 1 and 2 the modes of banks 0 to 7 and 8 to 15, a byte each, the lowest bank in the lowest byte;
 -- 3 and 4 the set-up; 5 and 6 what runs; 7 and 8 the suspended program; 9 and 10 the suspended erase: the kind in the lower half of the first word, the numbers in
@@ -273,45 +270,50 @@ stateOf ws = cond (isSaved ws) (loadedOf ws) (noState ws)
 abbrev pub foundOf : List ℕ → Found
 foundOf ws = record { saved = isSaved ws; state = stateOf ws }
 
+abbrev pub notFound : List ℕ → Found
+notFound ws = record { saved = false; state = noState ws }
+
 -- room for a saved state stays as it is where it has not 25 words
 unfoldable pub putInto : List ℕ → List ℕ → List ℕ
 putInto room ws = cond (eqb (length room) 25) ws room
 
--- ---- a saved state by the range of each word, but for those of what is under way: `is-saved-in-range` (Ranges) says that it is the same
+-- ---- a saved state by the range of each word, but for those of what is under way, which are compared:
+-- `is-saved-in-range` (Ranges) says that it is the same
 
 -- the lowest n bytes, and what is above them, are each below m
 unfoldable pub bytesBelow : ℕ → ℕ → ℕ → Bool
 bytesBelow m zero w = ltb w m
 bytesBelow m (suc n) w = ltb (w % 256) m && bytesBelow m n (w / 256)
 
--- words 3 to 10 are those that this is saved as
-abbrev pub holdsActivity : List ℕ → Activity → Bool
-holdsActivity ws a =
+-- the words of what is under way are those that this is saved as
+unfoldable pub activitySame : List ℕ → Activity → Bool
+activitySame ws a =
     holds ws 3 (setupNumbers (a .setup))
     && (holds ws 5 (runningNumbers (a .running))
     && (holds ws 7 (programNumbers (a .program))
     && holds ws 9 (eraseNumbers (a .erase))))
 
--- what is under way is compared with what it is saved as
-unfoldable pub activitySame : List ℕ → Bool
-activitySame ws = holdsActivity ws (activityOf ws)
+-- what is under way, with whether its words are so
+abbrev pub toldBy : List ℕ → Told
+toldBy ws = record { same = activitySame ws (activityOf ws); activity = activityOf ws }
 
--- nothing is pending, runs or is suspended; so 25 words say where words 3 to 10 are 0
+-- nothing is pending, runs or is suspended
 abbrev pub resting : Activity
 resting = activity setup.Nothing running.Idle program.Nothing erase.Nothing
-
-unfoldable pub atRest : List ℕ → Bool
-atRest ws = eqb (length ws) 25 && holdsActivity ws resting
 
 -- the four flags 0 or 1, and so the supply; the configuration register is any 16 bits, of which `wellFormed` judges the reserved ones
 abbrev pub controlInRange : ℕ → Bool
 controlInRange w = bytesBelow 2 3 (w % half) && ltb (w / half / 65536) 2
 
--- 25 words; the part below 4, and each mode; what is under way; the flags and the supply; a protection word is any number, and so is one of the buffer
-unfoldable pub inRange : List ℕ → Bool
-inRange ws =
+-- 25 words; the part below 4, and each mode; the flags and the supply; a protection word is any number, and so is
+-- one of the buffer
+unfoldable pub restInRange : List ℕ → Bool
+restInRange ws =
     eqb (length ws) 25
     && (ltb (getD ws 0 0) 4
     && (bytesBelow 4 7 (getD ws 1 0)
     && (bytesBelow 4 7 (getD ws 2 0)
-    && (activitySame ws && controlInRange (getD ws 11 0)))))
+    && controlInRange (getD ws 11 0))))
+
+abbrev pub inRange : List ℕ → Bool
+inRange ws = restInRange ws && activitySame ws (activityOf ws)

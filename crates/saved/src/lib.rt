@@ -16,7 +16,7 @@ ghost use lib.ListN.{length, getD};
 ghost use lib.Seq.{sets};
 ghost use Rattle.geometry.specs.Blocks.{partNumbered};
 ghost use Rattle.semantics.specs.Reading.{bitIf};
-ghost use Rattle.saved.specs.Saved.{partNumber, bankNumber, bankNumbered, flagNumbered, half, setupNumbers, plainSetup, loadOf, setupOf, runningNumbers, runningOf, programNumbers, programOf, eraseNumbers, eraseOf, joined, inHalves, fourAt, holds, modesWord, modesIn, bankWords, banksOf, activityWords, controlWord, restWords, packed, bufferWords, bufferIn, savedOf, loadedOf, isSaved, noState, foundOf, putInto, activityOf, flagsIn, protectionIn, bytesBelow, holdsActivity, activitySame, resting, atRest};
+ghost use Rattle.saved.specs.Saved.{partNumber, bankNumber, bankNumbered, flagNumbered, half, setupNumbers, plainSetup, loadOf, setupOf, runningNumbers, runningOf, programNumbers, programOf, eraseNumbers, eraseOf, joined, inHalves, fourAt, holds, modesWord, modesIn, bankWords, banksOf, activityWords, controlWord, restWords, packed, bufferWords, bufferIn, savedOf, loadedOf, isSaved, noState, foundOf, putInto, activityOf, flagsIn, protectionIn, bytesBelow, activitySame, resting, toldBy, restInRange, notFound};
 ghost use Rattle.saved.specs.Laws.{Fitting};
 
 // The upper half of a word is from here on.
@@ -24,6 +24,12 @@ const HALF: u64 = 4294967296;
 
 // What is pending, runs or is suspended as numbers: its kind, and three numbers, of which one that it does not use is 0.
 struct Four(u32, u32, u32, u32);
+
+// Whether the words of what is under way are those that it is saved as, and what is under way.
+struct Told {
+    same: bool,
+    activity: Activity,
+}
 
 // Whether words are a saved state, and the state of the words.
 pub struct Found {
@@ -280,19 +286,15 @@ fn holds(words: &[u64], at: usize, f: Four) -> bool
     (word_at(words, at) == halves(f.0, f.1)) & (word_at(words, at + 1) == halves(f.2, f.3))
 }
 
-// The words of what is under way are those that this is saved as.
-fn holds_activity(words: &[u64], a: Activity) -> bool
-    ensures { λ r. ⌜ r ≡ holdsActivity (now (words .entry)) a ⌝ }
+fn activity_of(words: &[u64]) -> Activity
+    ensures { λ r. ⌜ r ≡ activityOf (now (words .entry)) ⌝ }
 {
-    let setup = a.setup;
-    let running = a.running;
-    let program = a.program;
-    let erase = a.erase;
-    let s = holds(words, 3, setup_numbers(setup));
-    let r = holds(words, 5, running_numbers(running));
-    let p = holds(words, 7, program_numbers(program));
-    let e = holds(words, 9, erase_numbers(erase));
-    s & (r & (p & e))
+    Activity {
+        setup: setup_of(four_at(words, 3)),
+        running: running_of(four_at(words, 5)),
+        program: program_of(four_at(words, 7)),
+        erase: erase_of(four_at(words, 9)),
+    }
 }
 
 // Nothing is pending, runs or is suspended.
@@ -307,39 +309,52 @@ fn resting() -> Activity
     }
 }
 
-// 25 words, and those of what is under way all 0: the common case of a call, so it is tested first.
+// So the words say.
 fn at_rest(words: &[u64]) -> bool
-    ensures { λ r. ⌜ r ≡ atRest (now (words .entry)) ⌝ }
+    ensures { λ r. ⌜ r ≡ activitySame (now (words .entry)) resting ⌝ }
 {
-    if words.len() != 25 {
+    let s = (word_at(words, 3) == 0) & (word_at(words, 4) == 0);
+    let r = (word_at(words, 5) == 0) & (word_at(words, 6) == 0);
+    let p = (word_at(words, 7) == 0) & (word_at(words, 8) == 0);
+    let e = (word_at(words, 9) == 0) & (word_at(words, 10) == 0);
+    s & (r & (p & e))
+}
+
+// The words of what is under way are those that this is saved as.
+fn activity_same(words: &[u64], a: Activity) -> bool
+    ensures { λ r. ⌜ r ≡ activitySame (now (words .entry)) a ⌝ }
+{
+    let setup = a.setup;
+    let running = a.running;
+    let program = a.program;
+    let erase = a.erase;
+    if !holds(words, 3, setup_numbers(setup)) {
         return false;
     }
-    holds_activity(words, resting())
+    if !holds(words, 5, running_numbers(running)) {
+        return false;
+    }
+    if !holds(words, 7, program_numbers(program)) {
+        return false;
+    }
+    holds(words, 9, erase_numbers(erase))
 }
 
-fn activity_of(words: &[u64]) -> Activity
-    ensures { λ r. ⌜ r ≡ activityOf (now (words .entry)) ⌝ }
+// What is under way, and whether its words are those that it is saved as. At rest, the common case of a call, nothing is decoded or compared.
+fn told_by(words: &[u64]) -> Told
+    ensures { λ r. ⌜ r ≡ toldBy (now (words .entry)) ⌝ }
 {
     if at_rest(words) {
-        return resting();
+        return Told {
+            same: true,
+            activity: resting(),
+        };
     }
-    Activity {
-        setup: setup_of(four_at(words, 3)),
-        running: running_of(four_at(words, 5)),
-        program: program_of(four_at(words, 7)),
-        erase: erase_of(four_at(words, 9)),
+    let a = activity_of(words);
+    Told {
+        same: activity_same(words, a),
+        activity: a,
     }
-}
-
-// Whether the words of what is under way are those that it is saved as.
-fn activity_same(words: &[u64], a: Activity) -> bool
-    requires { ⌜ a ≡ activityOf (now words) ⌝ }
-    ensures { λ r. ⌜ r ≡ activitySame (now (words .entry)) ⌝ }
-{
-    if at_rest(words) {
-        return true;
-    }
-    holds_activity(words, a)
 }
 
 // The lowest n bytes, and what is above them, are each below m. No return from the loop, so that the compiler makes a test of one mask of it.
@@ -357,10 +372,9 @@ fn bytes_below(m: u64, n: usize, w: u64) -> bool
     below & (rest < m)
 }
 
-// Whether the words are what the state that they say is saved as: what is under way is compared, of the rest the range of each word is tested.
-fn is_saved(words: &[u64], a: Activity) -> bool
-    requires { ⌜ a ≡ activityOf (now words) ⌝ }
-    ensures { λ r. ⌜ r ≡ isSaved (now (words .entry)) ⌝ }
+// There are 25 words, and each is in its range, but for those of what is under way.
+fn rest_in_range(words: &[u64]) -> bool
+    ensures { λ r. ⌜ r ≡ restInRange (now (words .entry)) ⌝ }
 {
     if words.len() != 25 {
         return false;
@@ -374,11 +388,19 @@ fn is_saved(words: &[u64], a: Activity) -> bool
     if !bytes_below(4, 7, words[2]) {
         return false;
     }
-    if !activity_same(words, a) {
-        return false;
-    }
     let w = words[11];
     bytes_below(2, 3, w % HALF) & (w / HALF / 65536 < 2)
+}
+
+// Whether the words are what the state that they say is saved as: those of what is under way are compared, of the
+// rest the range is tested.
+pub fn is_saved(words: &[u64]) -> bool
+    ensures { λ r. ⌜ r ≡ isSaved (now (words .entry)) ⌝ }
+{
+    if !rest_in_range(words) {
+        return false;
+    }
+    activity_same(words, activity_of(words))
 }
 
 // ---- the state of words
@@ -454,8 +476,8 @@ fn buffer_of(words: &[u64]) -> [u16; 32]
     buffer
 }
 
-// The state that words say.
-fn load(words: &[u64], a: Activity) -> State
+// The state that words say, with what is under way, that they say.
+fn load_with(words: &[u64], a: Activity) -> State
     requires { ⌜ a ≡ activityOf (now words) ⌝ }
     ensures { λ r. ⌜ r ≡ loadedOf (now (words .entry)) ⌝ }
 {
@@ -474,27 +496,43 @@ fn load(words: &[u64], a: Activity) -> State
     }
 }
 
+pub fn load(words: &[u64]) -> State
+    ensures { λ r. ⌜ r ≡ loadedOf (now (words .entry)) ⌝ }
+{
+    load_with(words, activity_of(words))
+}
+
 // The state for words that are no saved state: the device refuses every step on it.
-fn no_state(words: &[u64]) -> State
+pub fn no_state(words: &[u64]) -> State
     ensures { λ r. ⌜ r ≡ noState (now (words .entry)) ⌝ }
 {
     state::with_protection(state::power_up(part_in(words)), [0, 0, 0, 0, 8])
 }
 
-// Tests the words, once, and gives their state: of a saved state that which was saved. What is under way is read once, for the test and for the state.
-pub fn found_in(words: &[u64]) -> Found
-    ensures { λ r. ⌜ r ≡ foundOf (now (words .entry)) ⌝ }
+fn not_found(words: &[u64]) -> Found
+    ensures { λ r. ⌜ r ≡ notFound (now (words .entry)) ⌝ }
 {
-    let a = activity_of(words);
-    if is_saved(words, a) {
-        return Found {
-            saved: true,
-            state: load(words, a),
-        };
-    }
     Found {
         saved: false,
         state: no_state(words),
+    }
+}
+
+// Tests the words, once, and gives their state: of a saved state that which was saved.
+pub fn found_in(words: &[u64]) -> Found
+    ensures { λ r. ⌜ r ≡ foundOf (now (words .entry)) ⌝ }
+{
+    if !rest_in_range(words) {
+        return not_found(words);
+    }
+    let told = told_by(words);
+    if !told.same {
+        return not_found(words);
+    }
+    let a = told.activity;
+    Found {
+        saved: true,
+        state: load_with(words, a),
     }
 }
 

@@ -5,6 +5,7 @@ use native.Mathlib.Omega.{arith}
 use lib.ListN.{take}
 use lib.Seq.{sets}
 use borrow.Author.Needs.{needs}
+use Rattle.semantics.specs.Tabulate.{tabulate}
 use Rattle.saved.specs.Saved.{bufferIn}
 use Rattle.saved.specs.Laws.{taken-more}
 use Rattle.saved.proofs.buffer_of.Statement.{statement}
@@ -23,6 +24,7 @@ loop-again : tie.Need-loop-again Inv-loop μ-loop
 loop-again c = (search needs, taken-more (c .before .before .before .before .args .words .now) _ _ _ _ (search needs) (c .word-at .ensures) (c .before .before .loop .inv .1))
 
 returns : tie.Need-returns Inv-loop μ-loop
+unfolding tabulate
 returns c = let e : c .before .loop .j ≡ 8 = omega arith in c .before .loop .inv .1 ∙ rw e
 
 pub buffer-of-spec : {M : Type 1} → statement M

@@ -1,20 +1,25 @@
 -- `saved::modes_word` meets its contract. The invariant: the bytes from `i` on are joined. Assumes nothing.
 use Prim.Native.Nat.{_≤_, _+_, _-_, suc}
-use mathlib.Core.Path.{_≡_, refl, _∙_}
+use mathlib.Core.Path.{_≡_, refl}
 use native.Mathlib.Omega.{arith}
 use lib.ListN.{getD, drop}
 use borrow.Author.Needs.{needs}
 use Rattle.semantics.specs.declared.Mode.the-variants.{Array}
-use Rattle.saved.specs.Saved.{bankNumber, bytes, listed}
+use Rattle.semantics.specs.Tabulate.{tabulate}
+use Rattle.saved.specs.Saved.{bankNumber, bytes}
 use Rattle.saved.specs.Laws.{modes-small, modes-next}
 use Rattle.saved.proofs.modes_word.Statement.{statement}
 use Rattle.saved.proofs.modes_word.Tie as tie
 
 abbrev Inv-loop : tie.InvT-loop
-Inv-loop from banks w₀ i₀ w i = (i ≤ 8) × (w ≡ bytes (drop i (listed 8 (λ k. bankNumber (getD banks (from + k) (record { mode = Array }))))))
+Inv-loop from banks w₀ i₀ w i = (i ≤ 8) × (w ≡ bytes (drop i (tabulate 8 (λ k. bankNumber (getD banks (from + k) (record { mode = Array }))))))
 
 abbrev μ-loop : tie.MeasureT-loop
 μ-loop from banks w₀ i₀ w i = i
+
+loop-holds : tie.Need-loop-holds Inv-loop μ-loop
+unfolding tabulate
+loop-holds c = (search needs, refl)
 
 mul-w : tie.Need-mul-w Inv-loop μ-loop
 mul-w c = let v = c .before .before .before .loop .inv .1 in omega (arith, modes-small (c .before .before .before .before .args .t1) (c .before .before .before .before .args .from) (c .before .before .before .loop .i) (search needs))
@@ -37,7 +42,7 @@ modes-word-spec =
     (tie.spec
     Inv-loop
     μ-loop
-    (λ c. (search needs, refl))
+    loop-holds
     (λ c. search needs)
     (λ c. search needs)
     (λ c. search needs)

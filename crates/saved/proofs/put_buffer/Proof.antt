@@ -5,8 +5,9 @@ use native.Mathlib.Omega.{arith}
 use lib.ListN.{length, take, length-set}
 use lib.Seq.{sets}
 use borrow.Author.Needs.{needs}
+use Rattle.semantics.specs.Tabulate.{tabulate}
 use Rattle.saved.specs.Saved.{packedAt, bufferWords}
-use Rattle.saved.specs.Laws.{listed-next}
+use Rattle.saved.specs.Laws.{tabulate-next}
 use Rattle.saved.proofs.put_buffer.Statement.{statement}
 use Rattle.saved.proofs.put_buffer.Tie as tie
 
@@ -24,11 +25,12 @@ loop-again c = (
   search needs,
   (
     simp length-set (search needs),
-    listed-next 0 8 (packedAt (c .before .before .before .before .args .t2)) (c .before .before .before .before .args .words .now) _ 17 _ _ _ _ (search needs) refl refl refl (c .before .before .loop .inv .1 .1) (c .packed .ensures),
+    tabulate-next 0 8 (packedAt (c .before .before .before .before .args .t2)) (c .before .before .before .before .args .words .now) _ 17 _ _ _ _ (search needs) refl refl (c .before .before .loop .inv .1 .1) (c .packed .ensures),
   ),
 )
 
 returns : tie.Need-returns Inv-loop μ-loop
+unfolding tabulate
 returns c = let e : c .before .loop .j ≡ 8 = omega arith in c .before .loop .inv .1 .1 ∙ rw e
 
 pub put-buffer-spec : {M : Type 1} → statement M

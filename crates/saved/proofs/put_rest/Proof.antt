@@ -1,10 +1,12 @@
 -- `saved::put_rest` meets its contract, by that of `control_word`. Assumes nothing.
 use lib.ListN.{length-set}
 use borrow.Author.Needs.{needs}
+use Rattle.semantics.specs.Tabulate.{tabulate}
 use Rattle.saved.proofs.put_rest.Statement.{statement}
 use Rattle.saved.proofs.put_rest.Tie as tie
 
 returns : tie.Need-returns
+unfolding tabulate
 returns c = rw (c .control-word .ensures)
 
 pub put-rest-spec : {M : Type 1} → statement M

@@ -3,6 +3,7 @@ use mathlib.Core.Path.{ap, _∙_}
 use lib.ListN.{length, length-set}
 use borrow.Author.Tests.{ne-eqb}
 use borrow.Author.Needs.{needs}
+use Rattle.semantics.specs.Tabulate.{tabulate}
 use Rattle.saved.specs.Saved.{putInto}
 use Rattle.saved.specs.Laws.{stored}
 use Rattle.saved.proofs.Fits.{fits}
@@ -20,9 +21,11 @@ put-rest-requires : tie.Need-put-rest-requires
 put-rest-requires c κs = ap length (c .before .before .before .put-activity .ensures) ∙ simp length-set (ap length (c .before .before .before .before .before .before .before .put-banks .ensures) ∙ simp length-set (c .before .before .before .before .before .before .before .before .before .before .before .before .before .before .before .if1 .left))
 
 put-buffer-requires : tie.Need-put-buffer-requires
+unfolding tabulate
 put-buffer-requires c κs = ap length (c .before .before .before .put-rest .ensures) ∙ simp length-set (ap length (c .before .before .before .before .before .before .before .put-activity .ensures) ∙ simp length-set (ap length (c .before .before .before .before .before .before .before .before .before .before .before .put-banks .ensures) ∙ simp length-set (c .before .before .before .before .before .before .before .before .before .before .before .before .before .before .before .before .before .before .before .if1 .left)))
 
 same-length : tie.Need-same-length
+unfolding tabulate
 same-length c = ap length (c .before .before .put-buffer .ensures) ∙ simp length-set (ap length (c .before .before .before .before .before .before .put-rest .ensures) ∙ simp length-set (ap length (c .before .before .before .before .before .before .before .before .before .before .put-activity .ensures) ∙ simp length-set (ap length (c .before .before .before .before .before .before .before .before .before .before .before .before .before .before .put-banks .ensures) ∙ simp length-set)))
 
 returns-2 : tie.Need-returns-2

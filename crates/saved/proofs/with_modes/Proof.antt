@@ -6,8 +6,9 @@ use lib.ListN.{take}
 use lib.Seq.{sets}
 use borrow.Author.Needs.{needs}
 use Rattle.semantics.specs.declared.Mode.the-variants.{Array}
+use Rattle.semantics.specs.Tabulate.{tabulate}
 use Rattle.saved.specs.Saved.{bankNumbered, fromByte, modesIn}
-use Rattle.saved.specs.Laws.{listed-next, from-next}
+use Rattle.saved.specs.Laws.{tabulate-next, from-next}
 use Rattle.saved.proofs.with_modes.Statement.{statement}
 use Rattle.saved.proofs.with_modes.Tie as tie
 
@@ -28,12 +29,13 @@ loop-again c =
     let e : i + 1 ≡ suc i = omega arith in (
       search needs,
       (
-        listed-next (record { mode = Array }) 8 (λ k. bankNumbered (fromByte k w)) _ _ _ i _ _ _ (search needs) refl refl refl (v .0) (c .bank-numbered .ensures ∙ ap bankNumbered (v .1)),
+        tabulate-next (record { mode = Array }) 8 (λ k. bankNumbered (fromByte k w)) _ _ _ i _ _ _ (search needs) refl refl (v .0) (c .bank-numbered .ensures ∙ ap bankNumbered (v .1)),
         rw e (ap (λ (x : ℕ). x / 256) (v .1) ∙ sym (from-next i w)),
       ),
     )
 
 returns : tie.Need-returns Inv-loop μ-loop
+unfolding tabulate
 returns c = let e : c .before .loop .i ≡ 8 = omega arith in c .before .loop .inv .1 .0 ∙ rw e
 
 pub with-modes-spec : {M : Type 1} → statement M
