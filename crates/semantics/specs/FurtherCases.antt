@@ -14,7 +14,6 @@ use Rattle.semantics.specs.Writing.{commandOf, resume, accepts, setUp, c
 use Rattle.semantics.specs.Working.{unitsLeft, unitsDone, runningAfter, wordAfter, arrayAfter, bufferAfter, workedOn, worked, workedArray}
 use Rattle.semantics.specs.Steps.{locationRefusal, addressRefusal, countRefusal, stepRefusal, stateRefusal, firstRefusal, refusalOf, switchedTo, accepted, acceptedArray, stepOf, arrayOf, reportedOf}
 use Rattle.semantics.specs.Cases.{every}
-use Rattle.semantics.specs.KnownLength.{known}
 use Rattle.semantics.specs.ReadingCases.{readingCases}
 use Rattle.semantics.specs.WritingCases.{writingCases}
 use Rattle.semantics.specs.OperationCases.{operationCases}
@@ -26,7 +25,7 @@ use Rattle.semantics.specs.SupplyCases.{supplyCases}
 
 pub further-hold : T (every readingCases) × T (every writingCases) × T (every operationCases) × T (every refusalCases) × T (every bufferCases) × T (every statusCases) × T (every registerCases)
 unfolding mirror blockFrom blockOf bankOf sizeOf startFrom startOf bankStart blockOffset bankOffset bankOfBlock lookupOf bit bitAt isUnprotected withUnprotected spareZero allProtected count least unprotectedCount lowestUnprotected reportOf emptyBuffer powerUp runningAlone programAlone eraseAlone eraseFits wordsFit bufferFits setupFits runningFits programFits suspendedEraseFits allFit runningApart programApart apart activityFormed setupPlaces runningPlaces programPlaces placesUsed zeroFrom reservedZero runsSupplied wellFormed runsIn statusWord signatureWord queryWord shown showsBy readIn readWord commandOf endFlags ended endedIfUnsupplied resume accepts setUp clearStatus firstCycle programRuns eraseCycle lockCommandOf withoutReserved lockCycle settle loads countRight firstRight laterRight confirmRight confirmCycle wordsCycle cycle keptIf firstLoaded wordsLoaded heldAfter loaded writtenAt written unitsLeft unitsDone runningAfter wordAfter tabulate arrayAfter bufferAfter workedOn worked workedArray locationRefusal addressRefusal countRefusal stepRefusal stateRefusal firstRefusal refusalOf switched switchedTo accepted acceptedArray stepOf arrayOf reportedOf
-further-hold = (known readingCases tt, known writingCases tt, known operationCases tt, tt, known bufferCases tt, known statusCases tt, known registerCases tt)
+further-hold = (tt, tt, tt, tt, tt, tt, tt)
 
 -- those of the supply apart, for the number of steps that the checker gives one statement
 pub supply-hold : T (every supplyCases)

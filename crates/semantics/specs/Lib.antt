@@ -25,7 +25,6 @@ pub mod StatusCases
 pub mod RegisterCases
 pub mod SupplyCases
 pub mod SupplyStates
-pub mod KnownLength
 pub mod FurtherCases
 pub mod AnswerCases
 pub mod Encoding
