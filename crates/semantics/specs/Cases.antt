@@ -30,36 +30,43 @@ infixl 20 _⟶_
 pub data Exchange : Type 0 where
   _⟶_ : Step → Answer → Exchange
 
+-- an array, as so many words w
+pub data Words : Type 0 where
+  words : ℕ → ℕ → Words
+
+abbrev pub arrayIn : Words → List ℕ
+arrayIn (words n w) = replicate n w
+
 -- an address of a part, by its number, lies in a block and a bank; or: from power-up, on an array, each step answers so; or: from a state, which need not be one
 -- that steps lead to; or: after such steps from power-up, so many blocks are reported unprotected, and this as the lowest; or: the report on a state says so, or is refused
 pub data Case : Type 0 where
   lies : ℕ → ℕ → ℕ → ℕ → Case
-  plays : Part → List ℕ → List Exchange → Case
-  starts : State → List ℕ → List Exchange → Case
-  reports : Part → List ℕ → List Exchange → ℕ → ℕ → Case
+  plays : Part → Words → List Exchange → Case
+  starts : State → Words → List Exchange → Case
+  reports : Part → Words → List Exchange → ℕ → ℕ → Case
   counted : State → ℕ → ℕ → Case
   unreported : State → ℕ → Case
 
 -- answers apart by their kind and number
-abbrev code : Answer → ℕ
+abbrev pub code : Answer → ℕ
 code (Word w) = 4 * w
 code (Units n) = 4 * n + 1
 code Done = 2
 code (Refused n) = 4 * n + 3
 
 -- each step answers so, and what the last one leaves passes a test
-abbrev playsOut : Machine → List Exchange → (State → Bool) → Bool
+abbrev pub playsOut : Machine → List Exchange → (State → Bool) → Bool
 playsOut m [] f = f (m .state)
 playsOut m ((x ⟶ a) ∷ l) f = eqb (code (stepOf (m .state) (m .array) x .answer)) (code a) && playsOut (after m x) l f
 
-abbrev reported : ℕ → ℕ → ℕ → State → Bool
+abbrev pub reported : ℕ → ℕ → ℕ → State → Bool
 reported r n b s = eqb (reportedOf s .refusal) r && (eqb (reportedOf s .count) n && eqb (reportedOf s .lowest) b)
 
 abbrev pub holds : Case → Bool
 holds (lies p a b k) = eqb (lookupOf p a .refusal) 0 && (eqb (lookupOf p a .block) b && eqb (lookupOf p a .bank) k)
-holds (plays p xs l) = playsOut (fresh p xs) l (λ s. true)
-holds (starts s xs l) = playsOut (record { state = s; array = xs }) l (λ s. true)
-holds (reports p xs l n b) = playsOut (fresh p xs) l (reported 0 n b)
+holds (plays p m l) = playsOut (fresh p (arrayIn m)) l (λ s. true)
+holds (starts s m l) = playsOut (record { state = s; array = arrayIn m }) l (λ s. true)
+holds (reports p m l n b) = playsOut (fresh p (arrayIn m)) l (reported 0 n b)
 holds (counted s n b) = reported 0 n b s
 holds (unreported s r) = reported r 0 0 s
 
@@ -111,8 +118,8 @@ abbrev pub prepared : ℕ → List Exchange
 prepared a = (Supply true ⟶ Done) ∷ (Write a 0x60 ⟶ Done) ∷ (Write a 0xD0 ⟶ Done) ∷ []
 
 -- an array of a bench part that has the word w everywhere
-abbrev pub bench : ℕ → List ℕ
-bench w = replicate 16384 w
+abbrev pub bench : ℕ → Words
+bench w = words 16384 w
 
 -- an exchange at the lowest address of each of n banks of the bench bottom part, from address a on
 abbrev pub inBanks : ℕ → ℕ → (ℕ → Exchange) → List Exchange

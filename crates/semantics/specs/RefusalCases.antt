@@ -19,7 +19,7 @@ use Rattle.semantics.specs.declared.SuspendedProgram.the-variants as sus
 use Rattle.semantics.specs.declared.SuspendedErase.{SuspendedErase}
 use Rattle.semantics.specs.declared.SuspendedErase.the-variants as suspended-erase
 use Rattle.semantics.specs.State.{powerUp, activity, runs, withActivity, withProtection, withSupply}
-use Rattle.semantics.specs.Cases.{_⟶_, Exchange, Case, plays, starts, unreported, write, cycles, shows, works, unprotect, program, erase, prepared, bench}
+use Rattle.semantics.specs.Cases.{_⟶_, Exchange, words, Case, plays, starts, unreported, write, cycles, shows, works, unprotect, program, erase, prepared, bench}
 
 -- ---- states that differ from power-up in what is under way, with supply on where something runs, or in the last of the protection words
 
@@ -64,11 +64,11 @@ refusalCases =
     (prepared 0x40 ++ program 0x41 0x1234 ++ shows 0x41 0x0000 ++ works 5 1 ++ shows 0x41 0x0080 ++ write 0x0 0xFF ++ shows 0x41 0x1234 ++ shows 0x4041 0x1234
     ++ (Read 0x1000000 ⟶ Refused 3) ∷ (Work 99999 ⟶ Refused 4) ∷ [])
     -- on an array of another length every step is refused 1, whatever else is wrong with it
-    ∷ plays BenchBottom (replicate 3 0) (all 1)
-    ∷ plays BenchBottom [] (all 1)
-    ∷ plays BenchTop (replicate 16383 0) ((Reset ⟶ Refused 1) ∷ [])
-    ∷ plays BenchTop (replicate 16385 0) ((Reset ⟶ Refused 1) ∷ [])
-    ∷ starts (programRuns 0x4000) (replicate 3 0) (all 1)
+    ∷ plays BenchBottom (words 3 0) (all 1)
+    ∷ plays BenchBottom (words 0 0) (all 1)
+    ∷ plays BenchTop (words 16383 0) ((Reset ⟶ Refused 1) ∷ [])
+    ∷ plays BenchTop (words 16385 0) ((Reset ⟶ Refused 1) ∷ [])
+    ∷ starts (programRuns 0x4000) (words 3 0) (all 1)
     -- a state that is not well formed: every step, whatever its own numbers, and the report
     ∷ starts (programRuns 0x4000) (bench 0) (all 2)
     ∷ unreported (programRuns 0x4000) 2

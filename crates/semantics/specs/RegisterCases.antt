@@ -22,7 +22,7 @@ use Rattle.semantics.specs.declared.SuspendedErase.the-variants as suspe
 use Rattle.semantics.specs.State.{powerUp, withControl, withProtection, withBuffer, withFlags, withSupply, setConfiguration, flagsOf}
 use Rattle.semantics.specs.Writing.{written}
 use Rattle.semantics.specs.Steps.{stepOf}
-use Rattle.semantics.specs.Cases.{_⟶_, Exchange, Case, plays, starts, reports, counted, unreported, write, cycles, shows, works, supply, reset, unprotect, protect, program, erase, prepared, bench}
+use Rattle.semantics.specs.Cases.{_⟶_, Exchange, words, Case, plays, starts, reports, counted, unreported, write, cycles, shows, works, supply, reset, unprotect, protect, program, erase, prepared, bench}
 use Rattle.semantics.specs.RefusalCases.{underWay, bad, all}
 
 -- the register shows w, in bank 0
@@ -47,7 +47,7 @@ allowed w = starts (registered w) (bench 0) (has w)
 
 -- one that is not: every step is refused 2, and on an array of another length 1, and the report is refused 2
 abbrev refused : ℕ → List Case
-refused w = starts (registered w) (bench 0) (all 2) ∷ starts (registered w) (replicate 3 0) (all 1) ∷ unreported (registered w) 2 ∷ []
+refused w = starts (registered w) (bench 0) (all 2) ∷ starts (registered w) (words 3 0) (all 1) ∷ unreported (registered w) 2 ∷ []
 
 -- what is under way, on the bench bottom part with register w
 abbrev busy : Setup → Running → SuspendedProgram → SuspendedErase → ℕ → State
@@ -80,7 +80,7 @@ abbrev back1 : State → State
 back1 s = stepOf s (replicate 3 0) Reset .state
 
 abbrev back : State → State
-back s = stepOf s (bench 0) Reset .state
+back s = stepOf s (replicate 16384 0) Reset .state
 
 -- power-up with register 4000h and every bank in one mode
 abbrev inMode : Mode → State
@@ -156,7 +156,7 @@ registerCases =
     ∷ resets (supply true) ∷ resets (write 0x40 0x60) ∷ resets (prepared 0x40 ++ erase 0x40) ∷ resets programPaused ∷ resets erasePaused ∷ resets (erase 0x40)
     -- the default of the full parts is the same, and is well formed there
     ∷ starts (onBench (powerUp FullBottom)) (bench 0) (has 0xBFCF) ∷ starts (onBench (powerUp FullTop)) (bench 0) (has 0xBFCF)
-    ∷ reports FullBottom [] [] 0 259 ∷ reports FullTop [] [] 0 259
+    ∷ reports FullBottom (words 0 0) [] 0 259 ∷ reports FullTop (words 0 0) [] 0 259
     -- and so is what 03h stores
     ∷ starts (onBench (configures FullBottom 0xFF5432)) (bench 0) (has 0x1402) ∷ starts (onBench (configures FullTop 0xFF5432)) (bench 0) (has 0x1402)
     -- a state with a reserved bit set is not well formed, whatever the other bits are, and whatever is under way

@@ -20,7 +20,7 @@ use Rattle.semantics.specs.State.{withBuffer, withSupply}
 use Rattle.semantics.specs.Supply.{ended}
 use Rattle.semantics.specs.Writing.{resume, cycle}
 use Rattle.semantics.specs.Steps.{switchedTo, accepted}
-use Rattle.semantics.specs.Cases.{Exchange, Case, plays, starts, reports, counted, unreported, write, cycles, shows, works, supply, reset, unprotect, program, erase, reads, prepared, bench}
+use Rattle.semantics.specs.Cases.{Exchange, words, Case, plays, starts, reports, counted, unreported, write, cycles, shows, works, supply, reset, unprotect, program, erase, reads, prepared, bench}
 use Rattle.semantics.specs.RefusalCases.{underWay, bad, good, all}
 
 -- ---- exchanges
@@ -85,7 +85,7 @@ three = suspended-erase.Erase 4 3
 
 -- a state that is not well formed: every step is refused 2, and on an array of another length 1, and the report is refused 2
 abbrev refused : State → List Case
-refused s = starts s (bench 0) (all 2) ∷ starts s (replicate 3 0) (all 1) ∷ unreported s 2 ∷ []
+refused s = starts s (bench 0) (all 2) ∷ starts s (words 3 0) (all 1) ∷ unreported s 2 ∷ []
 
 abbrev pub supplyCases : List Case
 supplyCases =
