@@ -1,5 +1,5 @@
--- Lines and their steps, and of each place of a line of each form the bytes that may stand there, each as one table under one statement: the checker computes each through the definitions. A wrong entry
--- is refused.
+-- Lines and their steps, and of each place of a line of each form the bytes that may stand there, each as one table
+-- under one statement: the checker computes each through the definitions. A wrong entry is refused.
 -- Assumes nothing.
 use Prim.Native.Nat.{ℕ}
 use Prim.Native.Char.{code}
@@ -139,7 +139,8 @@ examples-hold = refl
 
 -- ---- places
 
--- a line of a form, a place of it, and those of the 256 bytes that may stand there instead, from the lowest up, so that it is still of a form
+-- a line of a form, a place of it, and those of the 256 bytes that may stand there instead, from the lowest up, so
+-- that it is still of a form
 pub data Place : Type 0 where
   place : String → ℕ → String → Place
 
@@ -164,7 +165,8 @@ places =
     ∷ place "W 000041 1234" 2 hexes ∷ place "W 000041 1234" 3 hexes ∷ place "W 000041 1234" 4 hexes ∷ place "W 000041 1234" 5 hexes ∷ place "W 000041 1234" 6 hexes ∷ place "W 000041 1234" 7 hexes
     ∷ place "W 000041 1234" 8 " "
     ∷ place "W 000041 1234" 9 hexes ∷ place "W 000041 1234" 10 hexes ∷ place "W 000041 1234" 11 hexes ∷ place "W 000041 1234" 12 hexes
-    -- `K` and 1 to 5 decimal digits without leading zero, which one digit alone may be. With one digit it is as long as `V 0` and `V 1`
+    -- `K` and 1 to 5 decimal digits without leading zero, which one digit alone may be. With one digit it is as long
+    -- as `V 0` and `V 1`
     ∷ place "K 5" 0 "K" ∷ place "K 1" 0 "KV" ∷ place "K 5" 1 " " ∷ place "K 5" 2 "0123456789"
     ∷ place "K 99" 0 "K" ∷ place "K 99" 1 " " ∷ place "K 99" 2 "123456789" ∷ place "K 99" 3 "0123456789"
     ∷ place "K 99999" 0 "K" ∷ place "K 99999" 1 " " ∷ place "K 99999" 2 "123456789" ∷ place "K 99999" 3 "0123456789" ∷ place "K 99999" 4 "0123456789" ∷ place "K 99999" 5 "0123456789"

@@ -1,14 +1,13 @@
--- What a C program is told, at numbers that are written out, computed: the start of a block of each part, of a number that is no block, and of a number that is no part; the numbers that hold several fields,
--- which differ, so that no two can be exchanged; and when a device powers up.
+-- What a C program is told, at numbers that are written out, computed: the start of a block of each part, of a number
+-- that is no block, and of a number that is no part; the numbers that hold several fields, which differ, so that no
+-- two can be exchanged; and when a device powers up.
 -- Assumes nothing.
 use Prim.Native.Nat.{ℕ, _*_}
-use mathlib.Core.Bool.{Bool, true, false, not, _&&_}
+use mathlib.Core.Bool.{Bool, true, not, _&&_}
 use mathlib.Core.List.{List, [], _∷_}
 use lib.Dec.{T, eqb}
 use lib.ListN.{length, replicate}
 use Rattle.geometry.specs.Blocks.{sizeOf, startFrom, startOf}
-use Rattle.semantics.specs.declared.Reported.{Reported}
-use Rattle.wear.specs.declared.Worn.{Worn}
 use Rattle.m58.specs.Calls.{startCode, powersUp, poweredUp, reportCode, wornCode, countCode, hexCode, hexVerdict, hexArray, hexWritten, hexRoom}
 
 -- a part's number, a block's, and the number that is told
@@ -32,8 +31,8 @@ cases-hold = tt
 
 -- ---- the numbers that hold several fields
 
--- a refusal, how many blocks are unprotected and the lowest; a refusal, the most worn block and its count, told whole and as the count of one that is asked for; a refusal of Intel HEX and its line or length: and the
--- number
+-- a refusal, how many blocks are unprotected and the lowest; a refusal, the most worn block and its count, told whole
+-- and as the count of one that is asked for; a refusal of Intel HEX and its line or length: and the number
 pub data Code : Type 0 where
   reported : ℕ → ℕ → ℕ → ℕ → Code
   worn : ℕ → ℕ → ℕ → ℕ → Code

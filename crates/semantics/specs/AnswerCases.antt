@@ -1,4 +1,5 @@
--- The refusal number and the value of each of the four answers, computed. Document 01, "Refusal card": "A refusal gives its number beside the answer 0"; and beside an answer that is no refusal the number is 0.
+-- The refusal number and the value of each of the four answers, computed. Document 01, "Refusal card": "A refusal
+-- gives its number beside the answer 0"; and beside an answer that is no refusal the number is 0.
 -- Assumes nothing.
 use Prim.Native.Nat.{ℕ}
 use mathlib.Core.Bool.{Bool, true, _&&_}

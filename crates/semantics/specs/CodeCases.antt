@@ -1,11 +1,11 @@
--- Every code as a command of the device: document 01, "Write, address, data.", and document 02, item 1. One cycle is computed over what it sees at its place, with no array and no other bank or block.
--- Bench bottom: 80h is the lowest location of block 5.
+-- Every code as a command of the device: document 01, "Write, address, data.", and document 02, item 1. One cycle is
+-- computed over what it sees at its place, with no array and no other bank or block. Bench bottom: 80h is the lowest
+-- location of block 5.
 -- Assumes nothing.
 use Prim.Native.Nat.{ℕ, _+_, _*_}
 use mathlib.Core.Bool.{Bool, true, false, not, _&&_}
 use mathlib.Core.List.{List, [], _∷_}
 use lib.Dec.{T, eqb}
-use lib.ListN.{getD, replicate}
 use Rattle.geometry.specs.declared.Part.the-variants.{BenchBottom}
 use Rattle.geometry.specs.Blocks.{geometryOf, mirror, blockFrom, blockOf, sizeOf, startFrom, startOf}
 use Rattle.semantics.specs.declared.Mode.{Mode}
@@ -20,7 +20,7 @@ use Rattle.semantics.specs.declared.SuspendedErase.the-variants as suspe
 use Rattle.semantics.specs.declared.Flags.{Flags}
 use Rattle.semantics.specs.declared.Place.{Place}
 use Rattle.semantics.specs.declared.View.{View}
-use Rattle.semantics.specs.State.{activity, flagsOf, noFlags, runs, eraseSuspended}
+use Rattle.semantics.specs.State.{activity, flagsOf, noFlags}
 use Rattle.semantics.specs.Register.{withoutReserved}
 use Rattle.semantics.specs.Supply.{endFlags, ended, endedIfUnsupplied}
 use Rattle.semantics.specs.Writing.{commandOf, resume, accepts, setUp, clearStatus, firstCycle, programRuns, eraseCycle, lockCommandOf, lockCycle, settle, loads, countRight, firstRight, laterRight, confirmRight, confirmCycle, wordsCycle, cycle}
@@ -30,7 +30,8 @@ use Rattle.semantics.specs.Exactly.{exactly}
 abbrev at80 : Place
 at80 = record { address = 0x80; location = 0x80; bank = 0; block = 5 }
 
--- the view there: with supply on, such flags, the block unprotected or not, a set-up, and what runs or is suspended; signature mode, and a register of 1204h
+-- the view there: with supply on, such flags, the block unprotected or not, a set-up, and what runs or is suspended;
+-- signature mode, and a register of 1204h
 abbrev seen : Flags → Bool → Setup → Running → SuspendedErase → View
 seen f o s r e = record { mode = Signature; unprotected = o; control = record { activity = activity s r suspended-program.Nothing e; flags = f; configuration = 0x1204; supply = true } }
 
@@ -90,7 +91,8 @@ loaded = setup.BufferWords 0x80 1 0
 
 abbrev pub codeCases : List Bool
 codeCases =
-    -- no set-up: 10h and 40h are of a program, 20h of an erase, 60h of a lock command and E8h of a load, whatever the upper byte
+    -- no set-up: 10h and 40h are of a program, 20h of an erase, 60h of a lock command and E8h of a load, whatever the
+    -- upper byte
     exactly (λ c. pends 1 (after (idle false setup.Nothing) c)) (0x10 ∷ 0x40 ∷ [])
     ∷ exactly (λ c. pends 2 (after (idle false setup.Nothing) c)) (0x20 ∷ [])
     ∷ exactly (λ c. pends 3 (after (idle false setup.Nothing) c)) (0x60 ∷ [])
@@ -107,7 +109,8 @@ codeCases =
     -- B0h suspends an erase, and D0h resumes it
     ∷ exactly (λ c. works 0 (after (seen noFlags true setup.Nothing (running.Erase 4 3) suspended-erase.Nothing) c)) (0xB0 ∷ [])
     ∷ exactly (λ c. works 2 (after (seen noFlags true setup.Nothing running.Idle (suspended-erase.Erase 4 3)) c)) (0xD0 ∷ [])
-    -- after 60h: 01h alone protects, D0h alone unprotects, 03h alone sets the register, to 0080h, and every other code is wrong
+    -- after 60h: 01h alone protects, D0h alone unprotects, 03h alone sets the register, to 0080h, and every other
+    -- code is wrong
     ∷ exactly (λ c. not (after (idle true setup.Lock) c .unprotected)) (0x01 ∷ [])
     ∷ exactly (λ c. after (idle false setup.Lock) c .unprotected) (0xD0 ∷ [])
     ∷ exactly (λ c. eqb (after (idle true setup.Lock) c .control .configuration) 0x0080) (0x03 ∷ [])

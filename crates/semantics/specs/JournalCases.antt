@@ -49,13 +49,13 @@ words = 0xAAAA ∷ 0xBBBB ∷ []
 abbrev pub pause : List Step
 pause = Write 0x0 0xB0 ∷ []
 
-abbrev pub resume : List Step
+abbrev resume : List Step
 resume = Write 0x0 0xD0 ∷ []
 
-abbrev pub on : List Step
+abbrev on : List Step
 on = Supply true ∷ []
 
-abbrev pub off : List Step
+abbrev off : List Step
 off = Supply false ∷ []
 
 abbrev pub work : ℕ → List Step

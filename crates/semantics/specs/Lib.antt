@@ -27,7 +27,7 @@ pub mod StatusCases
 pub mod RegisterCases
 pub mod SupplyCases
 pub mod SupplyStates
-pub mod KnownLength
+pub mod WordByWord
 pub mod FurtherCases
 pub mod AnswerCases
 pub mod Encoding

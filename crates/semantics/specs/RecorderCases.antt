@@ -1,6 +1,7 @@
--- What the recorder takes and what it leaves: document 01, "The journal", and document 02, item 1: the limits of addresses and counts, every code as a command, the cycles of a load, and what a journal makes
--- of a word. JournalCases has the phases of an entry. The checker computes each, with no device and no array in it.
--- Bench bottom: block 4 has the locations 40h to 7Fh, block 5 80h to BFh, and block 6 C0h to FFh.
+-- What the recorder takes and what it leaves: document 01, "The journal", and document 02, item 1: the limits of
+-- addresses and counts, every code as a command, the cycles of a load, and what a journal makes of a word.
+-- JournalCases has the phases of an entry. The checker computes each, with no device and no array in it. Bench
+-- bottom: block 4 has the locations 40h to 7Fh, block 5 80h to BFh, and block 6 C0h to FFh.
 -- Assumes nothing.
 use Prim.Native.Nat.{ℕ}
 use mathlib.Core.Bool.{Bool, true, false, _&&_}
@@ -11,11 +12,11 @@ use Rattle.geometry.specs.declared.Part.{Part}
 use Rattle.geometry.specs.declared.Part.the-variants.{BenchBottom, BenchTop}
 use Rattle.geometry.specs.Blocks.{geometryOf, mirror, blockFrom, blockOf, sizeOf, startFrom, startOf}
 use Rattle.semantics.specs.declared.Step.{Step}
-use Rattle.semantics.specs.declared.Step.the-variants.{Read, Write, Work, Supply, Reset}
+use Rattle.semantics.specs.declared.Step.the-variants.{Read, Write}
 use Rattle.semantics.specs.Exactly.{exactly}
 use Rattle.semantics.specs.Entries.{Entry, entry, running, suspended, finished, broken-off}
 use Rattle.semantics.specs.Recorder.{Operation, program, erase, buffer, applied, journalOf}
-use Rattle.semantics.specs.JournalCases.{Case, _⟶_, drawn, expected, cycles, ready, erases, programs, pause, resume, on, off, work}
+use Rattle.semantics.specs.JournalCases.{Case, _⟶_, drawn, expected, cycles, ready, erases, programs, pause, work}
 
 -- a load at 80h of words that its writes name: E8h, the count, the writes, and D0h
 abbrev load : ℕ → List Step → List Step
@@ -32,7 +33,8 @@ recorders =
     ∷ (ready ++ erases ++ work 99999 ++ work 10 ++ work 65536 ⟶ entry (erase 4) 10 running ∷ [])
     ∷ (ready ++ programs ++ work 65536 ⟶ entry (program 0x80 0x1234) 0 running ∷ [])
     ∷ (ready ++ erases ++ work 65535 ⟶ entry (erase 4) 64 finished ∷ [])
-    -- "An address of 16,777,216 or more .. nothing": neither a set-up, nor a second cycle, nor a command; the address below is one
+    -- "An address of 16,777,216 or more .. nothing": neither a set-up, nor a second cycle, nor a command; the address
+    -- below is one
     ∷ (ready ++ Write 0x1000080 0x40 ∷ Write 0x80 0x1234 ∷ [] ⟶ [])
     ∷ (ready ++ Write 0x1000000 0x40 ∷ Write 0x80 0x1234 ∷ [] ⟶ [])
     ∷ (ready ++ Write 0x80 0x40 ∷ Write 0x1000080 0x5678 ∷ Write 0x80 0x1234 ∷ [] ⟶ entry (program 0x80 0x1234) 0 running ∷ [])
@@ -53,7 +55,8 @@ recorders =
     ∷ (ready ++ Write 0x40 0x20 ∷ Write 0x80 0xD0 ∷ [] ⟶ entry (erase 5) 0 running ∷ [])
     ∷ (ready ++ Write 0xC0 0x20 ∷ Write 0x80 0xD0 ∷ third ⟶ entry (erase 5) 0 running ∷ [])
     ∷ (ready ++ Write 0x40 0x60 ∷ Write 0xC0 0xD0 ∷ third ⟶ entry (program 0xC0 0) 0 running ∷ [])
-    -- 60h beside what runs or a suspended program is nothing, so that D0h after it resumes; beside a suspended erase it is a set-up
+    -- 60h beside what runs or a suspended program is nothing, so that D0h after it resumes; beside a suspended erase
+    -- it is a set-up
     ∷ (ready ++ programs ++ pause ++ cycles 0xC0 0x60 0xD0 ⟶ entry (program 0x80 0x1234) 0 running ∷ [])
     ∷ (ready ++ load 0 (Write 0x80 0xAAAA ∷ []) ++ pause ++ cycles 0xC0 0x60 0xD0 ⟶ entry (buffer 0x80 (0xAAAA ∷ [])) 0 running ∷ [])
     ∷ (ready ++ programs ++ cycles 0xC0 0x60 0xD0 ++ work 1 ++ third ⟶ entry (program 0x80 0x1234) 1 finished ∷ [])
@@ -74,14 +77,16 @@ recorders =
     -- its words may end at the block's end, and not past it; D0h is the next cycle's data, and then a resume
     ∷ (ready ++ load 1 (Write 0xBE 1 ∷ Write 0xBF 2 ∷ []) ⟶ entry (buffer 0xBE (1 ∷ 2 ∷ [])) 0 running ∷ [])
     ∷ (ready ++ load 1 (Write 0xBF 1 ∷ Write 0xBF 2 ∷ []) ⟶ [])
-    -- the count counts whole: 31 is one, 32, 100h, 101h, 4000h and 8000h are none, and then what follows is read as commands
+    -- the count counts whole: 31 is one, 32, 100h, 101h, 4000h and 8000h are none, and then what follows is read as
+    -- commands
     ∷ (ready ++ cycles 0x80 0xE8 31 ++ programs ⟶ [])
     ∷ (ready ++ cycles 0x80 0xE8 32 ++ programs ⟶ entry (program 0x80 0x1234) 0 running ∷ [])
     ∷ (ready ++ load 0x100 (Write 0x80 0xAAAA ∷ []) ⟶ [])
     ∷ (ready ++ load 0x101 (Write 0x80 0xAAAA ∷ Write 0x81 0xBBBB ∷ []) ⟶ [])
     ∷ (ready ++ load 0x4000 (Write 0x80 0xAAAA ∷ []) ⟶ [])
     ∷ (ready ++ load 0x8000 (Write 0x80 0xAAAA ∷ []) ⟶ [])
-    -- the count, the first word and the confirming D0h in another block than E8h, and words below and past the run: the load ends there
+    -- the count, the first word and the confirming D0h in another block than E8h, and words below and past the run:
+    -- the load ends there
     ∷ (ready ++ Write 0x80 0xE8 ∷ Write 0x40 0 ∷ Write 0x80 0xAAAA ∷ Write 0x80 0xD0 ∷ [] ⟶ [])
     ∷ (ready ++ load 0 (Write 0x40 0xAAAA ∷ []) ⟶ [])
     ∷ (ready ++ cycles 0x80 0xE8 0 ++ Write 0x40 0xAAAA ∷ Write 0x40 0xD0 ∷ [] ⟶ [])
@@ -99,7 +104,8 @@ recorders-hold = refl
 
 -- ---- every code
 
--- steps with a code among them, a test of their journal, and those of the 256 codes, from the lowest up, with which it passes
+-- steps with a code among them, a test of their journal, and those of the 256 codes, from the lowest up, with which
+-- it passes
 pub data Codes : Type 0 where
   codes : (ℕ → List Step) → (List (Entry Operation) → Bool) → List ℕ → Codes
 
@@ -149,13 +155,14 @@ commands =
     -- with no set-up, before D0h: 10h and 40h are a program's, and 20h is an erase's
     codes (λ c. ready ++ Write 0x80 c ∷ Write 0x80 0xD0 ∷ []) programmed (0x10 ∷ 0x40 ∷ [])
     ∷ codes (λ c. ready ++ Write 0x80 c ∷ Write 0x80 0xD0 ∷ []) erased (0x20 ∷ [])
-    -- E8h is a load's; 60h is a lock command's, before D0h that opens block 6
+    -- E8h is a load's; 60h is a lock command's, before D0h that unprotects block 6
     ∷ codes (λ c. ready ++ Write 0x80 c ∷ Write 0x80 0 ∷ Write 0x80 7 ∷ Write 0x80 0xD0 ∷ []) buffered (0xE8 ∷ [])
     ∷ codes (λ c. ready ++ Write 0xC0 c ∷ Write 0xC0 0xD0 ∷ third) programmed (0x60 ∷ [])
     -- B0h suspends, and D0h resumes
     ∷ codes (λ c. ready ++ erases ++ Write 0x80 c ∷ []) waits (0xB0 ∷ [])
     ∷ codes (λ c. ready ++ erases ++ pause ++ Write 0x80 c ∷ []) runs (0xD0 ∷ [])
-    -- after 60h, 01h alone shuts block 5, which is open, and D0h alone opens block 6; after 20h, D0h alone confirms an erase; after a load, D0h alone confirms it
+    -- after 60h, 01h alone protects block 5, which was unprotected, and D0h alone unprotects block 6; after 20h, D0h
+    -- alone confirms an erase; after a load, D0h alone confirms it
     ∷ codes (λ c. ready ++ cycles 0x80 0x60 c ++ programs) empty (0x01 ∷ [])
     ∷ codes (λ c. ready ++ cycles 0xC0 0x60 c ++ third) programmed (0xD0 ∷ [])
     ∷ codes (λ c. ready ++ cycles 0x40 0x20 c) erased (0xD0 ∷ [])
@@ -168,16 +175,17 @@ commands-hold = tt
 
 -- ---- what a journal makes of a word
 
--- a part, a journal, the latest entry first, a location, the word there at the start, and what the journal makes of it
-pub data Read-as : Type 0 where
-  makes : Part → List (Entry Operation) → ℕ → ℕ → ℕ → Read-as
+-- a part, a journal, the latest entry first, a location, the word there at the start, and what the journal makes of
+-- it
+pub data Effect : Type 0 where
+  makes : Part → List (Entry Operation) → ℕ → ℕ → ℕ → Effect
 
-abbrev pub allMade : List Read-as → Bool
+abbrev pub allMade : List Effect → Bool
 allMade [] = true
 allMade (makes p j L x y ∷ l) = eqb (applied (geometryOf p) j L x) y && allMade l
 
 -- of one entry, at a location with the word 0FF0h, on the bench bottom part
-abbrev one : Entry Operation → ℕ → ℕ → Read-as
+abbrev one : Entry Operation → ℕ → ℕ → Effect
 one e L y = makes BenchBottom (e ∷ []) L 0x0FF0 y
 
 abbrev f0 : Operation
@@ -186,7 +194,7 @@ f0 = program 0x80 0xF0F0
 abbrev three : Operation
 three = buffer 0x80 (0xF0F0 ∷ 0x00FF ∷ 0x3333 ∷ [])
 
-abbrev pub made : List Read-as
+abbrev pub made : List Effect
 made =
     makes BenchBottom [] 0x80 0x0FF0 0x0FF0
     -- "Finished program: data anded in; unfinished: nothing."
@@ -210,7 +218,8 @@ made =
     ∷ one (entry three 2 suspended) 0x80 0x00F0 ∷ one (entry three 2 suspended) 0x81 0x00F0 ∷ one (entry three 2 suspended) 0x82 0x0FF0 ∷ one (entry three 2 suspended) 0x7F 0x0FF0
     ∷ one (entry three 2 broken-off) 0x80 0x00F0 ∷ one (entry three 2 broken-off) 0x81 0x00F0 ∷ one (entry three 2 broken-off) 0x82 0x0FF0 ∷ one (entry three 2 broken-off) 0x7F 0x0FF0
     ∷ one (entry three 0 running) 0x80 0x0FF0 ∷ one (entry three 0 suspended) 0x80 0x0FF0 ∷ one (entry three 0 broken-off) 0x80 0x0FF0
-    -- "applied in order of acceptance": the erase, then the program; the program, then the erase; two programs and a buffer over one another
+    -- "applied in order of acceptance": the erase, then the program; the program, then the erase; two programs and a
+    -- buffer over one another
     ∷ makes BenchBottom (entry (program 0x40 0x1234) 1 finished ∷ entry (erase 4) 64 finished ∷ []) 0x40 0x0FF0 0x1234
     ∷ makes BenchBottom (entry (erase 4) 64 finished ∷ entry (program 0x40 0x1234) 1 finished ∷ []) 0x40 0x0FF0 0xFFFF
     ∷ makes BenchBottom (entry (erase 4) 0 broken-off ∷ entry (program 0x40 0x00F0) 1 finished ∷ []) 0x40 0x0FF0 0x00F0
