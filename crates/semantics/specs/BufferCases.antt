@@ -16,7 +16,7 @@ use Rattle.semantics.specs.declared.SuspendedProgram.the-variants as sus
 use Rattle.semantics.specs.declared.SuspendedErase.{SuspendedErase}
 use Rattle.semantics.specs.declared.SuspendedErase.the-variants as suspended-erase
 use Rattle.semantics.specs.State.{withBuffer}
-use Rattle.semantics.specs.Cases.{_⟶_, Exchange, Case, plays, starts, write, cycles, shows, works, supply, reset, unprotect, protect, program, erase, reads, prepared, bench}
+use Rattle.semantics.specs.Cases.{_⟶_, Exchange, Case, plays, starts, write, cycles, shows, works, supply, reset, unprotect, protect, program, erase, prepared, bench}
 use Rattle.semantics.specs.RefusalCases.{underWay, bad, good}
 
 -- ---- exchanges. Bench bottom: block 0 has the locations 0 to F, block 4 40 to 7F, block 5 80 to BF, all in bank 0, and block 19 400 to 43F, in bank 1

@@ -25,7 +25,7 @@ use Rattle.semantics.specs.declared.Step.{Step}
 use Rattle.semantics.specs.declared.Step.the-variants.{Read, Write, Work, Supply, Reset}
 use Rattle.semantics.specs.declared.Answer.the-variants.{Refused}
 use Rattle.semantics.specs.declared.Next.{Next}
-use Rattle.semantics.specs.State.{geometry, activity, programSuspended, eraseSuspended}
+use Rattle.semantics.specs.State.{geometry, programSuspended, eraseSuspended}
 use Rattle.semantics.specs.Buffer.{words-length}
 use Rattle.semantics.specs.WellFormed.{wellFormed}
 use Rattle.semantics.specs.Working.{unitsLeft, unitsDone}

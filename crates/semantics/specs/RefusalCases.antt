@@ -19,7 +19,7 @@ use Rattle.semantics.specs.declared.SuspendedProgram.the-variants as sus
 use Rattle.semantics.specs.declared.SuspendedErase.{SuspendedErase}
 use Rattle.semantics.specs.declared.SuspendedErase.the-variants as suspended-erase
 use Rattle.semantics.specs.State.{powerUp, activity, runs, withActivity, withProtection, withSupply}
-use Rattle.semantics.specs.Cases.{_⟶_, Exchange, words, Case, plays, starts, unreported, write, cycles, shows, works, unprotect, program, erase, prepared, bench}
+use Rattle.semantics.specs.Cases.{_⟶_, Exchange, words, Case, plays, starts, unreported, write, shows, works, program, prepared, bench}
 
 -- ---- states that differ from power-up in what is under way, with supply on where something runs, or in the last of the protection words
 

@@ -17,9 +17,7 @@ use Rattle.semantics.specs.declared.SuspendedErase.{SuspendedErase}
 use Rattle.semantics.specs.declared.SuspendedErase.the-variants as suspended-erase
 use Rattle.semantics.specs.declared.State.{State}
 use Rattle.semantics.specs.State.{withBuffer, withSupply}
-use Rattle.semantics.specs.Supply.{ended}
-use Rattle.semantics.specs.Writing.{resume, cycle}
-use Rattle.semantics.specs.Steps.{switchedTo, accepted}
+use Rattle.semantics.specs.Steps.{switchedTo}
 use Rattle.semantics.specs.Cases.{Exchange, words, Case, plays, starts, reports, counted, unreported, write, cycles, shows, works, supply, reset, unprotect, program, erase, reads, prepared, bench}
 use Rattle.semantics.specs.RefusalCases.{underWay, bad, good, all}
 

@@ -32,8 +32,6 @@ use Rattle.semantics.specs.Supply.{endFlags, ended, endedIfUnsupplied, s
 use Rattle.semantics.specs.Writing.{commandOf, resume, accepts, setUp, clearStatus, firstCycle, cycle, keptIf, heldAfter, loaded, writtenAt, written}
 use Rattle.semantics.specs.Working.{bufferAfter}
 use Rattle.semantics.specs.Steps.{switchedTo, accepted}
-use Rattle.semantics.specs.Cases.{write, supply, program, erase}
-use Rattle.semantics.specs.RefusalCases.{all}
 
 abbrev none : SuspendedErase
 none = suspended-erase.Nothing

@@ -26,7 +26,7 @@ use Rattle.semantics.specs.Working.{unitsLeft, unitsDone, runningAfter}
 use Rattle.semantics.specs.Steps.{stepRefusal, firstRefusal, Machine}
 use Rattle.semantics.specs.Entries as entries
 use Rattle.semantics.specs.Entries.{Entry, entry, Live, live, isFinished, idle-worked}
-use Rattle.semantics.specs.Recorder.{Operation, program, erase, buffer, Conditions, Recorder, beginning, recorded, recordedAll}
+use Rattle.semantics.specs.Recorder.{Operation, Conditions, Recorder, beginning, recorded, recordedAll}
 use Rattle.semantics.specs.Recorder.{Event, event, journal-after}
 use Rattle.semantics.specs.Recorder.{kinds, len}
 use Rattle.semantics.specs.Engine.{stack, busy, held?, Matches, rules-agree}

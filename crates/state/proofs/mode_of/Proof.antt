@@ -2,7 +2,6 @@ use lib.ListN.{length}
 use Prim.Native.Nat.{_≤_}
 -- `state::mode_of` meets its contract: a number that is no bank is past the end of the array, where the definition gives array mode. Assumes nothing.
 use mathlib.Core.Path.{ap, sym}
-use native.Mathlib.Omega.{arith}
 use lib.ListN.{List·getD-eq-default}
 use Rattle.semantics.specs.declared.Bank.{Bank}
 use borrow.Author.Needs.{needs}

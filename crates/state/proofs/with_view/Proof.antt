@@ -1,6 +1,5 @@
 -- `state::with_view` meets its contract: a number that is no bank is past the end of the array, where the definition changes nothing. Assumes nothing.
 use lib.Seq.{set-out}
-use Rattle.semantics.specs.declared.Bank.{Bank}
 use Rattle.state.proofs.Banks.{past}
 use borrow.Author.Needs.{needs}
 use Rattle.state.proofs.with_view.Statement.{statement}
