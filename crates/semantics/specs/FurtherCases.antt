@@ -1,4 +1,4 @@
--- Cases beside document 01's twelve, computed as those are, for each rule of document 01 that the twelve leave open, and of document 02, items 1, 2, 4 and 5: a rule that is written down wrong makes a
+-- Cases beside document 01's twelve, computed by the checker, for each rule of document 01 that the twelve leave open, and of document 02, items 1, 2, 4 and 5: a rule that is written down wrong makes a
 -- case fail, and the error stands at the `tt` of its list.
 -- Assumes nothing.
 use lib.Dec.{T}
