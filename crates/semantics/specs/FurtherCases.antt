@@ -17,22 +17,22 @@ use Rattle.semantics.specs.Cases.{every}
 use Rattle.semantics.specs.WordByWord.{played}
 use Rattle.semantics.specs.ReadingCases.{readingCases}
 use Rattle.semantics.specs.WritingCases.{writingCases}
-use Rattle.semantics.specs.OperationCases.{operationCases}
+use Rattle.semantics.specs.OperationCases.{arrayCases, operationCases}
 use Rattle.semantics.specs.RefusalCases.{refusalCases}
 use Rattle.semantics.specs.BufferCases.{bufferCases}
 use Rattle.semantics.specs.StatusCases.{statusCases}
 use Rattle.semantics.specs.RegisterCases.{registerCases}
 use Rattle.semantics.specs.SupplyCases.{supplyCases}
 
--- the refusals through the whole steps, their arrays counted
-pub refusals-hold : T (every refusalCases)
+-- the refusals, and cases of the array, through the whole steps, their arrays counted
+pub whole-hold : T (every refusalCases) × T (every arrayCases)
 unfolding mirror blockFrom blockOf bankOf sizeOf startFrom startOf bankStart blockOffset bankOffset bankOfBlock lookupOf bit bitAt isUnprotected withUnprotected spareZero allProtected count least unprotectedCount lowestUnprotected reportOf emptyBuffer powerUp runningAlone programAlone eraseAlone eraseFits wordsFit bufferFits setupFits runningFits programFits suspendedEraseFits allFit runningApart programApart apart activityFormed setupPlaces runningPlaces programPlaces placesUsed zeroFrom reservedZero runsSupplied wellFormed runsIn statusWord signatureWord queryWord shown showsBy readIn readWord commandOf endFlags ended endedIfUnsupplied resume accepts setUp clearStatus firstCycle programRuns eraseCycle lockCommandOf withoutReserved lockCycle settle loads countRight firstRight laterRight confirmRight confirmCycle wordsCycle cycle keptIf firstLoaded wordsLoaded heldAfter loaded writtenAt written unitsLeft unitsDone runningAfter wordAfter tabulate arrayAfter bufferAfter workedOn worked workedArray locationRefusal addressRefusal countRefusal stepRefusal stateRefusal firstRefusal refusalOf switched switchedTo accepted acceptedArray stepOf arrayOf reportedOf
-refusals-hold = tt
+whole-hold = (tt, tt)
 
 -- the others with their arrays told word by word
 pub further-hold : T (every readingCases) × T (every writingCases) × T (every operationCases) × T (every refusalCases) × T (every bufferCases) × T (every statusCases) × T (every registerCases)
 unfolding mirror blockFrom blockOf bankOf sizeOf startFrom startOf bankStart blockOffset bankOffset bankOfBlock lookupOf bit bitAt isUnprotected withUnprotected spareZero allProtected count least unprotectedCount lowestUnprotected reportOf emptyBuffer powerUp runningAlone programAlone eraseAlone eraseFits wordsFit bufferFits setupFits runningFits programFits suspendedEraseFits allFit runningApart programApart apart activityFormed setupPlaces runningPlaces programPlaces placesUsed zeroFrom reservedZero runsSupplied wellFormed runsIn statusWord signatureWord queryWord shown showsBy readIn readWord commandOf endFlags ended endedIfUnsupplied resume accepts setUp clearStatus firstCycle programRuns eraseCycle lockCommandOf withoutReserved lockCycle settle loads countRight firstRight laterRight confirmRight confirmCycle wordsCycle cycle keptIf firstLoaded wordsLoaded heldAfter loaded writtenAt written unitsLeft unitsDone runningAfter wordAfter tabulate arrayAfter bufferAfter workedOn worked workedArray locationRefusal addressRefusal countRefusal stepRefusal stateRefusal firstRefusal refusalOf switched switchedTo accepted acceptedArray stepOf arrayOf reportedOf
-further-hold = (played readingCases tt, played writingCases tt, played operationCases tt, refusals-hold, played bufferCases tt, played statusCases tt, played registerCases tt)
+further-hold = (played readingCases tt, played writingCases tt, played operationCases tt, whole-hold .0, played bufferCases tt, played statusCases tt, played registerCases tt)
 
 -- those of the supply apart, for the number of steps that the checker gives one statement
 pub supply-hold : T (every supplyCases)
