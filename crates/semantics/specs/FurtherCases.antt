@@ -34,7 +34,7 @@ pub further-hold : T (every readingCases) × T (every writingCases) × T (every 
 unfolding mirror blockFrom blockOf bankOf sizeOf startFrom startOf bankStart blockOffset bankOffset bankOfBlock lookupOf bit bitAt isUnprotected withUnprotected spareZero allProtected count least unprotectedCount lowestUnprotected reportOf emptyBuffer powerUp runningAlone programAlone eraseAlone eraseFits wordsFit bufferFits setupFits runningFits programFits suspendedEraseFits allFit runningApart programApart apart activityFormed setupPlaces runningPlaces programPlaces placesUsed zeroFrom reservedZero runsSupplied wellFormed runsIn statusWord signatureWord queryWord shown showsBy readIn readWord commandOf endFlags ended endedIfUnsupplied resume accepts setUp clearStatus firstCycle programRuns eraseCycle lockCommandOf withoutReserved lockCycle settle loads countRight firstRight laterRight confirmRight confirmCycle wordsCycle cycle keptIf firstLoaded wordsLoaded heldAfter loaded writtenAt written unitsLeft unitsDone runningAfter wordAfter tabulate arrayAfter bufferAfter workedOn worked workedArray locationRefusal addressRefusal countRefusal stepRefusal stateRefusal firstRefusal refusalOf switched switchedTo accepted acceptedArray stepOf arrayOf reportedOf
 further-hold = (played readingCases tt, played writingCases tt, played operationCases tt, whole-hold .0, played bufferCases tt, played statusCases tt, played registerCases tt)
 
--- those of the supply apart, for the number of steps that the checker gives one statement
+-- and those of the supply
 pub supply-hold : T (every supplyCases)
 unfolding mirror blockFrom blockOf bankOf sizeOf startFrom startOf bankStart blockOffset bankOffset bankOfBlock lookupOf bit bitAt isUnprotected withUnprotected spareZero allProtected count least unprotectedCount lowestUnprotected reportOf emptyBuffer powerUp runningAlone programAlone eraseAlone eraseFits wordsFit bufferFits setupFits runningFits programFits suspendedEraseFits allFit runningApart programApart apart activityFormed setupPlaces runningPlaces programPlaces placesUsed zeroFrom reservedZero runsSupplied wellFormed runsIn statusWord signatureWord queryWord shown showsBy readIn readWord commandOf endFlags ended endedIfUnsupplied resume accepts setUp clearStatus firstCycle programRuns eraseCycle lockCommandOf withoutReserved lockCycle settle loads countRight firstRight laterRight confirmRight confirmCycle wordsCycle cycle keptIf firstLoaded wordsLoaded heldAfter loaded writtenAt written unitsLeft unitsDone runningAfter wordAfter tabulate arrayAfter bufferAfter workedOn worked workedArray locationRefusal addressRefusal countRefusal stepRefusal stateRefusal firstRefusal refusalOf switched switchedTo accepted acceptedArray stepOf arrayOf reportedOf
 supply-hold = played supplyCases tt
