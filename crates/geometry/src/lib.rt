@@ -3,8 +3,8 @@
 ghost use mathlib.Core.Path.{_≡_};
 ghost use mathlib.Core.Bool.{true, cond};
 ghost use Prim.Native.Nat.{_+_, _-_, _<_, _≤_};
-ghost use Rattle.geometry.specs.Blocks.{geometryOf, words, blocks, location, mirror, blockOf, bankOf, sizeOf, startOf, bankStart, blockOffset, bankOffset, bankOfBlock, Sound, partNumbered, lookupOf};
-ghost use Rattle.geometry.specs.Bits.{unitBits, smallBits, bankBits};
+ghost use Rattle.geometry.specs.Blocks.{geometryOf, words, blocks, location, mirror, blockFrom, blockOf, bankOf, sizeOf, startOf, bankStart, blockOffset, bankOffset, bankOfBlock, Sound, partNumbered, lookupOf};
+ghost use Rattle.geometry.specs.Bits.{unitBits, smallBits, bankBits, turned};
 ghost use Rattle.geometry.specs.Table.{tied, notAbove, Rises, scale};
 
 // The four parts: full or bench size, with the small blocks at the bottom or at the top.
@@ -163,13 +163,11 @@ fn bank_bits(part: Part) -> u32
     }
 }
 
-// The block that a location lies in.
-pub fn block_of(part: Part, location: u32) -> u32
-    ensures { λ r. ⌜ r ≡ blockOf (geometryOf part) location ⌝ }
-    ensures inside { λ r. ⌜ (location < words (geometryOf part) → r < 259) ⌝ }
+// The block of a location that is counted from the end that has the small blocks.
+fn block_from(part: Part, m: u32) -> u32
+    ensures { λ r. ⌜ r ≡ blockFrom (geometryOf part) m ⌝ }
 {
     let g = geometry_of(part);
-    let m = mirror_of(part, location);
     let place = m >> unit_bits(part);
     if place == 0 {
         m >> small_bits(part)
@@ -178,12 +176,55 @@ pub fn block_of(part: Part, location: u32) -> u32
     }
 }
 
+// The block that a location lies in.
+pub fn block_of(part: Part, location: u32) -> u32
+    ensures { λ r. ⌜ r ≡ blockOf (geometryOf part) location ⌝ }
+    ensures inside { λ r. ⌜ (location < words (geometryOf part) → r < 259) ⌝ }
+{
+    block_from(part, mirror_of(part, location))
+}
+
 // The bank that a location lies in.
 pub fn bank_of(part: Part, location: u32) -> u32
     ensures { λ r. ⌜ r ≡ bankOf (geometryOf part) location ⌝ }
     ensures inside { λ r. ⌜ (location < words (geometryOf part) → r < 16) ⌝ }
 {
     let m = mirror_of(part, location);
+    m >> bank_bits(part)
+}
+
+// The bits of an address that are turned round where the small blocks are at the top: those of a location.
+fn turned_bits(part: Part) -> u32
+    ensures { λ r. ⌜ r ≡ turned (geometryOf part) ⌝ }
+{
+    let n = length_of(part);
+    if is_top(part) { n - 1 } else { 0 }
+}
+
+// The mirror of the location that an address selects. A length is a power of two, so the last location less another is
+// that one with its bits turned round; a step takes no test for it.
+fn mirror_at(part: Part, address: u32) -> u32
+    ensures { λ r. ⌜ r ≡ mirror (geometryOf part) (location (geometryOf part) address) ⌝ }
+{
+    let n = length_of(part);
+    let x = address ^ turned_bits(part);
+    x % n
+}
+
+// The block of the location that an address selects.
+pub fn block_at(part: Part, address: u32) -> u32
+    ensures { λ r. ⌜ r ≡ blockOf (geometryOf part) (location (geometryOf part) address) ⌝ }
+    ensures inside { λ r. ⌜ r < 259 ⌝ }
+{
+    block_from(part, mirror_at(part, address))
+}
+
+// The bank of the location that an address selects.
+pub fn bank_at(part: Part, address: u32) -> u32
+    ensures { λ r. ⌜ r ≡ bankOf (geometryOf part) (location (geometryOf part) address) ⌝ }
+    ensures inside { λ r. ⌜ r < 16 ⌝ }
+{
+    let m = mirror_at(part, address);
     m >> bank_bits(part)
 }
 

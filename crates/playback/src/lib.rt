@@ -7,6 +7,7 @@ use semantics::Answer;
 use semantics::Bank;
 use semantics::Control;
 use semantics::Decoded;
+use semantics::Mode;
 use semantics::Place;
 use semantics::Running;
 use semantics::Setup;
@@ -47,21 +48,21 @@ pub enum Task {
     Reset,
 }
 
-// The step that a number encodes, if it encodes one.
+// The step that a number encodes, if it encodes one. A read is its address, so it is told by one comparison.
 pub fn decoded(code: u64) -> Decoded
     ensures { λ r. ⌜ r ≡ decode code ⌝ }
 {
     let kind = code / 281474976710656;
     let word = (code / 4294967296 % 65536) as u16;
     let operand = (code % 4294967296) as u32;
+    if code < 4294967296 {
+        return Decoded::Valid(Step::Read(operand));
+    }
     if kind == 1 {
         return Decoded::Valid(Step::Write(operand, word));
     }
     if word != 0 {
         return Decoded::Invalid;
-    }
-    if kind == 0 {
-        return Decoded::Valid(Step::Read(operand));
     }
     if kind == 2 {
         return Decoded::Valid(Step::Work(operand));
@@ -292,7 +293,7 @@ pub fn run(
                 Task::Refused(e) => answer = Answer::Refused(e),
                 Task::Read(address) => {
                     let location = geometry::location_of(part, address);
-                    let bank = geometry::bank_of(part, location);
+                    let bank = geometry::bank_at(part, address);
                     let b = banks[bank as usize];
                     let mode = b.mode;
                     answer = Answer::Word(reading::read_at(
@@ -316,6 +317,11 @@ pub fn run(
                         Change::Ended(a) => {
                             let c = with_activity(control, a);
                             control = state::end_running(c, &mut buffer);
+                        }
+                        Change::Data(x, at) => {
+                            control = with_setup(control, x);
+                            banks[p.bank as usize] = Bank { mode: Mode::Status };
+                            buffer::load(&mut buffer, at, word);
                         }
                         Change::View => {
                             let b = banks[p.bank as usize];

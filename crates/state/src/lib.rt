@@ -54,8 +54,8 @@ pub fn place_of(part: Part, address: u32) -> Place
     ensures block { λ r. ⌜ r .block < 259 ⌝ }
 {
     let location = geometry::location_of(part, address);
-    let bank = geometry::bank_of(part, location);
-    let block = geometry::block_of(part, location);
+    let bank = geometry::bank_at(part, address);
+    let block = geometry::block_at(part, address);
     Place {
         address,
         location,

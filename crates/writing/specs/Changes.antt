@@ -1,8 +1,9 @@
 -- What a write changes of a state, where that is little, and that this is what the definition of a write gives. Assumes nothing.
-use Prim.Native.Nat.{ℕ, _%_}
+use Prim.Native.Nat.{ℕ, _-_, _%_}
 use mathlib.Core.Bool.{Bool, true, false, cond, true≢false, false≢true}
 use mathlib.Core.List.{List}
 use mathlib.Core.Path.{_≡_, refl, sym, ap, _∙_}
+use lib.Dec.{eqb}
 use lib.ListN.{set}
 use Rattle.geometry.specs.declared.Geometry.{Geometry}
 use Rattle.protection.specs.Words.{withUnprotected}
@@ -25,14 +26,14 @@ use Rattle.semantics.specs.declared.Place.{Place}
 use Rattle.semantics.specs.declared.View.{View}
 use Rattle.semantics.specs.State.{geometry, activity, setActivity, withControl, withBuffer, withSetup, withRunning, withActivity, runs}
 use Rattle.semantics.specs.Supply.{ended, endedIfUnsupplied}
-use Rattle.semantics.specs.Branches.{of-cond, by-cond₂, by-test}
+use Rattle.semantics.specs.Branches.{of-cond, by-cond, by-cond₂, by-test}
 use Rattle.semantics.specs.Cycles.{awake, suspendedIn, nothing-pending, nothing-running, of-second}
 use Rattle.semantics.specs.Supplied.{resume-supplied, first-holds, held-left}
 use Rattle.semantics.specs.View.{viewAt, withView, withMode}
 use Rattle.semantics.specs.Modes.{view-back}
 use Rattle.semantics.specs.View as view
 use Rattle.semantics.specs.WellFormed.{pending}
-use Rattle.semantics.specs.Writing.{commandOf, suspended, resumedErase, resumed, resume, accepts, pend, setUp, clearStatus, firstCycle, settle, cycle, keptIf, heldAfter, loaded, cycleAt, loadedAt, writtenAt}
+use Rattle.semantics.specs.Writing.{commandOf, suspended, resumedErase, resumed, resume, accepts, pend, setUp, clearStatus, firstCycle, settle, loads, laterRight, wordsCycle, cycle, keptIf, wordsLoaded, heldAfter, loaded, cycleAt, loadedAt, writtenAt}
 use Rattle.semantics.specs.Working.{bufferAfter}
 use Rattle.writing.specs.declared.Change.{Change}
 use Rattle.writing.specs.declared.Change.the-variants as change
@@ -58,8 +59,24 @@ commandChange a supply p command.SetUpLock = setUpChange a setup.Lock
 commandChange a supply p command.SetUpBuffer = setUpChange a (setup.BufferCount (p .block))
 commandChange a supply p command.Unknown = change.Activity a
 
+-- a load's data cycle after its first, where it is due and right: one word less is due, and the buffer gets the word
+abbrev pub wordChange : ℕ → ℕ → ℕ → Place → Change
+wordChange l n due p =
+    cond (eqb due 0) change.View
+    (cond (laterRight l n p) (change.Data (setup.BufferWords l n (due - 1)) (p .location - l)) change.View)
+
+abbrev pub secondChange : Setup → Place → Change
+secondChange setup.Nothing p = change.View
+secondChange setup.Program p = change.View
+secondChange setup.Erase p = change.View
+secondChange setup.Lock p = change.View
+secondChange (setup.BufferCount b) p = change.View
+secondChange (setup.BufferFirst b n) p = change.View
+secondChange (setup.BufferWords l n due) p = wordChange l n due p
+
 abbrev pub changeOf : Activity → Bool → Place → ℕ → Change
-changeOf a supply p w = cond (pending (a .setup)) change.View (commandChange a supply p (commandOf (w % 256)))
+changeOf a supply p w =
+    cond (pending (a .setup)) (secondChange (a .setup) p) (commandChange a supply p (commandOf (w % 256)))
 
 -- a cycle that is told by its view: by the set-up that is pending, or 50h where none is
 abbrev pub toldCycle : Geometry → View → Setup → Place → ℕ → View
@@ -93,6 +110,7 @@ abbrev pub firstBy : View → Change → View
 firstBy v (change.First m x) = withMode (pend v x) m
 firstBy v (change.Activity a) = view.withActivity v a
 firstBy v (change.Ended a) = view.withControl v (ended (setActivity (v .control) a))
+firstBy v (change.Data x i) = pend v x
 firstBy v change.View = clearStatus v
 
 -- Q holds of each change that a first cycle may be, with the view that it leaves: a mode; B0h; D0h that resumes, and
@@ -141,17 +159,21 @@ first-is v p = of-command (λ (k : Change) (x : View). firstBy v k ≡ x) v p (r
 abbrev pub withBank : State → ℕ → Mode → State
 withBank s k m = record { part = s .part; banks = set (s .banks) k (record { mode = m }); unprotected = s .unprotected; control = s .control; buffer = s .buffer }
 
--- the state with that changed at a place
-abbrev pub putChange : State → Place → Change → State
-putChange s p (change.First m x) = withBank (withActivity s (withSetup (s .control .activity) x)) (p .bank) m
-putChange s p (change.Activity a) = withActivity s a
-putChange s p (change.Ended a) = withBuffer (withControl s (ended (setActivity (s .control) a))) (bufferAfter (a .running) running.Idle (s .buffer))
-putChange s p change.View = s
+-- the state with that changed at a place, by a write of w
+abbrev pub putChange : State → Place → ℕ → Change → State
+putChange s p w (change.First m x) = withBank (withActivity s (withSetup (s .control .activity) x)) (p .bank) m
+putChange s p w (change.Activity a) = withActivity s a
+putChange s p w (change.Ended a) =
+    withBuffer (withControl s (ended (setActivity (s .control) a))) (bufferAfter (a .running) running.Idle (s .buffer))
+putChange s p w (change.Data x i) =
+    withBuffer (withBank (withActivity s (withSetup (s .control .activity) x)) (p .bank) Status) (set (s .buffer) i w)
+putChange s p w change.View = s
 
 abbrev pub told : Change → Bool
 told (change.First m x) = false
 told (change.Activity a) = false
 told (change.Ended a) = false
+told (change.Data x i) = false
 told change.View = true
 
 -- a mode, and a block's protection, put back as it was
@@ -162,17 +184,20 @@ protection-back : (s : State) (p : Place) → withUnprotected (s .unprotected) (
 protection-back s p = ap (λ (t : State). t .unprotected) (view-back s p)
 
 -- the buffer with that changed
-abbrev bufferBy : State → Change → List ℕ
-bufferBy s (change.First m x) = s .buffer
-bufferBy s (change.Activity a) = s .buffer
-bufferBy s (change.Ended a) = bufferAfter (a .running) running.Idle (s .buffer)
-bufferBy s change.View = s .buffer
+abbrev bufferBy : State → ℕ → Change → List ℕ
+bufferBy s w (change.First m x) = s .buffer
+bufferBy s w (change.Activity a) = s .buffer
+bufferBy s w (change.Ended a) = bufferAfter (a .running) running.Idle (s .buffer)
+bufferBy s w (change.Data x i) = set (s .buffer) i w
+bufferBy s w change.View = s .buffer
 
-put-view : (s : State) (p : Place) (k : Change) → told k ≡ false → withBuffer (withView s p (firstBy (viewAt s p) k)) (bufferBy s k) ≡ putChange s p k
-put-view s p (change.First m x) h = rw (protection-back s p)
-put-view s p (change.Activity a) h = rw (protection-back s p, banks-back s p)
-put-view s p (change.Ended a) h = rw (protection-back s p, banks-back s p)
-put-view s p change.View h = absurd (true≢false h)
+put-view : (s : State) (p : Place) (w : ℕ) (k : Change) → told k ≡ false
+    → withBuffer (withView s p (firstBy (viewAt s p) k)) (bufferBy s w k) ≡ putChange s p w k
+put-view s p w (change.First m x) h = rw (protection-back s p)
+put-view s p w (change.Activity a) h = rw (protection-back s p, banks-back s p)
+put-view s p w (change.Ended a) h = rw (protection-back s p, banks-back s p)
+put-view s p w (change.Data x i) h = rw (protection-back s p)
+put-view s p w change.View h = absurd (true≢false h)
 
 -- the same as the definition has it: D0h without supply ends a buffer program
 ended-buffer : (a : Activity) (q : SuspendedProgram) (bs : List ℕ) → runs (a .running) ≡ false → bufferAfter (resumed a q .running) running.Idle bs ≡ heldAfter q (withRunning (resumed a q) running.Idle) bs
@@ -185,10 +210,11 @@ ended-buffer a program.Nothing bs h = by-erase (a .erase)
     by-erase erase.Nothing = ap (λ (r : Running). bufferAfter r running.Idle bs) (nothing-running (a .running) h)
     by-erase (erase.Erase b n) = refl
 
-buffer-is : (s : State) (p : Place) (c : Command)
-    → bufferBy s (commandChange (s .control .activity) (s .control .supply) p c) ≡ heldAfter (s .control .activity .program) (firstCycle (viewAt s p) p c .control .activity) (s .buffer)
+buffer-is : (s : State) (p : Place) (w : ℕ) (c : Command)
+    → bufferBy s w (commandChange (s .control .activity) (s .control .supply) p c)
+    ≡ heldAfter (s .control .activity .program) (firstCycle (viewAt s p) p c .control .activity) (s .buffer)
 unfolding firstCycle ended
-buffer-is s p = of-command (λ (k : Change) (x : View). bufferBy s k ≡ heldAfter (s .control .activity .program) (x .control .activity) (s .buffer)) (viewAt s p) p (record {
+buffer-is s p w = of-command (λ (k : Change) (x : View). bufferBy s w k ≡ heldAfter (s .control .activity .program) (x .control .activity) (s .buffer)) (viewAt s p) p (record {
   modes = λ m. left (s .control .activity) refl;
   suspends = sym (first-holds (viewAt s p) p command.Suspend (s .buffer) (λ k. absurd (false≢true k)));
   resumes =
@@ -204,26 +230,57 @@ buffer-is s p = of-command (λ (k : Change) (x : View). bufferBy s k ≡ heldAft
         → s .buffer ≡ heldAfter (s .control .activity .program) a (s .buffer)
     left a e = sym (held-left (s .control .activity .program) a (s .buffer) e)
 
+-- a load's data cycle as the definition has it: its view, its buffer, and what is suspended stays
+abbrev Loads : State → Place → ℕ → Setup → Change → Type 0
+Loads s p w x k =
+    (firstBy (viewAt s p) k ≡ cycle (geometry s) (viewAt s p) x p w)
+    × ((r : Running) → bufferBy s w k ≡ loaded (geometry s) x p w r (s .buffer))
+    × (cycle (geometry s) (viewAt s p) x p w .control .activity .program ≡ s .control .activity .program)
+
+second-loads : (s : State) (p : Place) (w : ℕ) (x : Setup) → told (secondChange x p) ≡ false → Loads s p w x (secondChange x p)
+unfolding cycle wordsCycle loads loaded wordsLoaded keptIf
+second-loads s p w setup.Nothing h = absurd (true≢false h)
+second-loads s p w setup.Program h = absurd (true≢false h)
+second-loads s p w setup.Erase h = absurd (true≢false h)
+second-loads s p w setup.Lock h = absurd (true≢false h)
+second-loads s p w (setup.BufferCount b) h = absurd (true≢false h)
+second-loads s p w (setup.BufferFirst b n) h = absurd (true≢false h)
+second-loads s p w (setup.BufferWords l n due) h =
+    by-cond (λ (k : Change). told k ≡ false → Loads s p w (setup.BufferWords l n due) k) (eqb due 0) _ _
+    (λ e h. absurd (true≢false h))
+    (λ e. by-cond (λ (k : Change). told k ≡ false → Loads s p w (setup.BufferWords l n due) k) (laterRight l n p) _ _
+    (λ f h. (rw (e, f), λ r. rw (e, f), rw (e, f)))
+    (λ f h. absurd (true≢false h)))
+    h
+
 -- a write that changes little changes that
-pub change-put : (s : State) (p : Place) (w : ℕ) (k : Change) → k ≡ changeOf (s .control .activity) (s .control .supply) p w → told k ≡ false → putChange s p k ≡ writtenAt s p w
+pub change-put : (s : State) (p : Place) (w : ℕ) (k : Change) → k ≡ changeOf (s .control .activity) (s .control .supply) p w
+    → told k ≡ false → putChange s p w k ≡ writtenAt s p w
 unfolding writtenAt loaded
 change-put s p w k e h = go (pending (s .control .activity .setup)) refl
   where
     a : Activity
     a = s .control .activity
 
-    go : (t : Bool) → pending (a .setup) ≡ t → putChange s p k ≡ writtenAt s p w
-    go true q = let v : k ≡ change.View = e ∙ rw q in absurd (true≢false (sym (ap told v) ∙ h))
+    by-parts : firstBy (viewAt s p) k ≡ cycleAt s p w → bufferBy s w k ≡ loadedAt s p w (cycleAt s p w .control .activity)
+        → putChange s p w k ≡ writtenAt s p w
+    by-parts f b = sym (put-view s p w k h) ∙ rw (f, b)
+
+    go : (t : Bool) → pending (a .setup) ≡ t → putChange s p w k ≡ writtenAt s p w
+    go true q =
+        let d : k ≡ secondChange (a .setup) p = e ∙ rw q in
+        let l = second-loads s p w (a .setup) (sym (ap told d) ∙ h) in
+        let f : firstBy (viewAt s p) k ≡ cycleAt s p w = ap (firstBy (viewAt s p)) d ∙ l .0 in
+        by-parts f
+        (ap (bufferBy s w) d ∙ l .1 _ ∙ sym (held-left (a .program) (cycleAt s p w .control .activity) _ (l .2)))
     go false q =
         let n = nothing-pending (a .setup) q in
         let c : k ≡ commandChange a (s .control .supply) p (commandOf (w % 256)) = e ∙ rw q in
-        let f : firstBy (viewAt s p) k ≡ cycleAt s p w =
-        ap (firstBy (viewAt s p)) c ∙ first-is (viewAt s p) p (commandOf (w % 256)) ∙ cycle-first (geometry s) (viewAt s p) (a .setup) p w q in
-        let b : bufferBy s k ≡ loadedAt s p w (cycleAt s p w .control .activity) =
-        ap (bufferBy s) c ∙ buffer-is s p (commandOf (w % 256))
+        by-parts
+        (ap (firstBy (viewAt s p)) c ∙ first-is (viewAt s p) p (commandOf (w % 256)) ∙ cycle-first (geometry s) (viewAt s p) (a .setup) p w q)
+        (ap (bufferBy s w) c ∙ buffer-is s p w (commandOf (w % 256))
         ∙ ap (λ (v : View). heldAfter (a .program) (v .control .activity) (s .buffer)) (cycle-first (geometry s) (viewAt s p) (a .setup) p w q)
-        ∙ ap (λ (x : Setup). heldAfter (a .program) (cycleAt s p w .control .activity) (loaded (geometry s) x p w (cycleAt s p w .control .activity .running) (s .buffer))) (sym n) in
-        sym (put-view s p k h) ∙ rw (f, b)
+        ∙ ap (λ (x : Setup). heldAfter (a .program) (cycleAt s p w .control .activity) (loaded (geometry s) x p w (cycleAt s p w .control .activity .running) (s .buffer))) (sym n))
 
 -- one that is told by its view is what that says
 pub change-told : (s : State) (p : Place) (w : ℕ) → change.View ≡ changeOf (s .control .activity) (s .control .supply) p w → toldAt s p w ≡ cycleAt s p w

@@ -19,14 +19,17 @@ ghost use Rattle.geometry.specs.Blocks.{geometryOf};
 ghost use Rattle.semantics.specs.Supply.{ended};
 ghost use Rattle.semantics.specs.View.{withControl, withActivity, withMode, raise};
 ghost use Rattle.semantics.specs.Writing.{commandOf, pend, clearStatus, firstCycle, programRuns, eraseCycle, lockCommandOf, lockCycle, settle, wrong, loads, countRight, firstRight, laterRight, confirmRight, confirmCycle, wordsCycle, cycle, wordsLoaded, heldAfter, loaded, cycleAt, written};
-ghost use Rattle.writing.specs.Changes.{setUpChange, resumeChange, commandChange, changeOf, toldCycle};
+ghost use Rattle.writing.specs.Changes.{setUpChange, resumeChange, commandChange, wordChange, secondChange, changeOf, toldCycle};
 
-// What a write changes of a state, where that is little: the mode of the addressed bank and the set-up; or what is under way, which of a write that is ignored is as
-// it was; or the same, and what runs then ends for want of supply. Any other write is told by its view: 50h, and every cycle that goes on with a set-up or ends it.
+// What a write changes of a state, where that is little: the mode of the addressed bank and the set-up; or what is under
+// way, which of a write that is ignored is as it was; or the same, and what runs then ends for want of supply; or, in a
+// load's data cycle after its first, the set-up and the buffer's word at a place, and the bank shows status. Any other
+// write is told by its view: 50h, and every other cycle that goes on with a set-up or ends it.
 pub enum Change {
     First(Mode, Setup),
     Activity(Activity),
     Ended(Activity),
+    Data(Setup, u32),
     View,
 }
 
@@ -172,6 +175,7 @@ fn first_cycle(v: View, p: Place, c: Command) -> View
         Change::First(mode, x) => with_mode(pend(v, x), mode),
         Change::Activity(x) => with_activity(v, x),
         Change::Ended(x) => with_ended(with_activity(v, x)),
+        Change::Data(x, _) => pend(v, x),
         Change::View => clear_status(v),
     }
 }
@@ -383,13 +387,46 @@ fn told_cycle(part: Part, v: View, p: Place, word: u16) -> View
     }
 }
 
+// What a data cycle changes at a place, after a load's first: where it is due and right, the set-up and a word.
+fn word_change(start: u32, words: u32, due: u32, p: Place) -> Change
+    ensures { λ r. ⌜ r ≡ wordChange start words due p ⌝ }
+{
+    if due == 0 {
+        return Change::View;
+    }
+    if later_right(start, words, p) {
+        let next = Setup::BufferWords {
+            start,
+            words,
+            due: due - 1,
+        };
+        return Change::Data(next, p.location - start);
+    }
+    Change::View
+}
+
+// What a cycle that goes on with a set-up, or ends it, changes at a place.
+fn second_change(x: Setup, p: Place) -> Change
+    ensures { λ r. ⌜ r ≡ secondChange x p ⌝ }
+{
+    match x {
+        Setup::Nothing => Change::View,
+        Setup::Program => Change::View,
+        Setup::Erase => Change::View,
+        Setup::Lock => Change::View,
+        Setup::BufferCount { .. } => Change::View,
+        Setup::BufferFirst { .. } => Change::View,
+        Setup::BufferWords { start, words, due } => word_change(start, words, due, p),
+    }
+}
+
 // What a write of a word changes at a place.
 pub fn change_of(a: Activity, supply: bool, p: Place, word: u16) -> Change
     ensures { λ r. ⌜ r ≡ changeOf a supply p word ⌝ }
 {
     let setup = a.setup;
     if operation::pending(setup) {
-        return Change::View;
+        return second_change(setup, p);
     }
     command_change(a, supply, p, command_of(word % 256))
 }

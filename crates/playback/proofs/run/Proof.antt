@@ -8,6 +8,7 @@ use native.Mathlib.Omega.{arith}
 use borrow.Author.Needs.{needs, scaled-fits}
 use denote.Ref.{now}
 use lib.ListN.{length}
+use Rattle.geometry.specs.Blocks.{bankOf}
 use Rattle.geometry.specs.declared.Part.{Part}
 use Rattle.semantics.specs.declared.Bank.{Bank}
 use Rattle.semantics.specs.declared.Control.{Control}
@@ -58,16 +59,19 @@ loop-holds c =
     (going-none _ _ _ _ _ _ (record { same = sym (c .if1 .left) ∙ h .same; sixteen = h .sixteen; five = h .five; thirty-two = h .thirty-two }), c .before .least .ensures, omega arith)
 
 array-copy-out-b : tie.Need-array-copy-out-b Inv-loop μ-loop
-array-copy-out-b c = c .bank-of .ensures .1 (c .before .location-of .ensures .1 .0)
+array-copy-out-b c = c .bank-at .ensures .1
 
 array-set-from-banks : tie.Need-array-set-from-banks Inv-loop μ-loop
 array-set-from-banks c = let t = c .before .before .before .before .before .before .before .before in write-bank _ (c .before .before .before .before .before .before .before .before .before .before .before .before .before .before .before .before .before .before .before .before .before .before .before .before .before .before .before .before .args .device .state .part) _ _ _ (task-means _ _ _ _ (sym (t .task3 .given .1) ∙ t .before .before .task-of .ensures))
 
+array-set-from-banks-2 : tie.Need-array-set-from-banks-2 Inv-loop μ-loop
+array-set-from-banks-2 c = let t = c .before .before .before .before .before .before .before .before in write-bank _ (c .before .before .before .before .before .before .before .before .before .before .before .before .before .before .before .before .before .before .before .before .before .before .before .before .before .before .before .before .args .device .state .part) _ _ _ (task-means _ _ _ _ (sym (t .task3 .given .1) ∙ t .before .before .task-of .ensures))
+
 array-copy-out-b-2 : tie.Need-array-copy-out-b-2 Inv-loop μ-loop
 array-copy-out-b-2 c = let t = c .before .before .before .before .before .before in write-bank _ (c .before .before .before .before .before .before .before .before .before .before .before .before .before .before .before .before .before .before .before .before .before .before .before .before .before .before .args .device .state .part) _ _ _ (task-means _ _ _ _ (sym (t .task3 .given .1) ∙ t .before .before .task-of .ensures))
 
-array-set-from-banks-2 : tie.Need-array-set-from-banks-2 Inv-loop μ-loop
-array-set-from-banks-2 c = let t = c .before .before .before .before .before .before .before .before .before .before .before .before .before .before .before in write-bank _ (c .before .before .before .before .before .before .before .before .before .before .before .before .before .before .before .before .before .before .before .before .before .before .before .before .before .before .before .before .before .before .before .before .before .before .before .args .device .state .part) _ _ _ (task-means _ _ _ _ (sym (t .task3 .given .1) ∙ t .before .before .task-of .ensures))
+array-set-from-banks-3 : tie.Need-array-set-from-banks-3 Inv-loop μ-loop
+array-set-from-banks-3 c = let t = c .before .before .before .before .before .before .before .before .before .before .before .before .before .before .before in write-bank _ (c .before .before .before .before .before .before .before .before .before .before .before .before .before .before .before .before .before .before .before .before .before .before .before .before .before .before .before .before .before .before .before .before .before .before .before .args .device .state .part) _ _ _ (task-means _ _ _ _ (sym (t .task3 .given .1) ∙ t .before .before .task-of .ensures))
 
 mul-answers : tie.Need-mul-answers Inv-loop μ-loop
 mul-answers c =
@@ -92,14 +96,15 @@ loop-again c =
     let k = c .before .before .task-of .ensures in (
       going-turn _ _ _ _ _ _ _ _ _ _ _ _ _ _ _ _ (c .answer-code .ensures) g (omega arith) (omega arith)
           (⊎-elim (λ w. plays-refused _ _ _ _ h _ _ _ _ _ _ (task-means _ _ _ _ (sym (w .1 .given .1) ∙ k)) (pieces _ _ _ _ _ _ _ _ _ (w .6) (w .7) (w .8) (w .9)) (w .10) (w .5) (λ j. lent (w .3 j) (w .4 j)))
-          (⊎-elim (λ w. plays-read _ _ _ _ h _ _ _ _ _ _ _ (task-means _ _ _ _ (sym (w .1 .given .1) ∙ k)) (read-seen _ _ _ _ _ _ _ (w .3 .ensures .0) (w .4 .ensures .0) refl (w .8 .ensures)) (pieces _ _ _ _ _ _ _ _ _ (w .12) (w .13) (w .14) (w .15)) (w .16) (w .11) (λ j. lent (w .9 j) (w .10 j)))
+          (⊎-elim (λ w. plays-read _ _ _ _ h _ _ _ _ _ _ _ (task-means _ _ _ _ (sym (w .1 .given .1) ∙ k)) (read-seen _ _ _ _ _ _ _ (w .3 .ensures .0) (w .4 .ensures .0 ∙ ap (bankOf _) (sym (w .3 .ensures .0))) refl (w .8 .ensures)) (pieces _ _ _ _ _ _ _ _ _ (w .12) (w .13) (w .14) (w .15)) (w .16) (w .11) (λ j. lent (w .9 j) (w .10 j)))
           (⊎-elim (λ w. plays-write _ _ _ _ h _ _ _ _ _ _ _ (task-means _ _ _ _ (sym (w .1 .given .1) ∙ k)) ((pieces _ _ _ _ _ _ _ _ _ (w .13) (w .14) (w .15) (w .16)) ∙ rw (w .8 .ensures) (change-put _ _ _ _ (sym (w .6 .given .1) ∙ (rw (w .3 .ensures) at (w .4 .ensures))) refl)) (w .17) (w .12) (λ j. lent (w .10 j) (w .11 j)))
           (⊎-elim (λ w. plays-write _ _ _ _ h _ _ _ _ _ _ _ (task-means _ _ _ _ (sym (w .1 .given .1) ∙ k)) ((pieces _ _ _ _ _ _ _ _ _ (w .12) (w .13) (w .14) (w .15)) ∙ rw (w .8 .ensures) (change-put _ _ _ _ (sym (w .6 .given .1) ∙ (rw (w .3 .ensures) at (w .4 .ensures))) refl)) (w .16) (w .11) (λ j. lent (w .9 j) (w .10 j)))
           (⊎-elim (λ w. plays-write _ _ _ _ h _ _ _ _ _ _ _ (task-means _ _ _ _ (sym (w .1 .given .1) ∙ k)) ((pieces _ _ _ _ _ _ _ _ _ (w .14) (w .15) (w .16) (w .17)) ∙ rw (w .10 .ensures .0, w .10 .ensures .1, w .8 .ensures) (change-put _ _ _ _ (sym (w .6 .given .1) ∙ (rw (w .3 .ensures) at (w .4 .ensures))) refl)) (w .18) (w .13) (λ j. lent (w .11 j) (w .12 j)))
+          (⊎-elim (λ w. plays-write _ _ _ _ h _ _ _ _ _ _ _ (task-means _ _ _ _ (sym (w .1 .given .1) ∙ k)) ((pieces _ _ _ _ _ _ _ _ _ (w .15) (w .16) (w .17) (w .18)) ∙ rw (w .11 .ensures, w .8 .ensures) (change-put _ _ _ _ (sym (w .6 .given .1) ∙ (rw (w .3 .ensures) at (w .4 .ensures))) refl)) (w .19) (w .14) (λ j. lent (w .12 j) (w .13 j)))
           (⊎-elim (λ w. plays-write _ _ _ _ h _ _ _ _ _ _ _ (task-means _ _ _ _ (sym (w .1 .given .1) ∙ k)) ((pieces _ _ _ _ _ _ _ _ _ (w .22) (w .23) (w .24) (w .25)) ∙ rw (w .14 .ensures, w .15 .ensures) (told-put _ _ _ _ _ _ (sym (w .6 .given .1) ∙ (rw (w .3 .ensures) at (w .4 .ensures))) (rw (w .10 .ensures) at (w .11 .ensures)) (w .18 .ensures) (w .13 .ensures))) (w .26) (w .21) (λ j. lent (w .19 j) (w .20 j)))
           (⊎-elim (λ w. plays-work _ _ _ _ h _ _ _ _ _ _ _ _ (task-means _ _ _ _ (sym (w .1 .given .1) ∙ k)) (rw (w .3 .ensures) at (w .6 .ensures .0)) (rw (w .3 .ensures) at (w .6 .ensures .1 .0)) ((pieces _ _ _ _ _ _ _ _ _ (w .17) (w .18) (w .19) (w .20)) ∙ rw (w .13 .ensures, w .12 .ensures)) (w .21) (w .16 ∙ (rw (w .3 .ensures) at (w .6 .ensures .1 .1))) ((λ j. lent (w .14 j) (w .15 j)) ∙ (rw (w .3 .ensures) at (w .11 .ensures))))
           (⊎-elim (λ w. plays-supply _ _ _ _ h _ _ _ _ _ _ _ _ (task-means _ _ _ _ (sym (w .1 .given .1) ∙ k)) (w .4 .ensures .0) (w .4 .ensures .1) (pieces _ _ _ _ _ _ _ _ _ (w .8) (w .9) (w .10) (w .11)) (w .12) (w .7) (λ j. lent (w .5 j) (w .6 j)))
-          (λ w. plays-reset _ _ _ _ h _ _ _ _ _ (task-means _ _ _ _ (sym (w .1 .given .1) ∙ k)) ((pieces _ _ _ _ _ _ _ _ _ (w .11) (w .12) (w .13) (w .14)) ∙ reset-pieces _ _ _ (rw (w .2 .ensures) at (w .3 .ensures))) (w .15) (w .10) (λ j. lent (w .8 j) (w .9 j)))))))))) (c .before .match .came)),
+          (λ w. plays-reset _ _ _ _ h _ _ _ _ _ (task-means _ _ _ _ (sym (w .1 .given .1) ∙ k)) ((pieces _ _ _ _ _ _ _ _ _ (w .11) (w .12) (w .13) (w .14)) ∙ reset-pieces _ _ _ (rw (w .2 .ensures) at (w .3 .ensures))) (w .15) (w .10) (λ j. lent (w .8 j) (w .9 j))))))))))) (c .before .match .came)),
       l .inv .1,
       omega arith,
     )
@@ -159,6 +164,11 @@ run-spec =
     (λ c κs. search needs)
     (λ c κs. search needs)
     (λ c. search needs)
+    (λ c κs. search needs)
+    (λ c. search needs)
+    array-set-from-banks-2
+    (λ c κs. search needs)
+    (λ c. search needs)
     (λ c. search needs)
     array-copy-out-b-2
     (λ c κs. search needs)
@@ -167,7 +177,7 @@ run-spec =
     (λ c κs. search needs)
     (λ c κs. search needs)
     (λ c. search needs)
-    array-set-from-banks-2
+    array-set-from-banks-3
     (λ c κs. search needs)
     (λ c. search needs)
     (λ c κs. search needs)
