@@ -224,8 +224,7 @@ pub fn bank_at(part: Part, address: u32) -> u32
     ensures { λ r. ⌜ r ≡ bankOf (geometryOf part) (location (geometryOf part) address) ⌝ }
     ensures inside { λ r. ⌜ r < 16 ⌝ }
 {
-    let m = mirror_at(part, address);
-    m >> bank_bits(part)
+    mirror_at(part, address) >> bank_bits(part)
 }
 
 // The words of a block.
