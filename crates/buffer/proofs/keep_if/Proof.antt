@@ -8,12 +8,9 @@ returns : tie.Need-returns
 unfolding keptIf
 returns c = rw (c .if1 .taken)
 
-empty-requires : tie.Need-empty-requires
-empty-requires c κs = search needs
-
 returns-2 : tie.Need-returns-2
 unfolding keptIf
 returns-2 c = rw (c .before .if1 .left) (c .empty .ensures)
 
 pub keep-if-spec : {M : Type 1} → statement M
-keep-if-spec = tie.close (tie.spec returns empty-requires returns-2)
+keep-if-spec = tie.close (tie.spec returns (λ c κs. search needs) returns-2)

@@ -18,18 +18,6 @@ abbrev μ-loop : tie.MeasureT-loop
 loop-holds : tie.Need-loop-holds Inv-loop μ-loop
 loop-holds c = refl
 
-mul-any : tie.Need-mul-any Inv-loop μ-loop
-mul-any c = search needs
-
-array-read-any : tie.Need-array-read-any Inv-loop μ-loop
-array-read-any c = search needs
-
-add-i : tie.Need-add-i Inv-loop μ-loop
-add-i c = search needs
-
-loop-less : tie.Need-loop-less Inv-loop μ-loop
-loop-less c = search needs
-
 loop-again : tie.Need-loop-again Inv-loop μ-loop
 loop-again c = zero-more _ (c .before .loop .i) (c .before .loop .any) (c .before .before .args .t1) (search needs) (c .before .loop .inv)
 
@@ -39,4 +27,4 @@ returns c = sym (c .before .loop .inv ∙ rw (zero-past (c .before .loop .i) (c 
 pub zero-after-spec : {M : Type 1} → statement M
 zero-after-spec =
     tie.close
-    (tie.spec Inv-loop μ-loop loop-holds mul-any array-read-any add-i loop-less loop-again returns)
+    (tie.spec Inv-loop μ-loop loop-holds (λ c. search needs) (λ c. search needs) (λ c. search needs) (λ c. search needs) loop-again returns)

@@ -6,12 +6,6 @@ use Rattle.geometry.specs.Blocks.{geometryOf, bankOf, bankOfBlock}
 use Rattle.geometry.proofs.bank_of_block.Statement.{statement}
 use Rattle.geometry.proofs.bank_of_block.Tie as tie
 
-block-start-requires : tie.Need-block-start-requires
-block-start-requires c κs = search needs
-
-bank-of-requires : tie.Need-bank-of-requires
-bank-of-requires c κs = search needs
-
 returns : tie.Need-returns
 unfolding bankOfBlock
 returns c =
@@ -19,4 +13,4 @@ returns c =
     (c .bank-of .ensures .0 ∙ ap (bankOf g) (c .before .block-start .ensures .0), c .bank-of .ensures .1 (c .before .block-start .ensures .1 .0))
 
 pub bank-of-block-spec : {M : Type 1} → statement M
-bank-of-block-spec = tie.close (tie.spec block-start-requires bank-of-requires returns)
+bank-of-block-spec = tie.close (tie.spec (λ c κs. search needs) (λ c κs. search needs) returns)

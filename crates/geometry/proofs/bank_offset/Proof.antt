@@ -9,12 +9,6 @@ use Rattle.geometry.specs.declared.Part.{Part}
 use Rattle.geometry.proofs.bank_offset.Statement.{statement}
 use Rattle.geometry.proofs.bank_offset.Tie as tie
 
-bank-of-requires : tie.Need-bank-of-requires
-bank-of-requires c κs = search needs
-
-bank-start-requires : tie.Need-bank-start-requires
-bank-start-requires c κs = search needs
-
 sub-result : tie.Need-sub-result
 sub-result c =
     let p : Part = c .before .before .args .part in
@@ -27,4 +21,4 @@ unfolding bankOffset
 returns c = rw (c .bank-start .ensures .0, c .before .bank-of .ensures .0)
 
 pub bank-offset-spec : {M : Type 1} → statement M
-bank-offset-spec = tie.close (tie.spec bank-of-requires bank-start-requires sub-result returns)
+bank-offset-spec = tie.close (tie.spec (λ c κs. search needs) (λ c κs. search needs) sub-result returns)

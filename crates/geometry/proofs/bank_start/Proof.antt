@@ -10,22 +10,10 @@ use Rattle.geometry.specs.declared.Part.{Part}
 use Rattle.geometry.proofs.bank_start.Statement.{statement}
 use Rattle.geometry.proofs.bank_start.Tie as tie
 
-geometry-of-requires : tie.Need-geometry-of-requires
-geometry-of-requires c κs = search needs
-
-mul-size : tie.Need-mul-size
-mul-size c = search needs
-
-div-if1 : tie.Need-div-if1
-div-if1 c = search needs
-
 mul-run-start : tie.Need-mul-run-start
 mul-run-start c =
     let w : Sound _ = c .before .before .before .geometry-of .ensures .1 in
     omega (arith, laws.bank-end _ w _ (c .if1 .taken), w .limit)
-
-run-start-requires : tie.Need-run-start-requires
-run-start-requires c κs = search needs
 
 -- the three clauses from the first
 answer : (p : Part) (k r : ℕ) → r ≡ bankStart (geometryOf p) k → (r ≡ bankStart (geometryOf p) k) × ((r < words (geometryOf p)) × (r < 16777216))
@@ -50,10 +38,10 @@ pub bank-start-spec : {M : Type 1} → statement M
 bank-start-spec =
     tie.close
     (tie.spec
-    geometry-of-requires
-    mul-size
-    div-if1
+    (λ c κs. search needs)
+    (λ c. search needs)
+    (λ c. search needs)
     mul-run-start
-    run-start-requires
+    (λ c κs. search needs)
     returns
     returns-2)

@@ -11,18 +11,6 @@ use Rattle.geometry.specs.declared.Part.the-variants.{FullBottom}
 use Rattle.geometry.proofs.block_by_table.Statement.{statement}
 use Rattle.geometry.proofs.block_by_table.Tie as tie
 
-mirror-of-requires : tie.Need-mirror-of-requires
-mirror-of-requires c κs = search needs
-
-scale-of-requires : tie.Need-scale-of-requires
-scale-of-requires c κs = search needs
-
-block-starts-requires : tie.Need-block-starts-requires
-block-starts-requires c κs = search needs
-
-slice-aggregate-not-above : tie.Need-slice-aggregate-not-above
-slice-aggregate-not-above c = search needs
-
 -- the location of the full bottom part that is looked up
 stands : (c : tie.After-table) → c .before .before .before .mirror-of .result * c .before .before .scale-of .result < words (geometryOf FullBottom)
 stands c =
@@ -62,10 +50,10 @@ pub block-by-table-spec : {M : Type 1} → statement M
 block-by-table-spec =
     tie.close
     (tie.spec
-    mirror-of-requires
-    scale-of-requires
-    block-starts-requires
-    slice-aggregate-not-above
+    (λ c κs. search needs)
+    (λ c κs. search needs)
+    (λ c κs. search needs)
+    (λ c. search needs)
     mul-not-above
     not-above-requires
     sub-result

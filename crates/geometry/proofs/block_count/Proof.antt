@@ -7,19 +7,10 @@ use Rattle.geometry.specs.Laws as laws
 use Rattle.geometry.proofs.block_count.Statement.{statement}
 use Rattle.geometry.proofs.block_count.Tie as tie
 
-geometry-of-requires : tie.Need-geometry-of-requires
-geometry-of-requires c κs = search needs
-
-sub-result : tie.Need-sub-result
-sub-result c = search needs
-
-add-result : tie.Need-add-result
-add-result c = search needs
-
 returns : tie.Need-returns
 returns c =
     let e = ap blocks (c .before .before .geometry-of .ensures .0) in
     (e, e ∙ laws.part-blocks (c .before .before .before .args .part))
 
 pub block-count-spec : {M : Type 1} → statement M
-block-count-spec = tie.close (tie.spec geometry-of-requires sub-result add-result returns)
+block-count-spec = tie.close (tie.spec (λ c κs. search needs) (λ c. search needs) (λ c. search needs) returns)

@@ -9,12 +9,6 @@ use Rattle.geometry.specs.declared.Part.{Part}
 use Rattle.geometry.proofs.block_offset.Statement.{statement}
 use Rattle.geometry.proofs.block_offset.Tie as tie
 
-block-of-requires : tie.Need-block-of-requires
-block-of-requires c κs = search needs
-
-block-start-requires : tie.Need-block-start-requires
-block-start-requires c κs = search needs
-
 sub-result : tie.Need-sub-result
 sub-result c =
     let p : Part = c .before .before .args .part in
@@ -27,4 +21,4 @@ unfolding blockOffset
 returns c = rw (c .block-start .ensures .0, c .before .block-of .ensures .0)
 
 pub block-offset-spec : {M : Type 1} → statement M
-block-offset-spec = tie.close (tie.spec block-of-requires block-start-requires sub-result returns)
+block-offset-spec = tie.close (tie.spec (λ c κs. search needs) (λ c κs. search needs) sub-result returns)

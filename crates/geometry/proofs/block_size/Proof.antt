@@ -10,15 +10,6 @@ use Rattle.geometry.specs.declared.Part.{Part}
 use Rattle.geometry.proofs.block_size.Statement.{statement}
 use Rattle.geometry.proofs.block_size.Tie as tie
 
-geometry-of-requires : tie.Need-geometry-of-requires
-geometry-of-requires c κs = search needs
-
-div-result : tie.Need-div-result
-div-result c = search needs
-
-block-count-requires : tie.Need-block-count-requires
-block-count-requires c κs = search needs
-
 -- both clauses from the first
 answer : (p : Part) (b r : ℕ) → r ≡ sizeOf (geometryOf p) b → (r ≡ sizeOf (geometryOf p) b) × (r ≤ 16777216)
 answer p b r e = (e, omega (arith, laws.size-le (geometryOf p) (laws.sound p) b, laws.sound p .unit-limit))
@@ -46,9 +37,9 @@ pub block-size-spec : {M : Type 1} → statement M
 block-size-spec =
     tie.close
     (tie.spec
-    geometry-of-requires
-    div-result
+    (λ c κs. search needs)
+    (λ c. search needs)
     returns
-    block-count-requires
+    (λ c κs. search needs)
     returns-2
     returns-3)

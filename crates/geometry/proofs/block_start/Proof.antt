@@ -11,29 +11,11 @@ use Rattle.geometry.specs.declared.Geometry.{Geometry}
 use Rattle.geometry.proofs.block_start.Statement.{statement}
 use Rattle.geometry.proofs.block_start.Tie as tie
 
-geometry-of-requires : tie.Need-geometry-of-requires
-geometry-of-requires c κs = search needs
-
-block-count-requires : tie.Need-block-count-requires
-block-count-requires c κs = search needs
-
-div-size : tie.Need-div-size
-div-size c = search needs
-
 mul-run-start : tie.Need-mul-run-start
 mul-run-start c =
     let g : Geometry = c .before .before .before .before .geometry-of .result in
     let w : Sound g = c .before .before .before .before .geometry-of .ensures .1 in
     omega (arith, laws.run-end _ _ (small g) (c .before .if2 .taken), w .whole, w .unit-limit)
-
-run-start-requires : tie.Need-run-start-requires
-run-start-requires c κs = search needs
-
-sub-run-start : tie.Need-sub-run-start
-sub-run-start c = search needs
-
-sub-run-start-2 : tie.Need-sub-run-start-2
-sub-run-start-2 c = search needs
 
 mul-run-start-2 : tie.Need-mul-run-start-2
 mul-run-start-2 c =
@@ -43,9 +25,6 @@ mul-run-start-2 c =
     let e = c .before .before .before .before .geometry-of .ensures .0 in
     let h : b < blocks g = rw e (rw (c .before .before .before .block-count .ensures .0) at (c .before .before .if1 .left)) in
     omega (arith, laws.run-end (b - (g .smalls - 1)) (g .places) (g .unit) (omega (arith, c .before .if2 .left, w .smalls-pos)), w .limit)
-
-run-start-requires-2 : tie.Need-run-start-requires-2
-run-start-requires-2 c κs = search needs
 
 -- the three clauses from the first
 answer : (p : Part) (b r : ℕ) → r ≡ startOf (geometryOf p) b → (r ≡ startOf (geometryOf p) b) × ((r < words (geometryOf p)) × (r < 16777216))
@@ -81,15 +60,15 @@ pub block-start-spec : {M : Type 1} → statement M
 block-start-spec =
     tie.close
     (tie.spec
-    geometry-of-requires
-    block-count-requires
+    (λ c κs. search needs)
+    (λ c κs. search needs)
     returns
-    div-size
+    (λ c. search needs)
     mul-run-start
-    run-start-requires
+    (λ c κs. search needs)
     returns-2
-    sub-run-start
-    sub-run-start-2
+    (λ c. search needs)
+    (λ c. search needs)
     mul-run-start-2
-    run-start-requires-2
+    (λ c κs. search needs)
     returns-3)

@@ -7,18 +7,6 @@ use Rattle.geometry.specs.Blocks.{geometryOf}
 use Rattle.geometry.proofs.geometry_of.Statement.{statement}
 use Rattle.geometry.proofs.geometry_of.Tie as tie
 
-enum-told : tie.Need-enum-told
-enum-told c = search needs
-
-enum-told-2 : tie.Need-enum-told-2
-enum-told-2 c = search needs
-
-enum-told-3 : tie.Need-enum-told-3
-enum-told-3 c = search needs
-
-enum-told-4 : tie.Need-enum-told-4
-enum-told-4 c = search needs
-
 returns : tie.Need-returns
 returns c = (sym (ap geometryOf (c .enum-told .given .1)), omega arith)
 
@@ -35,10 +23,10 @@ pub geometry-of-spec : {M : Type 1} → statement M
 geometry-of-spec =
     tie.close
     (tie.spec
-    enum-told
-    enum-told-2
-    enum-told-3
-    enum-told-4
+    (λ c. search needs)
+    (λ c. search needs)
+    (λ c. search needs)
+    (λ c. search needs)
     returns
     returns-2
     returns-3

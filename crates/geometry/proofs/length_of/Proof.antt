@@ -6,16 +6,10 @@ use Rattle.geometry.specs.Blocks.{words, Sound}
 use Rattle.geometry.proofs.length_of.Statement.{statement}
 use Rattle.geometry.proofs.length_of.Tie as tie
 
-geometry-of-requires : tie.Need-geometry-of-requires
-geometry-of-requires c κs = search needs
-
-mul-result : tie.Need-mul-result
-mul-result c = search needs
-
 returns : tie.Need-returns
 returns c =
     let w : Sound _ = c .before .geometry-of .ensures .1 in
     (ap words (c .before .geometry-of .ensures .0), (w .words-pos, w .limit))
 
 pub length-of-spec : {M : Type 1} → statement M
-length-of-spec = tie.close (tie.spec geometry-of-requires mul-result returns)
+length-of-spec = tie.close (tie.spec (λ c κs. search needs) (λ c. search needs) returns)

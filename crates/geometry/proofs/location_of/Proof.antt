@@ -10,12 +10,6 @@ use Rattle.geometry.specs.declared.Part.{Part}
 use Rattle.geometry.proofs.location_of.Statement.{statement}
 use Rattle.geometry.proofs.location_of.Tie as tie
 
-length-of-requires : tie.Need-length-of-requires
-length-of-requires c κs = search needs
-
-rem-result : tie.Need-rem-result
-rem-result c = search needs
-
 returns : tie.Need-returns
 returns c =
     let p : Part = c .before .args .part in
@@ -25,4 +19,4 @@ returns c =
     (e, (h, omega (arith, h, laws.sound p .limit)))
 
 pub location-of-spec : {M : Type 1} → statement M
-location-of-spec = tie.close (tie.spec length-of-requires rem-result returns)
+location-of-spec = tie.close (tie.spec (λ c κs. search needs) (λ c. search needs) returns)

@@ -15,17 +15,8 @@ returns-2 : tie.Need-returns-2
 unfolding lookupOf
 returns-2 c = (simp (lt-leb _ _ (c .before .if1 .left), lt-ltb _ _ (c .if2 .taken)), (omega arith, (omega arith, omega arith)))
 
-part-numbered-requires : tie.Need-part-numbered-requires
-part-numbered-requires c κs = search needs
-
-location-of-requires : tie.Need-location-of-requires
-location-of-requires c κs = search needs
-
 block-by-table-requires : tie.Need-block-by-table-requires
 block-by-table-requires c κs = c .location-of .ensures .1 .0
-
-bank-of-requires : tie.Need-bank-of-requires
-bank-of-requires c κs = search needs
 
 returns-3 : tie.Need-returns-3
 unfolding lookupOf
@@ -42,8 +33,8 @@ look-up-spec =
     (tie.spec
     returns
     returns-2
-    part-numbered-requires
-    location-of-requires
+    (λ c κs. search needs)
+    (λ c κs. search needs)
     block-by-table-requires
-    bank-of-requires
+    (λ c κs. search needs)
     returns-3)

@@ -21,9 +21,6 @@ left-as {xs} {l} {low} e i = subst (λ (n : ℕ). Halved xs l low n) e i
 loop-holds : tie.Need-loop-holds Inv-loop μ-loop
 loop-holds c = halved-first _ _
 
-sub-half : tie.Need-sub-half Inv-loop μ-loop
-sub-half c = search needs
-
 add-if1 : tie.Need-add-if1 Inv-loop μ-loop
 add-if1 c = omega (arith, c .before .loop .inv .within)
 
@@ -67,7 +64,7 @@ not-above-spec =
     Inv-loop
     μ-loop
     loop-holds
-    sub-half
+    (λ c. search needs)
     add-if1
     sub-if1
     mul-if1

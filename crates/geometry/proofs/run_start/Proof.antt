@@ -5,12 +5,6 @@ use native.Mathlib.Omega.{arith}
 use Rattle.geometry.proofs.run_start.Statement.{statement}
 use Rattle.geometry.proofs.run_start.Tie as tie
 
-geometry-of-requires : tie.Need-geometry-of-requires
-geometry-of-requires c κs = search needs
-
-mul-n : tie.Need-mul-n
-mul-n c = search needs
-
 returns : tie.Need-returns
 returns c = rw (← c .before .before .before .before .geometry-of .ensures .0, c .before .before .before .if1 .taken) (omega arith)
 
@@ -25,4 +19,4 @@ returns-4 c = rw (← c .before .geometry-of .ensures .0, c .if1 .left)
 
 pub run-start-spec : {M : Type 1} → statement M
 run-start-spec =
-    tie.close (tie.spec geometry-of-requires mul-n returns returns-2 returns-3 returns-4)
+    tie.close (tie.spec (λ c κs. search needs) (λ c. search needs) returns returns-2 returns-3 returns-4)

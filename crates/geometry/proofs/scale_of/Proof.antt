@@ -9,12 +9,6 @@ use Rattle.geometry.specs.declared.Part.{Part}
 use Rattle.geometry.proofs.scale_of.Statement.{statement}
 use Rattle.geometry.proofs.scale_of.Tie as tie
 
-geometry-of-requires : tie.Need-geometry-of-requires
-geometry-of-requires c κs = search needs
-
-div-result : tie.Need-div-result
-div-result c = search needs
-
 -- both clauses from the first
 answer : (p : Part) (r : ℕ) → r ≡ scale (geometryOf p) → (r ≡ scale (geometryOf p)) × (0 < r)
 answer p r e = (e, subst⁻¹ (λ (x : ℕ). 0 < x) e (scaled p .factor))
@@ -24,4 +18,4 @@ returns c =
     answer (c .before .before .args .part) _ (rw (c .before .geometry-of .ensures .0))
 
 pub scale-of-spec : {M : Type 1} → statement M
-scale-of-spec = tie.close (tie.spec geometry-of-requires div-result returns)
+scale-of-spec = tie.close (tie.spec (λ c κs. search needs) (λ c. search needs) returns)

@@ -10,9 +10,6 @@ use Rattle.geometry.specs.declared.Part.{Part}
 use Rattle.geometry.proofs.start_by_table.Statement.{statement}
 use Rattle.geometry.proofs.start_by_table.Tie as tie
 
-block-count-requires : tie.Need-block-count-requires
-block-count-requires c κs = search needs
-
 -- both clauses from the first
 answer : (p : Part) (b r : ℕ) → r ≡ startOf (geometryOf p) b → (r ≡ startOf (geometryOf p) b) × (r < 16777216)
 answer p b r e = (e, omega (arith, laws.start-lt (geometryOf p) (laws.sound p) b, laws.sound p .limit))
@@ -22,27 +19,6 @@ returns c =
     let p : Part = c .before .before .args .part in
     answer p (c .before .before .args .block) _
     (sym (laws.start-none (geometryOf p) _ (rw (c .before .block-count .ensures .0) at (c .if1 .taken))))
-
-block-starts-requires : tie.Need-block-starts-requires
-block-starts-requires c κs = search needs
-
-scale-of-requires : tie.Need-scale-of-requires
-scale-of-requires c κs = search needs
-
-mul-from : tie.Need-mul-from
-mul-from c = search needs
-
-array-read-from : tie.Need-array-read-from
-array-read-from c = search needs
-
-div-from : tie.Need-div-from
-div-from c = search needs
-
-block-size-requires : tie.Need-block-size-requires
-block-size-requires c κs = search needs
-
-run-start-requires : tie.Need-run-start-requires
-run-start-requires c κs = search needs
 
 returns-2 : tie.Need-returns-2
 returns-2 c =
@@ -56,13 +32,13 @@ pub start-by-table-spec : {M : Type 1} → statement M
 start-by-table-spec =
     tie.close
     (tie.spec
-    block-count-requires
+    (λ c κs. search needs)
     returns
-    block-starts-requires
-    scale-of-requires
-    mul-from
-    array-read-from
-    div-from
-    block-size-requires
-    run-start-requires
+    (λ c κs. search needs)
+    (λ c κs. search needs)
+    (λ c. search needs)
+    (λ c. search needs)
+    (λ c. search needs)
+    (λ c κs. search needs)
+    (λ c κs. search needs)
     returns-2)

@@ -5,12 +5,6 @@ use Rattle.lines.specs.Lines.{lineNext}
 use Rattle.lines.proofs.taken_at.Statement.{statement}
 use Rattle.lines.proofs.taken_at.Tie as tie
 
-line-end-requires : tie.Need-line-end-requires
-line-end-requires c κs = search needs
-
-add-t6 : tie.Need-add-t6
-add-t6 c = search needs
-
 returns : tie.Need-returns
 unfolding lineNext
 returns c = simp (← c .before .line-end .ensures, lt-ltb _ _ (c .if1 .taken))
@@ -20,4 +14,4 @@ unfolding lineNext
 returns-2 c = simp (← c .before .line-end .ensures, le-ltb _ _ (c .if1 .left))
 
 pub taken-at-spec : {M : Type 1} → statement M
-taken-at-spec = tie.close (tie.spec line-end-requires add-t6 returns returns-2)
+taken-at-spec = tie.close (tie.spec (λ c κs. search needs) (λ c. search needs) returns returns-2)

@@ -9,25 +9,10 @@ returns : tie.Need-returns
 unfolding isUnprotected
 returns c = rw (le-ltb _ _ (c .if1 .taken))
 
-cast-w : tie.Need-cast-w
-cast-w c = search needs
-
-mul-w : tie.Need-mul-w
-mul-w c = search needs
-
-element-copy-out-w : tie.Need-element-copy-out-w
-element-copy-out-w c = search needs
-
-cast-result : tie.Need-cast-result
-cast-result c = search needs
-
-shr-result : tie.Need-shr-result
-shr-result c = search needs
-
 returns-2 : tie.Need-returns-2
 unfolding isUnprotected bitAt bit
 returns-2 c = rw (lt-ltb _ _ (c .before .if1 .left))
 
 pub is-unprotected-spec : {M : Type 1} → statement M
 is-unprotected-spec =
-    tie.close (tie.spec returns cast-w mul-w element-copy-out-w cast-result shr-result returns-2)
+    tie.close (tie.spec returns (λ c. search needs) (λ c. search needs) (λ c. search needs) (λ c. search needs) (λ c. search needs) returns-2)

@@ -21,9 +21,6 @@ Inv-loop kept count₀ lowest₀ i₀ total lowest i = (i ≤ 5) × (total ≤ 6
 abbrev μ-loop : tie.MeasureT-loop
 μ-loop kept count₀ lowest₀ i₀ total lowest i = 5 - i
 
-without-spare-requires : tie.Need-without-spare-requires Inv-loop μ-loop
-without-spare-requires c κs = search needs
-
 loop-holds : tie.Need-loop-holds Inv-loop μ-loop
 unfolding count
 loop-holds c = (omega arith, omega arith, refl, record { within = omega arith; below = λ i h. omega arith; here = λ h. omega arith })
@@ -111,7 +108,7 @@ report-of-spec =
     (tie.spec
     Inv-loop
     μ-loop
-    without-spare-requires
+    (λ c κs. search needs)
     loop-holds
     cast-w
     mul-w

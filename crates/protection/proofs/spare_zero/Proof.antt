@@ -5,12 +5,9 @@ use Rattle.protection.specs.Words.{spareZero}
 use Rattle.protection.proofs.spare_zero.Statement.{statement}
 use Rattle.protection.proofs.spare_zero.Tie as tie
 
-array-read-result : tie.Need-array-read-result
-array-read-result c = search needs
-
 returns : tie.Need-returns
 unfolding spareZero
 returns c = refl
 
 pub spare-zero-spec : {M : Type 1} → statement M
-spare-zero-spec = tie.close (tie.spec array-read-result returns)
+spare-zero-spec = tie.close (tie.spec (λ c. search needs) returns)

@@ -5,15 +5,9 @@ use borrow.Author.Needs.{needs}
 use Rattle.reading.proofs.signature_word.Statement.{statement}
 use Rattle.reading.proofs.signature_word.Tie as tie
 
-bank-offset-requires : tie.Need-bank-offset-requires
-bank-offset-requires c κs = search needs
-
 returns : tie.Need-returns
 unfolding signatureWord
 returns c = simp (← c .before .bank-offset .ensures, c .if1 .taken)
-
-device-code-requires : tie.Need-device-code-requires
-device-code-requires c κs = search needs
 
 returns-2 : tie.Need-returns-2
 unfolding signatureWord
@@ -22,12 +16,6 @@ returns-2 c = simp (c .device-code .ensures, ← c .before .before .before .bank
 returns-3 : tie.Need-returns-3
 unfolding signatureWord
 returns-3 c = rw (← c .before .before .before .bank-offset .ensures, c .if3 .taken)
-
-block-offset-requires : tie.Need-block-offset-requires
-block-offset-requires c κs = search needs
-
-bit-if-requires : tie.Need-bit-if-requires
-bit-if-requires c κs = search needs
 
 returns-4 : tie.Need-returns-4
 unfolding signatureWord
@@ -41,12 +29,12 @@ pub signature-word-spec : {M : Type 1} → statement M
 signature-word-spec =
     tie.close
     (tie.spec
-    bank-offset-requires
+    (λ c κs. search needs)
     returns
-    device-code-requires
+    (λ c κs. search needs)
     returns-2
     returns-3
-    block-offset-requires
-    bit-if-requires
+    (λ c κs. search needs)
+    (λ c κs. search needs)
     returns-4
     returns-5)

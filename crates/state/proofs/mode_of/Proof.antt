@@ -8,14 +8,8 @@ use borrow.Author.Needs.{needs}
 use Rattle.state.proofs.mode_of.Statement.{statement}
 use Rattle.state.proofs.mode_of.Tie as tie
 
-array-copy-out-b : tie.Need-array-copy-out-b
-array-copy-out-b c = search needs
-
-returns : tie.Need-returns
-returns c = search needs
-
 returns-2 : tie.Need-returns-2
 returns-2 c = let h : length (c .before .args .t1) ≤ c .before .args .bank = search needs in ap (λ (b : Bank). b .mode) (sym (List·getD-eq-default (c .before .args .t1) _ h))
 
 pub mode-of-spec : {M : Type 1} → statement M
-mode-of-spec = tie.close (tie.spec array-copy-out-b returns returns-2)
+mode-of-spec = tie.close (tie.spec (λ c. search needs) (λ c. search needs) returns-2)

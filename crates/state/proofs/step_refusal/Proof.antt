@@ -4,30 +4,6 @@ use borrow.Author.Needs.{needs}
 use Rattle.state.proofs.step_refusal.Statement.{statement}
 use Rattle.state.proofs.step_refusal.Tie as tie
 
-enum-known-x : tie.Need-enum-known-x
-enum-known-x c = search needs
-
-address-refusal-requires : tie.Need-address-refusal-requires
-address-refusal-requires c κs = search needs
-
-enum-known-x-2 : tie.Need-enum-known-x-2
-enum-known-x-2 c = search needs
-
-address-refusal-requires-2 : tie.Need-address-refusal-requires-2
-address-refusal-requires-2 c κs = search needs
-
-enum-known-x-3 : tie.Need-enum-known-x-3
-enum-known-x-3 c = search needs
-
-count-refusal-requires : tie.Need-count-refusal-requires
-count-refusal-requires c κs = search needs
-
-enum-known-x-4 : tie.Need-enum-known-x-4
-enum-known-x-4 c = search needs
-
-enum-told : tie.Need-enum-told
-enum-told c = search needs
-
 returns : tie.Need-returns
 unfolding stepRefusal
 returns c = rw (c .before .before .x .given .1) (c .address-refusal .ensures)
@@ -52,14 +28,14 @@ pub step-refusal-spec : {M : Type 1} → statement M
 step-refusal-spec =
     tie.close
     (tie.spec
-    enum-known-x
-    address-refusal-requires
-    enum-known-x-2
-    address-refusal-requires-2
-    enum-known-x-3
-    count-refusal-requires
-    enum-known-x-4
-    enum-told
+    (λ c. search needs)
+    (λ c κs. search needs)
+    (λ c. search needs)
+    (λ c κs. search needs)
+    (λ c. search needs)
+    (λ c κs. search needs)
+    (λ c. search needs)
+    (λ c. search needs)
     returns
     returns-2
     returns-3

@@ -3,14 +3,8 @@ use borrow.Author.Needs.{needs}
 use Rattle.state.proofs.view_at.Statement.{statement}
 use Rattle.state.proofs.view_at.Tie as tie
 
-mode-of-requires : tie.Need-mode-of-requires
-mode-of-requires c κs = search needs
-
-is-unprotected-requires : tie.Need-is-unprotected-requires
-is-unprotected-requires c κs = search needs
-
 returns : tie.Need-returns
 returns c = simp (c .is-unprotected .ensures, c .before .before .mode-of .ensures)
 
 pub view-at-spec : {M : Type 1} → statement M
-view-at-spec = tie.close (tie.spec mode-of-requires is-unprotected-requires returns)
+view-at-spec = tie.close (tie.spec (λ c κs. search needs) (λ c κs. search needs) returns)

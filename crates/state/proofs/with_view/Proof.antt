@@ -5,15 +5,6 @@ use borrow.Author.Needs.{needs}
 use Rattle.state.proofs.with_view.Statement.{statement}
 use Rattle.state.proofs.with_view.Tie as tie
 
-set-block-requires : tie.Need-set-block-requires
-set-block-requires c κs = search needs
-
-cast-b : tie.Need-cast-b
-cast-b c = search needs
-
-element-set-from-b : tie.Need-element-set-from-b
-element-set-from-b c = search needs
-
 returns : tie.Need-returns
 returns c = rw (c .before .set-block .ensures)
 
@@ -22,4 +13,4 @@ returns-2 c = rw (c .before .set-block .ensures, set-out (c .before .before .bef
 
 pub with-view-spec : {M : Type 1} → statement M
 with-view-spec =
-    tie.close (tie.spec set-block-requires cast-b element-set-from-b returns returns-2)
+    tie.close (tie.spec (λ c κs. search needs) (λ c. search needs) (λ c. search needs) returns returns-2)

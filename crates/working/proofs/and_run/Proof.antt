@@ -14,29 +14,8 @@ Inv-loop array₀ start buffer from to end at₀ array at = (from ≤ at) × (at
 abbrev μ-loop : tie.MeasureT-loop
 μ-loop array₀ start buffer from to end at₀ array at = end - at
 
-least-requires : tie.Need-least-requires Inv-loop μ-loop
-least-requires c κs = search needs
-
 loop-holds : tie.Need-loop-holds Inv-loop μ-loop
 loop-holds c = (search needs, search needs, changed-none _ _ _)
-
-add-and-word : tie.Need-add-and-word Inv-loop μ-loop
-add-and-word c = search needs
-
-mul-and-word : tie.Need-mul-and-word Inv-loop μ-loop
-mul-and-word c = search needs
-
-shared-slice-read-and-word : tie.Need-shared-slice-read-and-word Inv-loop μ-loop
-shared-slice-read-and-word c = search needs
-
-and-word-requires : tie.Need-and-word-requires Inv-loop μ-loop
-and-word-requires c κs = search needs
-
-add-at : tie.Need-add-at Inv-loop μ-loop
-add-at c = search needs
-
-loop-less : tie.Need-loop-less Inv-loop μ-loop
-loop-less c = search needs
 
 loop-again : tie.Need-loop-again Inv-loop μ-loop
 loop-again c =
@@ -61,14 +40,14 @@ and-run-spec =
     (tie.spec
     Inv-loop
     μ-loop
-    least-requires
+    (λ c κs. search needs)
     loop-holds
-    add-and-word
-    mul-and-word
-    shared-slice-read-and-word
-    and-word-requires
-    add-at
-    loop-less
+    (λ c. search needs)
+    (λ c. search needs)
+    (λ c. search needs)
+    (λ c κs. search needs)
+    (λ c. search needs)
+    (λ c. search needs)
     loop-again
     same-length
     returns)

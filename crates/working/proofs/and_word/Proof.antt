@@ -4,21 +4,6 @@ use Rattle.working.specs.Array.{anded-set, anded-none}
 use Rattle.working.proofs.and_word.Statement.{statement}
 use Rattle.working.proofs.and_word.Tie as tie
 
-mul-array : tie.Need-mul-array
-mul-array c = search needs
-
-slice-read-array : tie.Need-slice-read-array
-slice-read-array c = search needs
-
-mul-array-2 : tie.Need-mul-array-2
-mul-array-2 c = search needs
-
-slice-write-array : tie.Need-slice-write-array
-slice-write-array c = search needs
-
-same-length : tie.Need-same-length
-same-length c = search needs
-
 returns : tie.Need-returns
 returns c = anded-set _ _ _ (c .before .if1 .taken)
 
@@ -29,10 +14,10 @@ pub and-word-spec : {M : Type 1} → statement M
 and-word-spec =
     tie.close
     (tie.spec
-    mul-array
-    slice-read-array
-    mul-array-2
-    slice-write-array
-    same-length
+    (λ c. search needs)
+    (λ c. search needs)
+    (λ c. search needs)
+    (λ c. search needs)
+    (λ c. search needs)
     returns
     returns-2)

@@ -5,41 +5,17 @@ use borrow.Author.Needs.{needs}
 use Rattle.writing.proofs.erase_cycle.Statement.{statement}
 use Rattle.writing.proofs.erase_cycle.Tie as tie
 
-flags-of-requires : tie.Need-flags-of-requires
-flags-of-requires c κs = search needs
-
-with-raised-requires : tie.Need-with-raised-requires
-with-raised-requires c κs = search needs
-
 returns : tie.Need-returns
 unfolding eraseCycle
 returns c = simp (c .with-raised .ensures, c .before .flags-of .ensures, ne-eqb _ _ (c .before .before .if1 .taken))
-
-flags-of-requires-2 : tie.Need-flags-of-requires-2
-flags-of-requires-2 c κs = search needs
-
-with-raised-requires-2 : tie.Need-with-raised-requires-2
-with-raised-requires-2 c κs = search needs
 
 returns-2 : tie.Need-returns-2
 unfolding eraseCycle
 returns-2 c = simp (c .with-raised2 .ensures, c .before .flags-of2 .ensures, eq-eqb _ _ (c .before .before .before .before .if1 .left), c .before .before .if2 .taken)
 
-flags-of-requires-3 : tie.Need-flags-of-requires-3
-flags-of-requires-3 c κs = search needs
-
-with-raised-requires-3 : tie.Need-with-raised-requires-3
-with-raised-requires-3 c κs = search needs
-
 returns-3 : tie.Need-returns-3
 unfolding eraseCycle
 returns-3 c = simp (c .with-raised3 .ensures, c .before .flags-of3 .ensures, eq-eqb _ _ (c .before .before .before .before .before .before .if1 .left), c .before .before .before .before .if2 .left, c .before .before .if3 .taken)
-
-with-running-requires : tie.Need-with-running-requires
-with-running-requires c κs = search needs
-
-with-activity-requires : tie.Need-with-activity-requires
-with-activity-requires c κs = search needs
 
 returns-4 : tie.Need-returns-4
 unfolding eraseCycle
@@ -49,15 +25,15 @@ pub erase-cycle-spec : {M : Type 1} → statement M
 erase-cycle-spec =
     tie.close
     (tie.spec
-    flags-of-requires
-    with-raised-requires
+    (λ c κs. search needs)
+    (λ c κs. search needs)
     returns
-    flags-of-requires-2
-    with-raised-requires-2
+    (λ c κs. search needs)
+    (λ c κs. search needs)
     returns-2
-    flags-of-requires-3
-    with-raised-requires-3
+    (λ c κs. search needs)
+    (λ c κs. search needs)
     returns-3
-    with-running-requires
-    with-activity-requires
+    (λ c κs. search needs)
+    (λ c κs. search needs)
     returns-4)

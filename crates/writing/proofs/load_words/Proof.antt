@@ -8,26 +8,11 @@ use borrow.Author.Needs.{needs}
 use Rattle.writing.proofs.load_words.Statement.{statement}
 use Rattle.writing.proofs.load_words.Tie as tie
 
-runs-requires : tie.Need-runs-requires
-runs-requires c κs = search needs
-
-keep-if-requires : tie.Need-keep-if-requires
-keep-if-requires c κs = search needs
-
-later-right-requires : tie.Need-later-right-requires
-later-right-requires c κs = search needs
-
 sub-load : tie.Need-sub-load
 unfolding laterRight
 sub-load c =
     let args = c .before .before .before .before .before .args in
     omega (arith, within-true (args .start) (args .words) (args .p .location) (sym (c .before .before .before .later-right .ensures) ∙ c .before .before .if2 .taken))
-
-load-requires : tie.Need-load-requires
-load-requires c κs = search needs
-
-keep-if-requires-2 : tie.Need-keep-if-requires-2
-keep-if-requires-2 c κs = search needs
 
 returns : tie.Need-returns
 unfolding wordsLoaded
@@ -45,12 +30,12 @@ pub load-words-spec : {M : Type 1} → statement M
 load-words-spec =
     tie.close
     (tie.spec
-    runs-requires
-    keep-if-requires
-    later-right-requires
+    (λ c κs. search needs)
+    (λ c κs. search needs)
+    (λ c κs. search needs)
     sub-load
-    load-requires
-    keep-if-requires-2
+    (λ c κs. search needs)
+    (λ c κs. search needs)
     returns
     returns-2
     returns-3)

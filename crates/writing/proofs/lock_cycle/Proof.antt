@@ -4,30 +4,6 @@ use borrow.Author.Needs.{needs}
 use Rattle.writing.proofs.lock_cycle.Statement.{statement}
 use Rattle.writing.proofs.lock_cycle.Tie as tie
 
-enum-told : tie.Need-enum-told
-enum-told c = search needs
-
-enum-told-2 : tie.Need-enum-told-2
-enum-told-2 c = search needs
-
-enum-told-3 : tie.Need-enum-told-3
-enum-told-3 c = search needs
-
-cast-low : tie.Need-cast-low
-cast-low c = search needs
-
-without-reserved-requires : tie.Need-without-reserved-requires
-without-reserved-requires c κs = search needs
-
-enum-told-4 : tie.Need-enum-told-4
-enum-told-4 c = search needs
-
-flags-of-requires : tie.Need-flags-of-requires
-flags-of-requires c κs = search needs
-
-with-raised-requires : tie.Need-with-raised-requires
-with-raised-requires c κs = search needs
-
 returns : tie.Need-returns
 unfolding lockCycle
 returns c = simp (c .enum-told .given .1)
@@ -48,14 +24,14 @@ pub lock-cycle-spec : {M : Type 1} → statement M
 lock-cycle-spec =
     tie.close
     (tie.spec
-    enum-told
-    enum-told-2
-    enum-told-3
-    cast-low
-    without-reserved-requires
-    enum-told-4
-    flags-of-requires
-    with-raised-requires
+    (λ c. search needs)
+    (λ c. search needs)
+    (λ c. search needs)
+    (λ c. search needs)
+    (λ c κs. search needs)
+    (λ c. search needs)
+    (λ c κs. search needs)
+    (λ c κs. search needs)
     returns
     returns-2
     returns-3

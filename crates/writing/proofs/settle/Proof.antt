@@ -4,12 +4,9 @@ use borrow.Author.Needs.{needs}
 use Rattle.writing.proofs.settle.Statement.{statement}
 use Rattle.writing.proofs.settle.Tie as tie
 
-pend-requires : tie.Need-pend-requires
-pend-requires c κs = search needs
-
 returns : tie.Need-returns
 unfolding settle
 returns c = c .pend .ensures
 
 pub settle-spec : {M : Type 1} → statement M
-settle-spec = tie.close (tie.spec pend-requires returns)
+settle-spec = tie.close (tie.spec (λ c κs. search needs) returns)

@@ -3,11 +3,8 @@ use borrow.Author.Needs.{needs}
 use Rattle.writing.proofs.with_raised.Statement.{statement}
 use Rattle.writing.proofs.with_raised.Tie as tie
 
-join-requires : tie.Need-join-requires
-join-requires c κs = search needs
-
 returns : tie.Need-returns
 returns c = simp (c .join .ensures)
 
 pub with-raised-spec : {M : Type 1} → statement M
-with-raised-spec = tie.close (tie.spec join-requires returns)
+with-raised-spec = tie.close (tie.spec (λ c κs. search needs) returns)

@@ -5,21 +5,9 @@ use borrow.Author.Needs.{needs}
 use Rattle.writing.proofs.words_cycle.Statement.{statement}
 use Rattle.writing.proofs.words_cycle.Tie as tie
 
-confirm-cycle-requires : tie.Need-confirm-cycle-requires
-confirm-cycle-requires c κs = search needs
-
 returns : tie.Need-returns
 unfolding wordsCycle
 returns c = rw (eq-eqb _ _ (c .before .if1 .taken)) (c .confirm-cycle .ensures)
-
-sub-t10 : tie.Need-sub-t10
-sub-t10 c = search needs
-
-later-right-requires : tie.Need-later-right-requires
-later-right-requires c κs = search needs
-
-loads-requires : tie.Need-loads-requires
-loads-requires c κs = search needs
 
 returns-2 : tie.Need-returns-2
 unfolding wordsCycle
@@ -28,4 +16,4 @@ returns-2 c = rw (ne-eqb _ _ (c .before .before .if1 .left), ← c .before .late
 pub words-cycle-spec : {M : Type 1} → statement M
 words-cycle-spec =
     tie.close
-    (tie.spec confirm-cycle-requires returns sub-t10 later-right-requires loads-requires returns-2)
+    (tie.spec (λ c κs. search needs) returns (λ c. search needs) (λ c κs. search needs) (λ c κs. search needs) returns-2)
