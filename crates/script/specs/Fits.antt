@@ -20,7 +20,7 @@ use Rattle.semantics.specs.declared.Decoded.the-variants.{Valid, Invalid}
 use Rattle.semantics.specs.State.{geometry}
 use Rattle.semantics.specs.Reading.{readWord}
 use Rattle.semantics.specs.Working.{unitsDone}
-use Rattle.semantics.specs.Card.{lower, given, card}
+use Rattle.semantics.specs.Card.{row, lower, given, card}
 use Rattle.semantics.specs.Split.{firstRefusal, count-bad}
 use Rattle.semantics.specs.Steps.{next, accepted}
 use Rattle.semantics.specs.Demand.{Demand3}
@@ -45,11 +45,15 @@ cond-below false x y h k = k
 row-below : (b : Bool) (n m : ℕ) → n < 10 → m < 10 → cond b (lower n m) m < 10
 row-below b n m h k = cond-below b (lower n m) m (cond-below (eqb m 0) n (min n m) h (omega arith)) k
 
+rows-below : (a f t u v : Bool) → given (row 1 a ∷ row 2 f ∷ row 3 t ∷ row 4 u ∷ row 5 v ∷ []) < 10
+unfolding given
+rows-below a f t u v =
+    row-below a 1 _ (omega arith)
+    (row-below f 2 _ (omega arith) (row-below t 3 _ (omega arith) (row-below u 4 _ (omega arith) (row-below v 5 0 (omega arith) (omega arith)))))
+
 refusal-below : (s : State) (k : Counts) (n : ℕ) (x : Step) → refusalWith s k n x < 10
-unfolding refusalWith card given
-refusal-below s k n x =
-    row-below _ 1 _ (omega arith)
-    (row-below _ 2 _ (omega arith) (row-below _ 3 _ (omega arith) (row-below _ 4 _ (omega arith) (row-below _ 5 0 (omega arith) (omega arith)))))
+unfolding refusalWith card
+refusal-below s k n x = rows-below _ _ _ _ _
 
 line-below : (m : Counted) → lineRefusal m < 10
 unfolding lineRefusal firstRefusal

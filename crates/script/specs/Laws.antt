@@ -12,11 +12,12 @@ use Rattle.geometry.specs.Blocks.{geometryOf, words}
 use Rattle.semantics.specs.declared.Step.{Step}
 use Rattle.semantics.specs.declared.Step.the-variants.{Reset}
 use Rattle.semantics.specs.declared.Answer.the-variants.{Refused}
+use Rattle.semantics.specs.declared.Next.{Next}
 use Rattle.semantics.specs.declared.Decoded.{Decoded}
 use Rattle.semantics.specs.declared.Decoded.the-variants.{Valid, Invalid}
 use Rattle.semantics.specs.State.{geometry, powerUp}
 use Rattle.semantics.specs.Split.{firstRefusal}
-use Rattle.semantics.specs.Steps.{Machine, afterAll, fresh}
+use Rattle.semantics.specs.Steps.{next, Machine, afterAll, fresh}
 use Rattle.semantics.specs.Invariant.{state-good}
 use Rattle.semantics.specs.Demand.{Demand3}
 use Rattle.semantics.specs.Standing.{demand-3-whole}
@@ -44,7 +45,9 @@ use Rattle.lines.specs.Lines.{lines, lineEnd, lineNext, takenAt, next-later, li
 -- 1 "array length is not 256u": whatever the line, a form or none
 pub other-array : (m : Counted) (d : Decoded) → (length (m .machine .array) ≡ words (geometry (m .machine .state)) → ⊥) → answerOf m d ≡ Refused 1
 unfolding lineRefusal stepWith firstRefusal
-other-array m (Valid x) h = rw (length-refused (m .machine .state) (m .counts) (length (m .machine .array)) h x)
+other-array m (Valid x) h =
+    let e : stepWith (m .machine .state) (m .counts) (m .machine .array) x ≡ next (m .machine .state) (Refused 1) = rw (length-refused (m .machine .state) (m .counts) (length (m .machine .array)) h x) in
+    ap (λ (y : Next). y .answer) e
 other-array m Invalid h = rw (length-refused (m .machine .state) (m .counts) (length (m .machine .array)) h Reset)
 
 -- "Empty input prints `end 0`."
