@@ -33,7 +33,8 @@ fn formed_with(s: State, main: &[[u16; 16]; 16]) -> bool
     state::well_formed(s) & wear::shared_zero(main)
 }
 
-// What every step on them is refused for, and a reset for nothing else, beside an array of n words, 0 where for nothing: 1, then 2.
+// What every step on them is refused for, and a reset for nothing else, beside an array of n words, 0 where for
+// nothing: 1, then 2.
 pub fn refusal_of(s: State, main: &[[u16; 16]; 16], n: usize) -> u32
     ensures { λ r. ⌜ ((small : List ℕ) → r ≡ refusalWith s (lent (now (main .entry)) small) n Step.Reset) ⌝ }
 {

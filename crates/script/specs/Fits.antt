@@ -49,7 +49,9 @@ rows-below : (a f t u v : Bool) → given (row 1 a ∷ row 2 f ∷ row 3 t ∷ r
 unfolding given
 rows-below a f t u v =
     row-below a 1 _ (omega arith)
-    (row-below f 2 _ (omega arith) (row-below t 3 _ (omega arith) (row-below u 4 _ (omega arith) (row-below v 5 0 (omega arith) (omega arith)))))
+    (row-below f 2 _ (omega arith)
+    (row-below t 3 _ (omega arith)
+    (row-below u 4 _ (omega arith) (row-below v 5 0 (omega arith) (omega arith)))))
 
 refusal-below : (s : State) (k : Counts) (n : ℕ) (x : Step) → refusalWith s k n x < 10
 unfolding refusalWith card
@@ -57,7 +59,9 @@ refusal-below s k n x = rows-below _ _ _ _ _
 
 line-below : (m : Counted) → lineRefusal m < 10
 unfolding lineRefusal firstRefusal
-line-below m = cond-below (eqb n 0) 6 n (omega arith) (refusal-below (m .machine .state) (m .counts) (length (m .machine .array)) Reset)
+line-below m =
+    cond-below (eqb n 0) 6 n (omega arith)
+    (refusal-below (m .machine .state) (m .counts) (length (m .machine .array)) Reset)
   where
     n : ℕ
     n = refusalWith (m .machine .state) (m .counts) (length (m .machine .array)) Reset
@@ -67,8 +71,11 @@ line-below m = cond-below (eqb n 0) 6 n (omega arith) (refusal-below (m .machine
 -- a count that is not refused is at most 65,535, and so are the units done
 count-short : (s : State) (k : Counts) (n l : ℕ) → refusalWith s k l (Work n) ≡ 0 → n ≤ 65535
 unfolding firstRefusal
-count-short s k n l h = ⊎-elim (λ i. absurd (go (refusalWith s k l Reset) (sym (refusal-first s k l (Work n) ∙ rw (count-bad (geometry s) n i)) ∙ h))) (λ i. i) (order 65535 n)
+count-short s k n l h = ⊎-elim (λ i. absurd (go (refusalWith s k l Reset) (refused i))) (λ i. i) (order 65535 n)
   where
+    refused : 65535 < n → firstRefusal (refusalWith s k l Reset) 4 ≡ 0
+    refused i = sym (refusal-first s k l (Work n) ∙ rw (count-bad (geometry s) n i)) ∙ h
+
     go : (a : ℕ) → firstRefusal a 4 ≡ 0 → ⊥
     go zero e = omega (arith, e)
     go (suc a) e = omega (arith, rw (eqb·suc-zero a) at e)

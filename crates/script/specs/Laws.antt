@@ -46,7 +46,9 @@ use Rattle.lines.specs.Lines.{lines, lineEnd, lineNext, takenAt, next-later, li
 pub other-array : (m : Counted) (d : Decoded) → (length (m .machine .array) ≡ words (geometry (m .machine .state)) → ⊥) → answerOf m d ≡ Refused 1
 unfolding lineRefusal stepWith firstRefusal
 other-array m (Valid x) h =
-    let e : stepWith (m .machine .state) (m .counts) (m .machine .array) x ≡ next (m .machine .state) (Refused 1) = rw (length-refused (m .machine .state) (m .counts) (length (m .machine .array)) h x) in
+    let e : stepWith (m .machine .state) (m .counts) (m .machine .array) x ≡ next (m .machine .state) (Refused 1) =
+    rw (length-refused (m .machine .state) (m .counts) (length (m .machine .array)) h x)
+    in
     ap (λ (y : Next). y .answer) e
 other-array m Invalid h = rw (length-refused (m .machine .state) (m .counts) (length (m .machine .array)) h Reset)
 

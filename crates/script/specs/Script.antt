@@ -35,8 +35,8 @@ scriptOf text = take 16384 text
 -- ---- a line played
 
 -- what a line without a form is refused for: 6 "script line not one of the forms below", but "The lowest number is given.", and 1 "array length is not 256u"
--- is given by "every step, and all else that takes an array" (and 2 by "all that take a device", though no script comes to a state that is not well formed): so
--- what a reset is refused for comes first, which has no numbers of its own
+-- is given by "every step, and all else that takes an array" (and 2 by "all that take a device", though no script comes
+-- to a state that is not well formed): so what a reset is refused for comes first, which has no numbers of its own
 unfoldable pub lineRefusal : Counted → ℕ
 lineRefusal m = firstRefusal (refusalWith (m .machine .state) (m .counts) (length (m .machine .array)) Reset) 6
 

@@ -1,5 +1,6 @@
--- Document 01, "Refusal card": the rows of it that are of a step, and the number that is given. A step is refused for this number by definition (Steps, and Steps of wear). Row 6 is of the
--- script's lines and row 7 of the lookup. CardCases computes every row at its limits.
+-- Document 01, "Refusal card": the rows of it that are of a step, and the number that is given. A step is refused for
+-- this number by definition (Steps, and Steps of wear). Row 6 is of a script's lines, row 7 of the lookup. CardCases
+-- computes every row at its limits.
 -- Assumes nothing.
 use Prim.Native.Nat.{ℕ, min}
 use mathlib.Core.Bool.{Bool, false, cond, not}

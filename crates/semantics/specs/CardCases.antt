@@ -1,5 +1,5 @@
--- The refusal card computed: each row at its limits, on parts of both sizes, and the lowest number where several rows apply. It takes the array's length and whether the state is well formed for
--- themselves, so no array is built; RefusalCases has both in whole steps.
+-- The refusal card computed: each row at its limits, on parts of both sizes, and the lowest number where several rows
+-- apply. An array is told by its length alone, and a state by whether it is well formed; RefusalCases has whole steps.
 -- Assumes nothing.
 use Prim.Native.Nat.{ℕ}
 use mathlib.Core.Bool.{Bool, true, false, _&&_}
@@ -26,11 +26,13 @@ every (b ∷ l) = b && every l
 -- nothing: 65,536 is no count, and is an address
 abbrev plain : List Step
 plain =
-    Read 0 ∷ Read 65536 ∷ Read 16777215 ∷ Write 0 0xFFFF ∷ Write 65536 0 ∷ Write 16777215 0xFFFF ∷ Work 0 ∷ Work 1 ∷ Work 65535 ∷ Supply true ∷ Supply false
-    ∷ Reset ∷ []
+    Read 0 ∷ Read 65536 ∷ Read 16777215 ∷ Write 0 0xFFFF ∷ Write 65536 0 ∷ Write 16777215 0xFFFF
+    ∷ Work 0 ∷ Work 1 ∷ Work 65535 ∷ Supply true ∷ Supply false ∷ Reset ∷ []
 
 abbrev far : List Step
-far = Read 16777216 ∷ Read 16777217 ∷ Read 4294967295 ∷ Write 16777216 0 ∷ Write 16777217 0xFFFF ∷ Write 4294967295 0 ∷ []
+far =
+    Read 16777216 ∷ Read 16777217 ∷ Read 4294967295
+    ∷ Write 16777216 0 ∷ Write 16777217 0xFFFF ∷ Write 4294967295 0 ∷ []
 
 abbrev long : List Step
 long = Work 65536 ∷ Work 65537 ∷ Work 16777215 ∷ Work 16777216 ∷ Work 4294967295 ∷ []
@@ -40,13 +42,15 @@ any = plain ++ far ++ long
 
 -- ---- row 5
 
--- no part has a location that lies in no block (`address-good`), but a geometry whose unit is no multiple of its small blocks has: four blocks of one word, and of its five words the fifth, counted
--- from the end that has the small blocks, in none
+-- no part has a location that lies in no block (`address-good`), but a geometry has whose unit is no multiple of its
+-- small blocks: here four of one word, and the last of the five words, as counted from their end, lies in none
 abbrev odd : Bool → Geometry
 odd t = record { unit = 5; smalls = 4; places = 1; group = 1; top = t }
 
 abbrev within : List Step
-within = Read 1 ∷ Read 3 ∷ Read 6 ∷ Write 1 0 ∷ Write 3 4 ∷ Write 8 9 ∷ Work 0 ∷ Work 4 ∷ Work 9 ∷ Supply true ∷ Supply false ∷ Reset ∷ []
+within =
+    Read 1 ∷ Read 3 ∷ Read 6 ∷ Write 1 0 ∷ Write 3 4 ∷ Write 8 9
+    ∷ Work 0 ∷ Work 4 ∷ Work 9 ∷ Supply true ∷ Supply false ∷ Reset ∷ []
 
 abbrev between : List Step
 between = Read 4 ∷ Read 9 ∷ Read 16777214 ∷ Write 4 0 ∷ Write 9 0xFFFF ∷ []

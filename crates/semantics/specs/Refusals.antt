@@ -78,12 +78,16 @@ answer-value s xs x = value-by s xs x (refusalOf s (length xs) x)
 -- "array length is not 256u": every step is refused 1, whatever the state
 pub refusal-1 : (s : State) (n : ℕ) (x : Step) → (n ≡ words (geometry s) → ⊥) → refusalOf s n x ≡ 1
 unfolding refusalOf firstRefusal
-refusal-1 s n x h = refused-first (geometry s) (wellFormed s) n x ∙ rw (reset-refused (geometry s) (wellFormed s) n, ne-eqb n (words (geometry s)) h)
+refusal-1 s n x h =
+    refused-first (geometry s) (wellFormed s) n x
+    ∙ rw (reset-refused (geometry s) (wellFormed s) n, ne-eqb n (words (geometry s)) h)
 
 -- "state not well made", on an array of the part's length: every step is refused 2, and so is the report of unprotected blocks
 pub refusal-2 : (s : State) (n : ℕ) (x : Step) → n ≡ words (geometry s) → wellFormed s ≡ false → refusalOf s n x ≡ 2
 unfolding refusalOf firstRefusal
-refusal-2 s n x h f = refused-first (geometry s) (wellFormed s) n x ∙ rw (reset-refused (geometry s) (wellFormed s) n, eq-eqb n (words (geometry s)) h, f)
+refusal-2 s n x h f =
+    refused-first (geometry s) (wellFormed s) n x
+    ∙ rw (reset-refused (geometry s) (wellFormed s) n, eq-eqb n (words (geometry s)) h, f)
 
 pub report-refused : (s : State) → wellFormed s ≡ false → reportedOf s ≡ record { refusal = 2; count = 0; lowest = 0 }
 unfolding reportedOf

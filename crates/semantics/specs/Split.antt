@@ -1,4 +1,5 @@
--- The refusal of a step in two parts, as the code finds it: what every step is refused for, which a list tests once, and what a step's own numbers are refused for. Both are read off the card.
+-- The refusal of a step in two parts, as the code finds it: what every step is refused for, which a list tests once, and
+-- what a step's own numbers are refused for. Both are read off the card.
 -- Assumes nothing.
 use Prim.Native.Nat.{ℕ, zero, suc, _<_, _≤_}
 use mathlib.Core.Bool.{Bool, true, false, cond, not}
@@ -45,7 +46,8 @@ unfolding given
 lowest-3 true = refl
 lowest-3 false = refl
 
-reset-rows : (a f : Bool) → given (row 1 (not a) ∷ row 2 (not f) ∷ row 3 false ∷ row 4 false ∷ row 5 false ∷ []) ≡ cond a (cond f 0 2) 1
+reset-rows : (a f : Bool) → given (row 1 (not a) ∷ row 2 (not f) ∷ row 3 false ∷ row 4 false ∷ row 5 false ∷ [])
+    ≡ cond a (cond f 0 2) 1
 unfolding given
 reset-rows true true = refl
 reset-rows true false = refl
@@ -67,7 +69,9 @@ module _ (g : Geometry) (formed : Bool) (n : ℕ) where
   unfolding card
   reset-refused = reset-rows (eqb n (words g)) formed
 
-  pub refused-first : (x : Step) → given (card g formed n x) ≡ firstRefusal (given (card g formed n Reset)) (stepRefusal g x)
+  -- then a step is refused for its own numbers
+  pub refused-first : (x : Step)
+      → given (card g formed n x) ≡ firstRefusal (given (card g formed n Reset)) (stepRefusal g x)
   unfolding stepRefusal card
   refused-first x = rw (reset-rows (eqb n (words g)) formed) (first-rows (eqb n (words g)) formed _ _ _)
 
@@ -78,7 +82,8 @@ module _ (g : Geometry) where
   pub address-good : Sound g → (a : ℕ) → a < 16777216 → stepRefusal g (Read a) ≡ 0
   unfolding stepRefusal card given
   address-good sound a h =
-      rw (lt-leb 16777216 a h, lt-leb (blocks g) (blockOf g (location g a)) (laws.block-lt g sound (location g a) (laws.location-lt g sound a)))
+      let i = laws.block-lt g sound (location g a) (laws.location-lt g sound a) in
+      rw (lt-leb 16777216 a h, lt-leb (blocks g) (blockOf g (location g a)) i)
 
   pub address-bad : (a : ℕ) → 16777216 ≤ a → stepRefusal g (Read a) ≡ 3
   unfolding stepRefusal card given

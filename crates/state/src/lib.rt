@@ -280,8 +280,8 @@ pub fn well_formed(s: State) -> bool
     formed_of(part, c, words, buffer)
 }
 
-// What every step is refused for, and a reset for nothing else, beside an array of n words and a state of the part that is well formed or not: 1 for the length,
-// or else 2 for the state, or else 0.
+// What every step is refused for, and a reset for nothing else, beside an array of n words and a state of the part that
+// is well formed or not: 1 for the length, or else 2 for the state, or else 0.
 pub fn refusal_beside(part: Part, formed: bool, n: usize) -> u32
     ensures { λ r. ⌜ r ≡ given (card (geometryOf part) formed n Step.Reset) ⌝ }
 {
@@ -294,8 +294,8 @@ pub fn refusal_beside(part: Part, formed: bool, n: usize) -> u32
     2
 }
 
-// The refusal of an address, of a read's as of a write's, 0 where there is none. It is 3 where the address is too large; 5, its location in no block, is not tested, since every location
-// lies in a block (`address-good` of semantics).
+// The refusal of an address, of a read's as of a write's, 0 where there is none. It is 3 where the address is too large;
+// 5, its location in no block, is not tested, since every location lies in a block (`address-good` of semantics).
 pub fn address_refusal(part: Part, address: u32) -> u32
     ensures { λ r. ⌜ r ≡ stepRefusal (geometryOf part) (Step.Read address) ⌝ }
 {

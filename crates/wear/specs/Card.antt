@@ -1,4 +1,5 @@
--- Demand 1's "exactly when" of a step with its counts: what it answers and leaves, by the number that document 01's refusal card gives it, with 2 as document 02, item 6, has it.
+-- Demand 1's "exactly when" of a step with its counts: what it answers and leaves, by the number that document 01's
+-- refusal card gives, with 2 as document 02, item 6, has it.
 -- Assumes nothing.
 use Prim.Native.Nat.{ℕ, suc}
 use mathlib.Core.Bool.{cond}
