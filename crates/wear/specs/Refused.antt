@@ -20,7 +20,7 @@ use Rattle.semantics.specs.declared.Running.{Running}
 use Rattle.semantics.specs.declared.Running.the-variants as running
 use Rattle.semantics.specs.declared.Answer.the-variants.{Refused}
 use Rattle.semantics.specs.State.{geometry, runs}
-use Rattle.semantics.specs.Branches.{of-cond}
+use Rattle.semantics.specs.Branches.{of-cond, by-test}
 use Rattle.semantics.specs.WellFormed.{wellFormed}
 use Rattle.semantics.specs.Split.{stepRefusal, firstRefusal, reset-refused, refused-first}
 use Rattle.semantics.specs.Steps.{refusalOf, next, accepted, acceptedArray, stepOf, arrayOf, reportedOf, Machine, after, afterAll, answersOf}
@@ -143,14 +143,10 @@ module _ (s : State) (k : Counts) (bad : sharedZero (k .main) ≡ false) where
   -- every step is refused, 1 for the array's length or else 2, and gives the state back (the array and the counts: `refused-nothing`)
   pub bad-refused : (xs : List ℕ) (x : Step) → stepWith s k xs x ≡ next s (Refused (cond (eqb (length xs) (words (geometry s))) 2 1))
   unfolding stepWith firstRefusal
-  bad-refused xs x = rw (refusal-first s k (length xs) x, reset-with s k (length xs), formed-bad) (go (eqb (length xs) (words (geometry s))))
-    where
-      r : ℕ
-      r = stepRefusal (geometry s) x
-
-      go : (t : Bool) → cond (eqb (cond (eqb (cond t 2 1) 0) r (cond t 2 1)) 0) (accepted s xs x) (next s (Refused (cond (eqb (cond t 2 1) 0) r (cond t 2 1)))) ≡ next s (Refused (cond t 2 1))
-      go true = refl
-      go false = refl
+  bad-refused xs x =
+      let f = refusal-first s k (length xs) x in
+      let r = reset-with s k (length xs) in
+      by-test (eqb (length xs) (words (geometry s))) (λ e. rw (f, r, formed-bad, e)) (λ e. rw (f, r, formed-bad, e))
 
   pub bad-reported : reportedWith s k ≡ record { refusal = 2; count = 0; lowest = 0 }
   unfolding reportedWith
