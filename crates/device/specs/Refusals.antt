@@ -2,21 +2,23 @@
 -- Assumes nothing.
 use Prim.Native.Nat.{ℕ}
 use mathlib.Core.List.{List}
-use mathlib.Core.Path.{_≡_}
+use mathlib.Core.Path.{_≡_, _∙_}
 use lib.ListN.{length}
 use borrow.Author.Tests.{eq-eqb, ne-eqb}
 use Rattle.semantics.specs.declared.Step.{Step}
+use Rattle.semantics.specs.declared.Step.the-variants.{Reset}
 use Rattle.semantics.specs.State.{geometry}
-use Rattle.semantics.specs.Steps.{stepRefusal, firstRefusal, accepted, acceptedArray}
+use Rattle.semantics.specs.Split.{stepRefusal, firstRefusal}
+use Rattle.semantics.specs.Steps.{accepted, acceptedArray}
 use Rattle.wear.specs.Counts.{Counts}
-use Rattle.wear.specs.Steps.{deviceRefusal, refusalWith, stepWith, arrayWith, countsWith, acceptedCounts}
+use Rattle.wear.specs.Steps.{refusalWith, stepWith, arrayWith, countsWith, acceptedCounts}
+use Rattle.wear.specs.Refused.{refusal-first}
 use Rattle.device.specs.declared.Device.{Device}
 use Rattle.device.specs.Outcomes.{refused, outcomeOf, outcome, arrayOut, countsOut}
 
-module _ (d : Device) (k : Counts) (xs : List ℕ) (x : Step) (e a b : ℕ) (device : a ≡ deviceRefusal (d .state) k (length xs)) (own : b ≡ stepRefusal (geometry (d .state)) x) (found : e ≡ firstRefusal a b) where
+module _ (d : Device) (k : Counts) (xs : List ℕ) (x : Step) (e a b : ℕ) (device : a ≡ refusalWith (d .state) k (length xs) Reset) (own : b ≡ stepRefusal (geometry (d .state)) x) (found : e ≡ firstRefusal a b) where
   refusal-is : refusalWith (d .state) k (length xs) x ≡ e
-  unfolding refusalWith
-  refusal-is = rw (← device, ← own, ← found)
+  refusal-is = refusal-first (d .state) k (length xs) x ∙ rw (← device, ← own, ← found)
 
   pub outcome-accepted : e ≡ 0 → outcomeOf (accepted (d .state) xs x) ≡ outcome d k xs x
   unfolding stepWith

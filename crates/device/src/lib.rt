@@ -12,7 +12,7 @@ ghost use mathlib.Core.Path.{_≡_};
 ghost use Prim.Native.Nat.{ℕ};
 ghost use Rattle.semantics.specs.State.{powerUp};
 ghost use Rattle.wear.specs.Counts.{lent, noCounts};
-ghost use Rattle.wear.specs.Steps.{formedWith, deviceRefusal, reportedWith, mostWornWith, eraseCountWith};
+ghost use Rattle.wear.specs.Steps.{formedWith, refusalWith, reportedWith, mostWornWith, eraseCountWith};
 ghost use Rattle.device.specs.Outcomes.{holding, refused, outcome, arrayOut, countsOut};
 
 // All that a device holds is its state. (Methods stand in the crate of their struct; the definitions of the state stand in a crate without code.)
@@ -33,9 +33,10 @@ fn formed_with(s: State, main: &[[u16; 16]; 16]) -> bool
     state::well_formed(s) & wear::shared_zero(main)
 }
 
-// What they are refused for beside an array of n words, 0 where for nothing: 1, then 2.
+// What every step on them is refused for, and a reset for nothing else, beside an array of n words, 0 where for
+// nothing: 1, then 2.
 pub fn refusal_of(s: State, main: &[[u16; 16]; 16], n: usize) -> u32
-    ensures { λ r. ⌜ ((small : List ℕ) → r ≡ deviceRefusal s (lent (now (main .entry)) small) n) ⌝ }
+    ensures { λ r. ⌜ ((small : List ℕ) → r ≡ refusalWith s (lent (now (main .entry)) small) n Step.Reset) ⌝ }
 {
     let part = s.part;
     state::refusal_beside(part, formed_with(s, main), n)

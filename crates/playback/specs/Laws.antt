@@ -22,7 +22,8 @@ use Rattle.semantics.specs.declared.Step.the-variants.{Read, Write, Work, Suppl
 use Rattle.semantics.specs.declared.Place.{Place}
 use Rattle.semantics.specs.declared.Decoded.{Decoded}
 use Rattle.semantics.specs.declared.Decoded.the-variants.{Valid, Invalid}
-use Rattle.semantics.specs.Steps.{switchedTo, firstRefusal, Machine}
+use Rattle.semantics.specs.Split.{firstRefusal}
+use Rattle.semantics.specs.Steps.{switchedTo, Machine}
 use Rattle.semantics.specs.Supply.{switched}
 use Rattle.semantics.specs.Encoding.{decode}
 use Rattle.semantics.specs.Demand.{Demand3}

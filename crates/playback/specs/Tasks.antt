@@ -10,7 +10,7 @@ use Rattle.semantics.specs.declared.Step.the-variants.{Read, Write, Work, Suppl
 use Rattle.semantics.specs.declared.Decoded.{Decoded}
 use Rattle.semantics.specs.declared.Decoded.the-variants.{Valid, Invalid}
 use Rattle.semantics.specs.View.{placeOf}
-use Rattle.semantics.specs.Steps.{stepRefusal, firstRefusal}
+use Rattle.semantics.specs.Split.{stepRefusal, firstRefusal}
 use Rattle.semantics.specs.Encoding.{decode}
 use Rattle.playback.specs.declared.Task.{Task}
 use Rattle.playback.specs.declared.Task.the-variants as task

@@ -17,9 +17,11 @@ use Rattle.semantics.specs.WellFormed.{runningAlone, programAlone, eraseAlone, 
 use Rattle.semantics.specs.Reading.{runsIn, statusWord, signatureWord, queryWord, shown, showsBy, readIn, readWord}
 use Rattle.semantics.specs.Writing.{commandOf, resume, accepts, setUp, clearStatus, firstCycle, programRuns, eraseCycle, lockCommandOf, lockCycle, settle, loads, countRight, firstRight, laterRight, confirmRight, confirmCycle, wordsCycle, cycle, keptIf, firstLoaded, wordsLoaded, heldAfter, loaded, writtenAt, written}
 use Rattle.semantics.specs.Working.{unitsLeft, unitsDone, runningAfter, wordAfter, arrayAfter, bufferAfter, workedOn, worked, workedArray}
-use Rattle.semantics.specs.Steps.{locationRefusal, addressRefusal, countRefusal, stepRefusal, firstRefusal, switchedTo, accepted, acceptedArray}
+use Rattle.semantics.specs.Card.{given, card}
+use Rattle.semantics.specs.Split.{firstRefusal}
+use Rattle.semantics.specs.Steps.{switchedTo, accepted, acceptedArray}
 use Rattle.wear.specs.Counts.{rowOf, placeIn, countAt, countOf, sharedZero, noCounts, putAt, withCount, oneMore, countsAfter}
-use Rattle.wear.specs.Steps.{formedWith, deviceRefusal, refusalWith, acceptedCounts, stepWith, arrayWith, countsWith}
+use Rattle.wear.specs.Steps.{formedWith, refusalWith, acceptedCounts, stepWith, arrayWith, countsWith}
 use Rattle.lines.specs.Lines.{lines}
 use Rattle.script.specs.Script.{scriptOf, lineRefusal, machineAtEnd, transcriptOf}
 
@@ -108,7 +110,7 @@ plays =
     ∷ []
 
 pub plays-hold : map printed plays ≡ map output plays
-unfolding scriptOf lines lineRefusal transcriptOf digitOf digits decimal hex4 answerText lineText endText hexValue lineDigits number begins isRead isWrite isWork isSupply isReset stepOfLine mirror blockFrom blockOf bankOf sizeOf startFrom startOf bankStart blockOffset bankOffset bankOfBlock lookupOf bit bitAt isUnprotected withUnprotected spareZero allProtected emptyBuffer powerUp runningAlone programAlone eraseAlone eraseFits wordsFit bufferFits setupFits runningFits programFits suspendedEraseFits allFit runningApart programApart apart activityFormed setupPlaces runningPlaces programPlaces placesUsed zeroFrom reservedZero runsSupplied wellFormed runsIn statusWord signatureWord queryWord shown showsBy readIn readWord commandOf endFlags ended endedIfUnsupplied resume accepts setUp clearStatus firstCycle programRuns eraseCycle lockCommandOf withoutReserved lockCycle settle loads countRight firstRight laterRight confirmRight confirmCycle wordsCycle cycle keptIf firstLoaded wordsLoaded heldAfter loaded writtenAt written unitsLeft unitsDone runningAfter wordAfter tabulate arrayAfter bufferAfter workedOn worked workedArray locationRefusal addressRefusal countRefusal stepRefusal firstRefusal switched switchedTo accepted acceptedArray rowOf placeIn countAt countOf sharedZero noCounts putAt withCount oneMore countsAfter formedWith deviceRefusal refusalWith acceptedCounts stepWith arrayWith countsWith
+unfolding scriptOf lines lineRefusal transcriptOf digitOf digits decimal hex4 answerText lineText endText hexValue lineDigits number begins isRead isWrite isWork isSupply isReset stepOfLine mirror blockFrom blockOf bankOf sizeOf startFrom startOf bankStart blockOffset bankOffset bankOfBlock lookupOf bit bitAt isUnprotected withUnprotected spareZero allProtected emptyBuffer powerUp runningAlone programAlone eraseAlone eraseFits wordsFit bufferFits setupFits runningFits programFits suspendedEraseFits allFit runningApart programApart apart activityFormed setupPlaces runningPlaces programPlaces placesUsed zeroFrom reservedZero runsSupplied wellFormed runsIn statusWord signatureWord queryWord shown showsBy readIn readWord commandOf endFlags ended endedIfUnsupplied resume accepts setUp clearStatus firstCycle programRuns eraseCycle lockCommandOf withoutReserved lockCycle settle loads countRight firstRight laterRight confirmRight confirmCycle wordsCycle cycle keptIf firstLoaded wordsLoaded heldAfter loaded writtenAt written unitsLeft unitsDone runningAfter wordAfter tabulate arrayAfter bufferAfter workedOn worked workedArray given card firstRefusal switched switchedTo accepted acceptedArray rowOf placeIn countAt countOf sharedZero noCounts putAt withCount oneMore countsAfter formedWith refusalWith acceptedCounts stepWith arrayWith countsWith
 plays-hold = refl
 
 -- ---- the counts after a script, which no line of it shows
@@ -131,5 +133,5 @@ worn =
     ∷ []
 
 pub worn-hold : map counted worn ≡ map counts worn
-unfolding scriptOf lines lineRefusal transcriptOf machineAtEnd digitOf digits decimal hex4 answerText lineText endText hexValue lineDigits number begins isRead isWrite isWork isSupply isReset stepOfLine mirror blockFrom blockOf bankOf sizeOf startFrom startOf bankStart blockOffset bankOffset bankOfBlock lookupOf bit bitAt isUnprotected withUnprotected spareZero allProtected emptyBuffer powerUp runningAlone programAlone eraseAlone eraseFits wordsFit bufferFits setupFits runningFits programFits suspendedEraseFits allFit runningApart programApart apart activityFormed setupPlaces runningPlaces programPlaces placesUsed zeroFrom reservedZero runsSupplied wellFormed runsIn statusWord signatureWord queryWord shown showsBy readIn readWord commandOf endFlags ended endedIfUnsupplied resume accepts setUp clearStatus firstCycle programRuns eraseCycle lockCommandOf withoutReserved lockCycle settle loads countRight firstRight laterRight confirmRight confirmCycle wordsCycle cycle keptIf firstLoaded wordsLoaded heldAfter loaded writtenAt written unitsLeft unitsDone runningAfter wordAfter tabulate arrayAfter bufferAfter workedOn worked workedArray locationRefusal addressRefusal countRefusal stepRefusal firstRefusal switched switchedTo accepted acceptedArray rowOf placeIn countAt countOf sharedZero noCounts putAt withCount oneMore countsAfter formedWith deviceRefusal refusalWith acceptedCounts stepWith arrayWith countsWith
+unfolding scriptOf lines lineRefusal transcriptOf machineAtEnd digitOf digits decimal hex4 answerText lineText endText hexValue lineDigits number begins isRead isWrite isWork isSupply isReset stepOfLine mirror blockFrom blockOf bankOf sizeOf startFrom startOf bankStart blockOffset bankOffset bankOfBlock lookupOf bit bitAt isUnprotected withUnprotected spareZero allProtected emptyBuffer powerUp runningAlone programAlone eraseAlone eraseFits wordsFit bufferFits setupFits runningFits programFits suspendedEraseFits allFit runningApart programApart apart activityFormed setupPlaces runningPlaces programPlaces placesUsed zeroFrom reservedZero runsSupplied wellFormed runsIn statusWord signatureWord queryWord shown showsBy readIn readWord commandOf endFlags ended endedIfUnsupplied resume accepts setUp clearStatus firstCycle programRuns eraseCycle lockCommandOf withoutReserved lockCycle settle loads countRight firstRight laterRight confirmRight confirmCycle wordsCycle cycle keptIf firstLoaded wordsLoaded heldAfter loaded writtenAt written unitsLeft unitsDone runningAfter wordAfter tabulate arrayAfter bufferAfter workedOn worked workedArray given card firstRefusal switched switchedTo accepted acceptedArray rowOf placeIn countAt countOf sharedZero noCounts putAt withCount oneMore countsAfter formedWith refusalWith acceptedCounts stepWith arrayWith countsWith
 worn-hold = refl

@@ -1,16 +1,16 @@
 -- How long a transcript is at most: a room of 262,154 bytes holds every one. 16,384 lines of at most 16 bytes, and at most 10 bytes at the end.
 -- Assumes nothing.
-use Prim.Native.Nat.{ℕ, suc, _+_, _*_, _<_, _≤_}
+use Prim.Native.Nat.{ℕ, zero, suc, _+_, _*_, _<_, _≤_, min}
 use mathlib.Core.Bool.{Bool, true, false, cond}
+use mathlib.Core.Logic.{⊎-elim}
 use mathlib.Core.List.{List, [], _∷_}
 use mathlib.Core.Path.{_≡_, refl, sym, ap, subst, _∙_}
 use native.Mathlib.Omega.{arith}
-use lib.Dec.{eqb, ltb, leb}
+use lib.Dec.{eqb, eqb·suc-zero}
 use lib.ListN.{length, length-append}
-use borrow.Author.Tests.{eqb-true, eqb-false, ltb-false}
+use borrow.Author.Tests.{eqb-true}
 use Rattle.geometry.specs.declared.Part.the-variants.{BenchBottom}
-use Rattle.geometry.specs.declared.Geometry.{Geometry}
-use Rattle.geometry.specs.Blocks.{words, location, blockOf, blocks}
+use Rattle.geometry.specs.Laws.{order}
 use Rattle.semantics.specs.declared.State.{State}
 use Rattle.semantics.specs.declared.Step.{Step}
 use Rattle.semantics.specs.declared.Step.the-variants.{Read, Write, Work, Supply, Reset}
@@ -20,10 +20,13 @@ use Rattle.semantics.specs.declared.Decoded.the-variants.{Valid, Invalid}
 use Rattle.semantics.specs.State.{geometry}
 use Rattle.semantics.specs.Reading.{readWord}
 use Rattle.semantics.specs.Working.{unitsDone}
-use Rattle.semantics.specs.Steps.{locationRefusal, addressRefusal, countRefusal, stepRefusal, firstRefusal, next, accepted}
+use Rattle.semantics.specs.Card.{row, lower, given, card}
+use Rattle.semantics.specs.Split.{firstRefusal, count-bad}
+use Rattle.semantics.specs.Steps.{next, accepted}
 use Rattle.semantics.specs.Demand.{Demand3}
 use Rattle.wear.specs.Counts.{Counts}
-use Rattle.wear.specs.Steps.{formedWith, deviceRefusal, refusalWith, stepWith, Counted, freshWith}
+use Rattle.wear.specs.Steps.{refusalWith, stepWith, Counted, freshWith}
+use Rattle.wear.specs.Refused.{refusal-first}
 use Rattle.wear.specs.Claim.{CountsStand}
 use Rattle.line.specs.Forms.{stepOfLine}
 use Rattle.printing.specs.Text.{answerText, lineText, endText, word-short, units-short, done-short, refused-short, line-short, end-short}
@@ -39,43 +42,43 @@ cond-below : (b : Bool) (x y : ℕ) → x < 10 → y < 10 → cond b x y < 10
 cond-below true x y h k = h
 cond-below false x y h k = k
 
-first-below : (a b : ℕ) → a < 10 → b < 10 → firstRefusal a b < 10
-unfolding firstRefusal
-first-below a b h k = cond-below (eqb a 0) b a k h
+row-below : (b : Bool) (n m : ℕ) → n < 10 → m < 10 → cond b (lower n m) m < 10
+row-below b n m h k = cond-below b (lower n m) m (cond-below (eqb m 0) n (min n m) h (omega arith)) k
 
-device-below : (s : State) (k : Counts) (n : ℕ) → deviceRefusal s k n < 10
-unfolding deviceRefusal
-device-below s k n = cond-below (eqb n (words (geometry s))) (cond (formedWith s k) 0 2) 1 (cond-below (formedWith s k) 0 2 (omega arith) (omega arith)) (omega arith)
-
-address-below : (g : Geometry) (address : ℕ) → addressRefusal g address < 10
-unfolding addressRefusal locationRefusal
-address-below g address =
-    cond-below (leb 16777216 address) 3 (cond (ltb (blockOf g (location g address)) (blocks g)) 0 5) (omega arith)
-    (cond-below (ltb (blockOf g (location g address)) (blocks g)) 0 5 (omega arith) (omega arith))
-
-step-below : (g : Geometry) (x : Step) → stepRefusal g x < 10
-unfolding stepRefusal countRefusal
-step-below g (Read address) = address-below g address
-step-below g (Write address w) = address-below g address
-step-below g (Work n) = cond-below (ltb 65535 n) 4 0 (omega arith) (omega arith)
-step-below g (Supply on) = omega arith
-step-below g Reset = omega arith
+rows-below : (a f t u v : Bool) → given (row 1 a ∷ row 2 f ∷ row 3 t ∷ row 4 u ∷ row 5 v ∷ []) < 10
+unfolding given
+rows-below a f t u v =
+    row-below a 1 _ (omega arith)
+    (row-below f 2 _ (omega arith)
+    (row-below t 3 _ (omega arith)
+    (row-below u 4 _ (omega arith) (row-below v 5 0 (omega arith) (omega arith)))))
 
 refusal-below : (s : State) (k : Counts) (n : ℕ) (x : Step) → refusalWith s k n x < 10
-unfolding refusalWith
-refusal-below s k n x = first-below (deviceRefusal s k n) (stepRefusal (geometry s) x) (device-below s k n) (step-below (geometry s) x)
+unfolding refusalWith card
+refusal-below s k n x = rows-below _ _ _ _ _
+
+line-below : (m : Counted) → lineRefusal m < 10
+unfolding lineRefusal firstRefusal
+line-below m =
+    cond-below (eqb n 0) 6 n (omega arith)
+    (refusal-below (m .machine .state) (m .counts) (length (m .machine .array)) Reset)
+  where
+    n : ℕ
+    n = refusalWith (m .machine .state) (m .counts) (length (m .machine .array)) Reset
 
 -- ---- an answer has at most 9 bytes
 
 -- a count that is not refused is at most 65,535, and so are the units done
 count-short : (s : State) (k : Counts) (n l : ℕ) → refusalWith s k l (Work n) ≡ 0 → n ≤ 65535
-unfolding refusalWith firstRefusal stepRefusal countRefusal
-count-short s k n l h = go (eqb (deviceRefusal s k l) 0) refl (ltb 65535 n) refl
+unfolding firstRefusal
+count-short s k n l h = ⊎-elim (λ i. absurd (go (refusalWith s k l Reset) (refused i))) (λ i. i) (order 65535 n)
   where
-    go : (a : Bool) → eqb (deviceRefusal s k l) 0 ≡ a → (b : Bool) → ltb 65535 n ≡ b → n ≤ 65535
-    go a e false f = ltb-false 65535 n f
-    go true e true f = absurd (omega (arith, rw (e, f) at h))
-    go false e true f = absurd (eqb-false (deviceRefusal s k l) 0 e (rw e at h))
+    refused : 65535 < n → firstRefusal (refusalWith s k l Reset) 4 ≡ 0
+    refused i = sym (refusal-first s k l (Work n) ∙ rw (count-bad (geometry s) n i)) ∙ h
+
+    go : (a : ℕ) → firstRefusal a 4 ≡ 0 → ⊥
+    go zero e = omega (arith, e)
+    go (suc a) e = omega (arith, rw (eqb·suc-zero a) at e)
 
 accepted-short : (s : State) (k : Counts) (xs : List ℕ) (x : Step) → refusalWith s k (length xs) x ≡ 0 → length (answerText (accepted s xs x .answer)) ≤ 9
 unfolding accepted unitsDone
@@ -94,11 +97,8 @@ step-short s k xs x = go (eqb (refusalWith s k (length xs) x) 0) refl
     go false e = refused-short (refusalWith s k (length xs) x) (refusal-below s k (length xs) x)
 
 answer-short : (m : Counted) (d : Decoded) → length (answerText (answerOf m d)) ≤ 9
-unfolding lineRefusal
 answer-short m (Valid x) = step-short (m .machine .state) (m .counts) (m .machine .array) x
-answer-short m Invalid =
-    refused-short (lineRefusal m)
-    (first-below (deviceRefusal (m .machine .state) (m .counts) (length (m .machine .array))) 6 (device-below (m .machine .state) (m .counts) (length (m .machine .array))) (omega arith))
+answer-short m Invalid = refused-short (lineRefusal m) (line-below m)
 
 -- ---- a transcript
 

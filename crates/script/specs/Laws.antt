@@ -7,16 +7,17 @@ use mathlib.Core.Path.{_≡_, refl, sym, ap, subst, _∙_}
 use native.Mathlib.Omega.{arith}
 use native.Mathlib.Numerals.{add-one}
 use lib.ListN.{length, take, drop, length-take, drop-of-length-le}
-use borrow.Author.Tests.{ne-eqb}
 use Rattle.geometry.specs.declared.Part.the-variants.{BenchBottom}
 use Rattle.geometry.specs.Blocks.{geometryOf, words}
 use Rattle.semantics.specs.declared.Step.{Step}
+use Rattle.semantics.specs.declared.Step.the-variants.{Reset}
 use Rattle.semantics.specs.declared.Answer.the-variants.{Refused}
 use Rattle.semantics.specs.declared.Next.{Next}
 use Rattle.semantics.specs.declared.Decoded.{Decoded}
 use Rattle.semantics.specs.declared.Decoded.the-variants.{Valid, Invalid}
 use Rattle.semantics.specs.State.{geometry, powerUp}
-use Rattle.semantics.specs.Steps.{firstRefusal, next, Machine, afterAll, fresh}
+use Rattle.semantics.specs.Split.{firstRefusal}
+use Rattle.semantics.specs.Steps.{next, Machine, afterAll, fresh}
 use Rattle.semantics.specs.Invariant.{state-good}
 use Rattle.semantics.specs.Demand.{Demand3}
 use Rattle.semantics.specs.Standing.{demand-3-whole}
@@ -24,9 +25,9 @@ use Rattle.semantics.specs.Progress.{Good, reached-good}
 use Rattle.device.specs.declared.Device.{Device}
 use Rattle.device.specs.declared.Outcome.{Outcome}
 use Rattle.wear.specs.Counts.{Counts, sharedZero, noCounts}
-use Rattle.wear.specs.Steps.{deviceRefusal, refusalWith, stepWith, Counted, afterWith, afterAllWith, freshWith}
+use Rattle.wear.specs.Steps.{refusalWith, stepWith, Counted, afterWith, afterAllWith, freshWith}
 use Rattle.wear.specs.Claim.{CountsStand}
-use Rattle.wear.specs.Refused.{device-alone, all-alone, fresh-shared, shared-all}
+use Rattle.wear.specs.Refused.{length-refused, refusal-alone, all-alone, fresh-shared, shared-all}
 use Rattle.wear.specs.Theorem.{counts-stand}
 use Rattle.device.specs.Outcomes.{holding, outcome, arrayOut, countsOut}
 use Rattle.line.specs.Forms.{stepOfLine}
@@ -43,14 +44,13 @@ use Rattle.lines.specs.Lines.{lines, lineEnd, lineNext, takenAt, next-later, li
 
 -- 1 "array length is not 256u": whatever the line, a form or none
 pub other-array : (m : Counted) (d : Decoded) → (length (m .machine .array) ≡ words (geometry (m .machine .state)) → ⊥) → answerOf m d ≡ Refused 1
-unfolding lineRefusal stepWith refusalWith firstRefusal deviceRefusal
-other-array m d h = go d (deviceRefusal (m .machine .state) (m .counts) (length (m .machine .array))) refl (rw (ne-eqb (length (m .machine .array)) (words (geometry (m .machine .state))) h))
-  where
-    go : (d : Decoded) (n : ℕ) → deviceRefusal (m .machine .state) (m .counts) (length (m .machine .array)) ≡ n → n ≡ 1 → answerOf m d ≡ Refused 1
-    go (Valid x) n e f =
-        let q : stepWith (m .machine .state) (m .counts) (m .machine .array) x ≡ next (m .machine .state) (Refused 1) = rw (e, f) in
-        ap (λ (y : Next). y .answer) q
-    go Invalid n e f = rw (e, f)
+unfolding lineRefusal stepWith firstRefusal
+other-array m (Valid x) h =
+    let e : stepWith (m .machine .state) (m .counts) (m .machine .array) x ≡ next (m .machine .state) (Refused 1) =
+    rw (length-refused (m .machine .state) (m .counts) (length (m .machine .array)) h x)
+    in
+    ap (λ (y : Next). y .answer) e
+other-array m Invalid h = rw (length-refused (m .machine .state) (m .counts) (length (m .machine .array)) h Reset)
 
 -- "Empty input prints `end 0`."
 pub empty-text : (xs : List ℕ) → transcriptOf xs [] ≡ text "end 0\n"
@@ -91,7 +91,7 @@ module _ (xs : List ℕ) (before : List (List ℕ)) (h : length xs ≡ words (ge
       let alone : m .machine ≡ afterAll (fresh BenchBottom xs) (stepsOfLines before) = ap (λ (k : Counted). k .machine) steps ∙ all-alone (freshWith BenchBottom xs) (stepsOfLines before) fresh-shared in
       let good : Good (m .machine) = subst (λ (k : Machine). Good k) (sym alone) (reached-good BenchBottom (stepsOfLines before) xs h) in
       let zero : sharedZero (m .counts .main) ≡ true = ap (λ (k : Counted). sharedZero (k .counts .main)) steps ∙ shared-all (freshWith BenchBottom xs) (stepsOfLines before) ∙ fresh-shared in
-      rw (e, device-alone (m .machine .state) (m .counts) zero (length (m .machine .array)), state-good (m .machine .state) (length (m .machine .array)) (good .size) (good .formed))
+      rw (e, refusal-alone (m .machine .state) (m .counts) zero (length (m .machine .array)) Reset, state-good (m .machine .state) (length (m .machine .array)) (good .size) (good .formed))
 
   -- "A line over 16 bytes, or empty, is refused 6."
   pub long-refused : (l : List ℕ) → 16 < length l → answerOf (afterLines (freshWith BenchBottom xs) before) (stepOfLine l) ≡ Refused 6
@@ -120,7 +120,7 @@ module _ (line : List ℕ) (d : Device) (number : ℕ) (k : Counts) (xs room : L
   }
 
   -- a line with none: nothing changed, and the refusal was printed
-  pub line-refused : (n : ℕ) (after : List ℕ) (next : ℕ) → stepOfLine line ≡ Invalid → n ≡ firstRefusal (deviceRefusal (d .state) k (length xs)) 6
+  pub line-refused : (n : ℕ) (after : List ℕ) (next : ℕ) → stepOfLine line ≡ Invalid → n ≡ firstRefusal (refusalWith (d .state) k (length xs) Reset) 6
       → Put room place (lineText number (Refused n)) after next → LinePlayed line d number k xs room place (record { device = d; place = next }) k xs after
   unfolding lineRefusal
   line-refused n after next e f p = record { machine = rw e; written = rw (e, ← f) p }

@@ -8,14 +8,15 @@ use lib.ListN.{length, take, drop}
 use Rattle.geometry.specs.declared.Part.the-variants.{BenchBottom}
 use Rattle.geometry.specs.Blocks.{geometryOf, words}
 use Rattle.semantics.specs.declared.Step.{Step}
+use Rattle.semantics.specs.declared.Step.the-variants.{Reset}
 use Rattle.semantics.specs.declared.Answer.{Answer}
 use Rattle.semantics.specs.declared.Answer.the-variants.{Refused}
 use Rattle.semantics.specs.declared.Decoded.{Decoded}
 use Rattle.semantics.specs.declared.Decoded.the-variants.{Valid, Invalid}
-use Rattle.semantics.specs.Steps.{firstRefusal}
+use Rattle.semantics.specs.Split.{firstRefusal}
 use Rattle.semantics.specs.Demand.{Demand3}
 use Rattle.wear.specs.Counts.{Counts}
-use Rattle.wear.specs.Steps.{deviceRefusal, Counted, beside, answerWith, afterWith, freshWith}
+use Rattle.wear.specs.Steps.{refusalWith, Counted, beside, answerWith, afterWith, freshWith}
 use Rattle.wear.specs.Claim.{CountsStand}
 use Rattle.device.specs.declared.Device.{Device}
 use Rattle.lines.specs.Lines.{lines}
@@ -34,9 +35,10 @@ scriptOf text = take 16384 text
 -- ---- a line played
 
 -- what a line without a form is refused for: 6 "script line not one of the forms below", but "The lowest number is given.", and 1 "array length is not 256u"
--- is given by "every step, and all else that takes an array" (and 2 by "all that take a device", though no script comes to a state that is not well formed)
+-- is given by "every step, and all else that takes an array" (and 2 by "all that take a device", though no script comes
+-- to a state that is not well formed): so what a reset is refused for comes first, which has no numbers of its own
 unfoldable pub lineRefusal : Counted → ℕ
-lineRefusal m = firstRefusal (deviceRefusal (m .machine .state) (m .counts) (length (m .machine .array))) 6
+lineRefusal m = firstRefusal (refusalWith (m .machine .state) (m .counts) (length (m .machine .array)) Reset) 6
 
 -- what a line answers: its step's answer, or that it is refused. "A line over 16 bytes, or empty" has no form
 abbrev pub answerOf : Counted → Decoded → Answer

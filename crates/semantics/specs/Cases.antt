@@ -23,7 +23,8 @@ use Rattle.semantics.specs.WellFormed.{runningAlone, programAlone, erase
 use Rattle.semantics.specs.Reading.{runsIn, statusWord, signatureWord, queryWord, shown, showsBy, readIn, readWord}
 use Rattle.semantics.specs.Writing.{commandOf, resume, accepts, setUp, clearStatus, firstCycle, programRuns, eraseCycle, lockCommandOf, lockCycle, settle, loads, countRight, firstRight, laterRight, confirmRight, confirmCycle, wordsCycle, cycle, keptIf, firstLoaded, wordsLoaded, heldAfter, loaded, writtenAt, written}
 use Rattle.semantics.specs.Working.{unitsLeft, unitsDone, runningAfter, wordAfter, arrayAfter, bufferAfter, workedOn, worked, workedArray}
-use Rattle.semantics.specs.Steps.{locationRefusal, addressRefusal, countRefusal, stepRefusal, stateRefusal, firstRefusal, refusalOf, switchedTo, accepted, acceptedArray, stepOf, arrayOf, reportedOf, Machine, after, fresh}
+use Rattle.semantics.specs.Card.{given, card}
+use Rattle.semantics.specs.Steps.{refusalOf, switchedTo, accepted, acceptedArray, stepOf, arrayOf, reportedOf, Machine, after, fresh}
 
 infixl 20 _⟶_
 -- a step, and what it answers
@@ -164,5 +165,5 @@ cases =
     ∷ []
 
 pub cases-hold : T (every cases)
-unfolding mirror blockFrom blockOf bankOf sizeOf startFrom startOf bankStart blockOffset bankOffset bankOfBlock lookupOf bit bitAt isUnprotected withUnprotected spareZero allProtected emptyBuffer powerUp runningAlone programAlone eraseAlone eraseFits wordsFit bufferFits setupFits runningFits programFits suspendedEraseFits allFit runningApart programApart apart activityFormed setupPlaces runningPlaces programPlaces placesUsed zeroFrom reservedZero runsSupplied wellFormed runsIn statusWord signatureWord queryWord shown showsBy readIn readWord commandOf endFlags ended endedIfUnsupplied resume accepts setUp clearStatus firstCycle programRuns eraseCycle lockCommandOf withoutReserved lockCycle settle loads countRight firstRight laterRight confirmRight confirmCycle wordsCycle cycle keptIf firstLoaded wordsLoaded heldAfter loaded writtenAt written unitsLeft unitsDone runningAfter wordAfter tabulate arrayAfter bufferAfter workedOn worked workedArray locationRefusal addressRefusal countRefusal stepRefusal stateRefusal firstRefusal refusalOf switched switchedTo accepted acceptedArray stepOf arrayOf
+unfolding mirror blockFrom blockOf bankOf sizeOf startFrom startOf bankStart blockOffset bankOffset bankOfBlock lookupOf bit bitAt isUnprotected withUnprotected spareZero allProtected emptyBuffer powerUp runningAlone programAlone eraseAlone eraseFits wordsFit bufferFits setupFits runningFits programFits suspendedEraseFits allFit runningApart programApart apart activityFormed setupPlaces runningPlaces programPlaces placesUsed zeroFrom reservedZero runsSupplied wellFormed runsIn statusWord signatureWord queryWord shown showsBy readIn readWord commandOf endFlags ended endedIfUnsupplied resume accepts setUp clearStatus firstCycle programRuns eraseCycle lockCommandOf withoutReserved lockCycle settle loads countRight firstRight laterRight confirmRight confirmCycle wordsCycle cycle keptIf firstLoaded wordsLoaded heldAfter loaded writtenAt written unitsLeft unitsDone runningAfter wordAfter tabulate arrayAfter bufferAfter workedOn worked workedArray given card refusalOf switched switchedTo accepted acceptedArray stepOf arrayOf
 cases-hold = tt

@@ -31,7 +31,7 @@ use Rattle.semantics.specs.Supplied.{of-switched, switched-on, switched-
 use Rattle.semantics.specs.WellFormed.{runsSupplied, wellFormed}
 use Rattle.semantics.specs.Writing.{commandOf, settle, cycle, loadedAt, writtenAt, written}
 use Rattle.semantics.specs.Working.{bufferAfter, workedOn, worked, workedArray}
-use Rattle.semantics.specs.Steps.{stateRefusal, refusalOf, switchedTo, accepted, acceptedArray, stepOf, arrayOf, numberOf}
+use Rattle.semantics.specs.Steps.{refusalOf, switchedTo, accepted, acceptedArray, stepOf, arrayOf, numberOf}
 use Rattle.semantics.specs.Refusals.{of-step, answer-number}
 
 -- each flag that is set in f is set in g
@@ -131,7 +131,7 @@ alike-cycle g v f c p w =
     (record { raises = λ x. refl; starts = λ r t. refl; protects = λ b. refl; stores = λ i l n. refl; loads = λ x. refl })
 
 alike-refusal : (s : State) (f : Flags) (n : ℕ) (x : Step) → refusalOf (withFlags s f) n x ≡ refusalOf s n x
-unfolding refusalOf stateRefusal wellFormed runsSupplied
+unfolding refusalOf wellFormed runsSupplied
 alike-refusal s f n x = refl
 
 -- the units that an answer tells of

@@ -41,7 +41,9 @@ use Rattle.semantics.specs.WellFormed.{wellFormed, activityFormed, runsS
 use Rattle.semantics.specs.Writing.{cycleAt, written, writtenAt}
 use Rattle.semantics.specs.Working.{unitsDone, runningAfter, bufferAfter, workedOn, worked, workedArray}
 use Rattle.semantics.specs.Arrays.{array-length, array-word}
-use Rattle.semantics.specs.Steps.{locationRefusal, addressRefusal, countRefusal, stepRefusal, stateRefusal, firstRefusal, refusalOf, next, switchedTo, accepted, acceptedArray, stepOf, arrayOf, Machine, after, afterAll, fresh}
+use Rattle.semantics.specs.Card.{given, card}
+use Rattle.semantics.specs.Split.{stepRefusal, firstRefusal, reset-refused, refused-first, address-good, address-bad, count-good, count-bad}
+use Rattle.semantics.specs.Steps.{refusalOf, next, switchedTo, accepted, acceptedArray, stepOf, arrayOf, Machine, after, afterAll, fresh}
 use Rattle.semantics.specs.Entries as entries
 use Rattle.semantics.specs.Entries.{Entry}
 use Rattle.semantics.specs.Recorder as recorder
@@ -54,46 +56,32 @@ use Rattle.semantics.specs.Spare.{Spared, length-empty, length-loaded, l
 
 -- ---- refusals
 
--- a state that is well formed, on an array of its part's length, is refused for neither
-pub state-good : (s : State) (n : ℕ) → n ≡ words (geometry s) → wellFormed s ≡ true → stateRefusal s n ≡ 0
-unfolding stateRefusal
-state-good s n h w = rw (eq-eqb n (words (geometry s)) h, w)
+-- a state that is well formed, on an array of its part's length, is refused for neither: a reset of it is not refused
+pub state-good : (s : State) (n : ℕ) → n ≡ words (geometry s) → wellFormed s ≡ true → refusalOf s n Reset ≡ 0
+unfolding refusalOf
+state-good s n h w = rw (reset-refused (geometry s) (wellFormed s) n, eq-eqb n (words (geometry s)) h, w)
 
-module _ (s : State) (xs : List ℕ) (good : stateRefusal s (length xs) ≡ 0) where
+module _ (s : State) (xs : List ℕ) (good : refusalOf s (length xs) Reset ≡ 0) where
+  -- so a step is refused for its own numbers
+  own : (x : Step) → refusalOf s (length xs) x ≡ stepRefusal (geometry s) x
+  unfolding refusalOf firstRefusal
+  own x = refused-first (geometry s) (wellFormed s) (length xs) x ∙ rw good
+
   pub step-done : (x : Step) → stepRefusal (geometry s) x ≡ 0 → stepOf s xs x ≡ accepted s xs x
-  unfolding stepOf refusalOf firstRefusal
-  step-done x h = rw (good, h)
+  unfolding stepOf
+  step-done x h = rw (own x, h)
 
   pub step-refused : (x : Step) (n : ℕ) → stepRefusal (geometry s) x ≡ suc n → stepOf s xs x ≡ next s (Refused (suc n))
-  unfolding stepOf refusalOf firstRefusal
-  step-refused x n h = rw (good, h, eqb·suc-zero n)
+  unfolding stepOf
+  step-refused x n h = rw (own x, h, eqb·suc-zero n)
 
   pub array-done : (x : Step) → stepRefusal (geometry s) x ≡ 0 → arrayOf s xs x ≡ acceptedArray s xs x
-  unfolding arrayOf refusalOf firstRefusal
-  array-done x h = rw (good, h)
+  unfolding arrayOf
+  array-done x h = rw (own x, h)
 
   pub array-refused : (x : Step) (n : ℕ) → stepRefusal (geometry s) x ≡ suc n → arrayOf s xs x ≡ xs
-  unfolding arrayOf refusalOf firstRefusal
-  array-refused x n h = rw (good, h, eqb·suc-zero n)
-
-module _ (g : Geometry) where
-  -- an address in range is refused for nothing: after reduction every location lies in a block
-  pub address-good : Sound g → (a : ℕ) → a < 16777216 → addressRefusal g a ≡ 0
-  unfolding addressRefusal locationRefusal
-  address-good sound a h =
-      rw (lt-leb 16777216 a h, lt-ltb (blockOf g (location g a)) (blocks g) (laws.block-lt g sound (location g a) (laws.location-lt g sound a)))
-
-  pub address-bad : (a : ℕ) → 16777216 ≤ a → addressRefusal g a ≡ 3
-  unfolding addressRefusal
-  address-bad a h = rw (le-leb 16777216 a h)
-
-pub count-good : (n : ℕ) → n ≤ 65535 → countRefusal n ≡ 0
-unfolding countRefusal
-count-good n h = rw (le-ltb 65535 n h)
-
-pub count-bad : (n : ℕ) → 65535 < n → countRefusal n ≡ 4
-unfolding countRefusal
-count-bad n h = rw (lt-ltb 65535 n h)
+  unfolding arrayOf
+  array-refused x n h = rw (own x, h, eqb·suc-zero n)
 
 -- ---- the array
 
@@ -150,7 +138,7 @@ no-conditions-yet : (s : State) → conditions (withSupply (powerUp (s .part)) (
 unfolding powerUp
 no-conditions-yet s = ap (λ (u : ℕ → Bool). record { supply = s .control .supply; unprotected = u; setup = recorder.no-setup }) (fun-ext (λ b. protection.all-none b))
 
-module _ (s : State) (xs : List ℕ) (good : stateRefusal s (length xs) ≡ 0) (fit : Fit s) where
+module _ (s : State) (xs : List ℕ) (good : refusalOf s (length xs) Reset ≡ 0) (fit : Fit s) where
   sound : Sound (geometry s)
   sound = laws.sound (s .part)
 
@@ -165,7 +153,7 @@ module _ (s : State) (xs : List ℕ) (good : stateRefusal s (length xs) ≡ 0) (
       rw (step-done s xs good x h, array-done s xs good x h, q, a) (f .0, f .1, λ L k. ap (λ (m : ℕ → ℕ). m L) (sym (f .2 (wordsOf xs))))
 
   steps-write : (a w : ℕ) → (a < 16777216) ⊎ (16777216 ≤ a) → Steps-of (eventOf (geometry s) s (Write a w)) s xs (Write a w)
-  unfolding stepRefusal accepted acceptedArray written
+  unfolding given card stepRefusal accepted acceptedArray written
   steps-write a w (inl h) =
       let k : blockOf (geometry s) (location (geometry s) a) < 259 = laws.part-block-lt (s .part) (location (geometry s) a) (laws.location-lt (geometry s) sound a) in
       rw (lt-ltb a 16777216 h)
@@ -174,15 +162,15 @@ module _ (s : State) (xs : List ℕ) (good : stateRefusal s (length xs) ≡ 0) (
   steps-write a w (inr h) = rw (le-ltb a 16777216 h) (refused-nothing (Write a w) 2 (address-bad (geometry s) a h))
 
   steps-read : (a : ℕ) → (a < 16777216) ⊎ (16777216 ≤ a) → Steps-of nothing s xs (Read a)
-  unfolding stepRefusal accepted acceptedArray
+  unfolding given card stepRefusal accepted acceptedArray
   steps-read a (inl h) = quiet nothing (Read a) s (address-good (geometry s) sound a h) refl refl (refl, refl, λ m. refl)
   steps-read a (inr h) = refused-nothing (Read a) 2 (address-bad (geometry s) a h)
 
   steps-work : (n : ℕ) → (65535 < n) ⊎ (n ≤ 65535) → Steps-of (eventOf (geometry s) s (Work n)) s xs (Work n)
-  unfolding stepRefusal accepted acceptedArray workedOn worked workedArray
-  steps-work n (inl h) = rw (lt-leb n 65535 h) (refused-nothing (Work n) 3 (count-bad n h))
+  unfolding given card stepRefusal accepted acceptedArray workedOn worked workedArray
+  steps-work n (inl h) = rw (lt-leb n 65535 h) (refused-nothing (Work n) 3 (count-bad (geometry s) n h))
   steps-work n (inr h) =
-      rw (le-leb n 65535 h, step-done s xs good (Work n) (count-good n h), array-done s xs good (Work n) (count-good n h)) (
+      rw (le-leb n 65535 h, step-done s xs good (Work n) (count-good (geometry s) n h), array-done s xs good (Work n) (count-good (geometry s) n h)) (
         ap (λ (c : recorder.Setup). record { supply = s .control .supply; unprotected = conditions s .unprotected; setup = c })
             (setup-stays (geometry s) (s .control .activity .setup) (s .control .activity .running) (runningAfter (geometry s) (s .control .activity .running) (unitsDone (geometry s) (s .control .activity .running) n)) (s .buffer)
             (held? (underWay s)) (fit .ready)),
@@ -202,7 +190,7 @@ module _ (s : State) (xs : List ℕ) (good : stateRefusal s (length xs) ≡ 0) (
 
   -- every step is the event that the recorder's rule makes of it
   pub steps : (x : Step) → Steps-of (eventOf (geometry s) s x) s xs x
-  unfolding stepRefusal accepted acceptedArray powerUp
+  unfolding given card stepRefusal accepted acceptedArray powerUp
   steps (Read a) = steps-read a (laws.order a 16777216)
   steps (Write a w) = steps-write a w (laws.order a 16777216)
   steps (Work n) = steps-work n (laws.order 65535 n)
@@ -307,7 +295,7 @@ agree-formed p xs₀ m c a =
     in
     rw (a .part, f, a .spare, a .spared, a .reserved, a .powered)
 
-agree-good : (p : Part) (xs₀ : List ℕ) (m : Machine) (c : Recorder) → Agree p xs₀ m c → stateRefusal (m .state) (length (m .array)) ≡ 0
+agree-good : (p : Part) (xs₀ : List ℕ) (m : Machine) (c : Recorder) → Agree p xs₀ m c → refusalOf (m .state) (length (m .array)) Reset ≡ 0
 agree-good p xs₀ m c a = state-good (m .state) (length (m .array)) (a .size ∙ ap (λ (q : Part). words (geometryOf q)) (sym (a .part))) (agree-formed p xs₀ m c a)
 
 -- the part of the state itself

@@ -7,16 +7,18 @@ use mathlib.Core.Bool.{Bool, true, false, _&&_}
 use Prim.Native.Nat.{ℕ}
 use lib.Dec.{eqb}
 use lib.ListN.{length}
-use borrow.Author.Tests.{eqb-true}
+use borrow.Author.Tests.{eqb-true, eqb-false}
 use Rattle.geometry.specs.Blocks.{geometryOf, words}
 use Rattle.geometry.specs.Laws as laws
 use Rattle.protection.specs.Words.{spareZero}
 use Rattle.semantics.specs.declared.State.{State}
 use Rattle.semantics.specs.declared.Step.{Step}
+use Rattle.semantics.specs.declared.Next.{Next}
 use Rattle.semantics.specs.State.{geometry}
 use Rattle.semantics.specs.Register.{reservedZero}
 use Rattle.semantics.specs.WellFormed.{wellFormed, activityFormed, placesUsed, zeroFrom, runsSupplied}
-use Rattle.semantics.specs.Steps.{stateRefusal, firstRefusal, refusalOf, stepOf, arrayOf}
+use Rattle.semantics.specs.Steps.{stepOf, arrayOf}
+use Rattle.semantics.specs.Refusals.{refusal-changes-nothing, refusal-1}
 use Rattle.semantics.specs.Entries.{Entry}
 use Rattle.semantics.specs.Recorder.{Operation, Event, journal-after}
 use Rattle.semantics.specs.Tests.{and-true-l, and-true-r}
@@ -85,14 +87,10 @@ keeps-good s xs x h b n w =
     z : activityFormed (geometry s) (t .control .activity) ≡ true
     z = formed (geometry s) (t .buffer) (laws.sound (s .part)) (conditions t) (t .control .activity .setup) (t .control .activity .running) (t .control .activity .program) (t .control .activity .erase) (journal-after (geometry s) v (ownOf s)) refl y
 
-refused-back : (s : State) (xs : List ℕ) (x : Step) → eqb (length xs) (words (geometry s)) ≡ false → stepOf s xs x .state ≡ s
-unfolding stepOf refusalOf firstRefusal stateRefusal
-refused-back s xs x e = rw e
-
 -- on any array: one of another length is refused, and the state given back
 pub keeps : (s : State) (xs : List ℕ) (x : Step) → length (s .unprotected) ≡ 5 → length (s .buffer) ≡ 32 → wellFormed s ≡ true → wellFormed (stepOf s xs x .state) ≡ true
 keeps s xs x h i w = go (eqb (length xs) (words (geometry s))) refl
   where
     go : (b : Bool) → eqb (length xs) (words (geometry s)) ≡ b → wellFormed (stepOf s xs x .state) ≡ true
     go true e = keeps-good s xs x h i (eqb-true (length xs) (words (geometry s)) e) w
-    go false e = ap wellFormed (refused-back s xs x e) ∙ w
+    go false e = ap (λ (n : Next). wellFormed (n .state)) (refusal-changes-nothing s xs x 0 (refusal-1 s (length xs) x (eqb-false _ _ e)) .0) ∙ w

@@ -14,6 +14,9 @@ pub mod Supplied
 pub mod RegisterBits
 pub mod Working
 pub mod Arrays
+pub mod Card
+pub mod CardCases
+pub mod Split
 pub mod Steps
 pub mod Exactly
 pub mod Cases

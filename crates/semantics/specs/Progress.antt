@@ -29,7 +29,8 @@ use Rattle.semantics.specs.State.{geometry, programSuspended, eraseSuspe
 use Rattle.semantics.specs.Buffer.{words-length}
 use Rattle.semantics.specs.WellFormed.{wellFormed}
 use Rattle.semantics.specs.Working.{unitsLeft, unitsDone}
-use Rattle.semantics.specs.Steps.{stepRefusal, stateRefusal, refusalOf, next, accepted, stepOf, Machine, after, afterAll, fresh}
+use Rattle.semantics.specs.Split.{count-good, count-bad}
+use Rattle.semantics.specs.Steps.{refusalOf, next, accepted, stepOf, Machine, after, afterAll, fresh}
 use Rattle.semantics.specs.Entries as entries
 use Rattle.semantics.specs.Entries.{Live, live, anyLive}
 use Rattle.semantics.specs.Recorder as recorder
@@ -42,7 +43,7 @@ use Rattle.semantics.specs.UnderWay.{conditions, addErase, addProgram, u
 use Rattle.semantics.specs.Follows.{eventOf}
 use Rattle.semantics.specs.Formed.{together}
 use Rattle.semantics.specs.Branches.{of-cond}
-use Rattle.semantics.specs.Invariant.{Steps, kept-step, agree-fit, steps, state-good, step-done, count-good, count-bad, step-refused, length-kept}
+use Rattle.semantics.specs.Invariant.{Steps, kept-step, agree-fit, steps, state-good, step-done, step-refused, length-kept}
 use Rattle.semantics.specs.Theorem.{reached, reached-formed}
 use Rattle.semantics.specs.Kept.{ownOf, formed-sim, keeps}
 use Rattle.semantics.specs.Flags.{toldBy}
@@ -324,7 +325,7 @@ module _ (m : Machine) (o : Good m) where
       lives-any (geometry (m .state)) (m .state .buffer) k (m .state .control .activity .running) (m .state .control .activity .program) (m .state .control .activity .erase)
       ∙ any-lacks (geometry (m .state)) k (stack (underWay (m .state))) (entries.match-short (kinds (geometry (m .state))) (simulated .match)) ∙ ap (λ (n : ℕ). ltb 0 n) (sym (left-here k))
 
-  unrefused : stateRefusal (m .state) (length (m .array)) ≡ 0
+  unrefused : refusalOf (m .state) (length (m .array)) Reset ≡ 0
   unrefused = state-good (m .state) (length (m .array)) (o .size) (o .formed)
 
   -- each step is an event
@@ -381,10 +382,10 @@ module _ (m : Machine) (o : Good m) where
   told-work : (k : Followed) (n : ℕ) → (65535 < n) ⊎ (n ≤ 65535) → (b : Bool) → runsNow k (m .state .control .activity .running) ≡ b
       → cond b (toldBy (stepOf (m .state) (m .array) (Work n) .answer)) 0
       ≡ min (cond b (cond (leb n 65535) n 0) 0) (cond b (unitsLeft (geometry (m .state)) (m .state .control .activity .running)) (suspendedLeft (geometry (m .state)) k (m .state .control .activity .program) (m .state .control .activity .erase)))
-  unfolding stepRefusal accepted unitsDone
+  unfolding accepted unitsDone
   told-work k n z false e = omega arith
-  told-work k n (inl i) true e = rw (step-refused (m .state) (m .array) unrefused (Work n) 3 (count-bad n i), lt-leb n 65535 i) (omega arith)
-  told-work k n (inr i) true e = rw (step-done (m .state) (m .array) unrefused (Work n) (count-good n i), le-leb n 65535 i)
+  told-work k n (inl i) true e = rw (step-refused (m .state) (m .array) unrefused (Work n) 3 (count-bad (geometry (m .state)) n i), lt-leb n 65535 i) (omega arith)
+  told-work k n (inr i) true e = rw (step-done (m .state) (m .array) unrefused (Work n) (count-good (geometry (m .state)) n i), le-leb n 65535 i)
 
   -- an answer that tells of no unit
   told-none : (k : Followed) (x : Step) → toldBy (accepted (m .state) (m .array) x .answer) ≡ 0 → told k m x ≡ 0

@@ -22,7 +22,8 @@ use Rattle.semantics.specs.RegisterBits.{zero-each}
 use Rattle.semantics.specs.WellFormed.{activityFormed, placesUsed, zeroFrom, runsSupplied, wellFormed}
 use Rattle.semantics.specs.Reading.{readWord}
 use Rattle.semantics.specs.Working.{unitsDone}
-use Rattle.semantics.specs.Steps.{stateRefusal, firstRefusal, refusalOf, next, accepted, acceptedArray, stepOf, arrayOf, numberOf, valueOf, reportedOf}
+use Rattle.semantics.specs.Split.{firstRefusal, reset-refused, refused-first}
+use Rattle.semantics.specs.Steps.{refusalOf, next, accepted, acceptedArray, stepOf, arrayOf, numberOf, valueOf, reportedOf}
 
 -- what holds of a step that is accepted, and of one that is refused, holds of every step; and so of the array
 pub of-step : (P : Next → Type 0) (s : State) (xs : List ℕ) (x : Step) → P (accepted s xs x)
@@ -76,13 +77,17 @@ answer-value s xs x = value-by s xs x (refusalOf s (length xs) x)
 
 -- "array length is not 256u": every step is refused 1, whatever the state
 pub refusal-1 : (s : State) (n : ℕ) (x : Step) → (n ≡ words (geometry s) → ⊥) → refusalOf s n x ≡ 1
-unfolding refusalOf firstRefusal stateRefusal
-refusal-1 s n x h = rw (ne-eqb n (words (geometry s)) h)
+unfolding refusalOf firstRefusal
+refusal-1 s n x h =
+    refused-first (geometry s) (wellFormed s) n x
+    ∙ rw (reset-refused (geometry s) (wellFormed s) n, ne-eqb n (words (geometry s)) h)
 
 -- "state not well made", on an array of the part's length: every step is refused 2, and so is the report of unprotected blocks
 pub refusal-2 : (s : State) (n : ℕ) (x : Step) → n ≡ words (geometry s) → wellFormed s ≡ false → refusalOf s n x ≡ 2
-unfolding refusalOf firstRefusal stateRefusal
-refusal-2 s n x h f = rw (eq-eqb n (words (geometry s)) h, f)
+unfolding refusalOf firstRefusal
+refusal-2 s n x h f =
+    refused-first (geometry s) (wellFormed s) n x
+    ∙ rw (reset-refused (geometry s) (wellFormed s) n, eq-eqb n (words (geometry s)) h, f)
 
 pub report-refused : (s : State) → wellFormed s ≡ false → reportedOf s ≡ record { refusal = 2; count = 0; lowest = 0 }
 unfolding reportedOf

@@ -3,11 +3,9 @@
 use Prim.Native.Nat.{ℕ}
 use mathlib.Core.Bool.{Bool, cond}
 use mathlib.Core.List.{List, [], _∷_}
-use lib.Dec.{eqb, ltb, leb}
+use lib.Dec.{eqb}
 use lib.ListN.{length}
 use Rattle.geometry.specs.declared.Part.{Part}
-use Rattle.geometry.specs.declared.Geometry.{Geometry}
-use Rattle.geometry.specs.Blocks.{words, blocks, location, blockOf}
 use Rattle.protection.specs.Words.{reportOf}
 use Rattle.semantics.specs.declared.State.{State}
 use Rattle.semantics.specs.declared.Step.{Step}
@@ -19,43 +17,14 @@ use Rattle.semantics.specs.declared.Reported.{Reported}
 use Rattle.semantics.specs.State.{geometry, withControl, withBuffer, withSupply, powerUp}
 use Rattle.semantics.specs.Supply.{switched}
 use Rattle.semantics.specs.WellFormed.{wellFormed}
+use Rattle.semantics.specs.Card.{given, card}
 use Rattle.semantics.specs.Reading.{readWord}
 use Rattle.semantics.specs.Writing.{written}
 use Rattle.semantics.specs.Working.{unitsDone, bufferAfter, worked, workedArray}
 
--- ---- refusals: 0 where there is none, else the lowest number of the card that applies
-
--- 5 "location lies in no block"
-unfoldable pub locationRefusal : Geometry → ℕ → ℕ
-locationRefusal g l = cond (ltb (blockOf g l) (blocks g)) 0 5
-
--- 3 "address 16,777,216 or more", then 5
-unfoldable pub addressRefusal : Geometry → ℕ → ℕ
-addressRefusal g address = cond (leb 16777216 address) 3 (locationRefusal g (location g address))
-
--- 4 "work count above 65,535"
-unfoldable pub countRefusal : ℕ → ℕ
-countRefusal n = cond (ltb 65535 n) 4 0
-
--- what a step's own numbers are refused for
-unfoldable pub stepRefusal : Geometry → Step → ℕ
-stepRefusal g (Read address) = addressRefusal g address
-stepRefusal g (Write address w) = addressRefusal g address
-stepRefusal g (Work n) = countRefusal n
-stepRefusal g (Supply on) = 0
-stepRefusal g Reset = 0
-
--- 1 "array length is not 256u", then 2 "state not well made"
-unfoldable pub stateRefusal : State → ℕ → ℕ
-stateRefusal s n = cond (eqb n (words (geometry s))) (cond (wellFormed s) 0 2) 1
-
--- the first of two that is not 0
-unfoldable pub firstRefusal : ℕ → ℕ → ℕ
-firstRefusal a b = cond (eqb a 0) b a
-
--- the refusal of a step on an array of n words
+-- the refusal of a step on an array of n words, 0 where there is none: the card's
 unfoldable pub refusalOf : State → ℕ → Step → ℕ
-refusalOf s n x = firstRefusal (stateRefusal s n) (stepRefusal (geometry s) x)
+refusalOf s n x = given (card (geometry s) (wellFormed s) n x)
 
 -- ---- a step
 

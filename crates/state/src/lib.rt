@@ -16,10 +16,9 @@ use semantics::SuspendedProgram;
 use semantics::View;
 ghost use mathlib.Core.List.{List};
 ghost use mathlib.Core.Path.{_≡_};
-ghost use mathlib.Core.Bool.{cond};
 ghost use Prim.Native.Nat.{_<_};
-ghost use lib.Dec.{eqb};
-ghost use Rattle.geometry.specs.Blocks.{geometryOf, words};
+ghost use Rattle.geometry.specs.declared.Geometry.{Geometry};
+ghost use Rattle.geometry.specs.Blocks.{geometryOf};
 ghost use Rattle.semantics.specs.declared.Bank.{Bank};
 ghost use Rattle.semantics.specs.State.{withProtection, withSupply, modeIn, flagsOf, noFlags, joined, powerUp};
 ghost use Rattle.semantics.specs.View.{placeOf, viewAt, withView};
@@ -27,7 +26,8 @@ ghost use Rattle.semantics.specs.Register.{withoutReserved, reservedZero};
 ghost use Rattle.semantics.specs.Supply.{endFlags, ended, switched};
 ghost use Rattle.semantics.specs.WellFormed.{runsSupplied, wellFormed};
 ghost use Rattle.semantics.specs.Working.{bufferAfter};
-ghost use Rattle.semantics.specs.Steps.{addressRefusal, countRefusal, stepRefusal, firstRefusal};
+ghost use Rattle.semantics.specs.Card.{given, card};
+ghost use Rattle.semantics.specs.Split.{stepRefusal, firstRefusal};
 
 // ---- one field changed
 
@@ -280,9 +280,10 @@ pub fn well_formed(s: State) -> bool
     formed_of(part, c, words, buffer)
 }
 
-// The refusal beside an array of n words of a state of the part that is well formed or not, 0 where there is none: 1 for the length, or else 2 for the state.
+// What every step is refused for, and a reset for nothing else, beside an array of n words and a state of the part that
+// is well formed or not: 1 for the length, or else 2 for the state, or else 0.
 pub fn refusal_beside(part: Part, formed: bool, n: usize) -> u32
-    ensures { λ r. ⌜ r ≡ cond (eqb n (words (geometryOf part))) (cond formed 0 2) 1 ⌝ }
+    ensures { λ r. ⌜ r ≡ given (card (geometryOf part) formed n Step.Reset) ⌝ }
 {
     if n != geometry::length_of(part) as usize {
         return 1;
@@ -293,10 +294,10 @@ pub fn refusal_beside(part: Part, formed: bool, n: usize) -> u32
     2
 }
 
-// The refusal of an address, 0 where there is none. It is 3 where the address is too large; 5, its location in no block, is not tested, since every location
-// lies in a block (`address-good` of semantics).
+// The refusal of an address, of a read's as of a write's, 0 where there is none. It is 3 where the address is too large;
+// 5, its location in no block, is not tested, since every location lies in a block (`address-good` of semantics).
 pub fn address_refusal(part: Part, address: u32) -> u32
-    ensures { λ r. ⌜ r ≡ addressRefusal (geometryOf part) address ⌝ }
+    ensures { λ r. ⌜ r ≡ stepRefusal (geometryOf part) (Step.Read address) ⌝ }
 {
     if 16777216 <= address {
         return 3;
@@ -319,7 +320,7 @@ pub fn step_refusal(part: Part, x: Step) -> u32
 
 // The refusal of a work count, 0 where there is none.
 pub fn count_refusal(n: u32) -> u32
-    ensures { λ r. ⌜ r ≡ countRefusal n ⌝ }
+    ensures { λ r. ⌜ ((g : Geometry) → r ≡ stepRefusal g (Step.Work n)) ⌝ }
 {
     if 65535 < n {
         return 4;

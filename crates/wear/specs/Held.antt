@@ -23,16 +23,17 @@ use Rattle.semantics.specs.Reading.{readWord}
 use Rattle.semantics.specs.Writing.{writtenAt, written}
 use Rattle.semantics.specs.Working.{unitsDone, arrayAfter, bufferAfter, workedOn, worked, workedArray}
 use Rattle.semantics.specs.WellFormed.{wellFormed}
-use Rattle.semantics.specs.Steps.{stepRefusal, firstRefusal, next, switchedTo, accepted, acceptedArray, stepOf, arrayOf}
+use Rattle.semantics.specs.Split.{stepRefusal, firstRefusal}
+use Rattle.semantics.specs.Steps.{next, switchedTo, accepted, acceptedArray, stepOf, arrayOf}
 use Rattle.semantics.specs.Invariant.{Kept, kept-step, length-accepted, length-kept, state-good}
 use Rattle.semantics.specs.Kept.{keeps}
 use Rattle.wear.specs.Counts.{Counts, sharedZero, countsAfter}
-use Rattle.wear.specs.Steps.{formedWith, deviceRefusal, refusalWith, acceptedCounts, stepWith, arrayWith, countsWith}
-use Rattle.wear.specs.Refused.{shared-kept, device-alone, step-alone, array-alone, bad-refused}
+use Rattle.wear.specs.Steps.{formedWith, refusalWith, acceptedCounts, stepWith, arrayWith, countsWith}
+use Rattle.wear.specs.Refused.{shared-kept, reset-with, refusal-first, refusal-alone, step-alone, array-alone, bad-refused}
 
--- a is what every step on the state, its counts and the array is refused for, or 0
+-- a is what every step on the state, its counts and the array is refused for, and a reset for nothing else, or 0
 pub record Held (a : ℕ) (s : State) (k : Counts) (xs : List ℕ) : Type 0 where
-  pub same : a ≡ deviceRefusal s k (length xs)
+  pub same : a ≡ refusalWith s k (length xs) Reset
   pub sixteen : length (s .banks) ≡ 16
   pub five : length (s .unprotected) ≡ 5
   pub thirty-two : length (s .buffer) ≡ 32
@@ -43,24 +44,24 @@ both true true false h = absurd (omega (arith, h))
 both true false c h = absurd (omega (arith, h))
 both false b c h = absurd (omega (arith, h))
 
-good-both : (s : State) (k : Counts) (n : ℕ) → deviceRefusal s k n ≡ 0 → (eqb n (words (geometry s)) ≡ true) × (wellFormed s ≡ true) × (sharedZero (k .main) ≡ true)
-unfolding deviceRefusal formedWith
-good-both s k n h = both (eqb n (words (geometry s))) (wellFormed s) (sharedZero (k .main)) h
+good-both : (s : State) (k : Counts) (n : ℕ) → refusalWith s k n Reset ≡ 0 → (eqb n (words (geometry s)) ≡ true) × (wellFormed s ≡ true) × (sharedZero (k .main) ≡ true)
+unfolding formedWith
+good-both s k n h = both (eqb n (words (geometry s))) (wellFormed s) (sharedZero (k .main)) (sym (reset-with s k n) ∙ h)
 
 module _ (s : State) (k : Counts) (xs : List ℕ) (x : Step) where
   -- a state that is not refused is not refused after a step, and keeps its shape
-  good-next : length (s .unprotected) ≡ 5 → length (s .buffer) ≡ 32 → deviceRefusal s k (length xs) ≡ 0 → deviceRefusal (stepWith s k xs x .state) (countsWith s k xs x) (length (arrayWith s k xs x)) ≡ 0
+  good-next : length (s .unprotected) ≡ 5 → length (s .buffer) ≡ 32 → refusalWith s k (length xs) Reset ≡ 0 → refusalWith (stepWith s k xs x .state) (countsWith s k xs x) (length (arrayWith s k xs x)) Reset ≡ 0
   good-next f i h =
       let b = good-both s k (length xs) h in
       let q : Kept s (stepOf s xs x .state) = kept-step s xs x f in
-      rw (step-alone s k (b .2) xs x, array-alone s k (b .2) xs x, device-alone (stepOf s xs x .state) (countsWith s k xs x) (shared-kept s k xs x ∙ b .2))
+      rw (step-alone s k (b .2) xs x, array-alone s k (b .2) xs x, refusal-alone (stepOf s xs x .state) (countsWith s k xs x) (shared-kept s k xs x ∙ b .2) _ Reset)
       (state-good (stepOf s xs x .state) (length (arrayOf s xs x))
       (length-kept s xs x ∙ eqb-true (length xs) (words (geometry s)) (b .0) ∙ ap (λ (p : Part). words (geometryOf p)) (sym (q .part))) (keeps s xs x f i (b .1)))
 
   -- where it is refused, every step is, alike
-  bad-next : eqb (deviceRefusal s k (length xs)) 0 ≡ false → (stepWith s k xs x .state ≡ s) × (arrayWith s k xs x ≡ xs) × (countsWith s k xs x ≡ k)
-  unfolding stepWith arrayWith countsWith refusalWith firstRefusal
-  bad-next h = (rw (h, h), rw (h, h), rw (h, h))
+  bad-next : eqb (refusalWith s k (length xs) Reset) 0 ≡ false → (stepWith s k xs x .state ≡ s) × (arrayWith s k xs x ≡ xs) × (countsWith s k xs x ≡ k)
+  unfolding stepWith arrayWith countsWith firstRefusal
+  bad-next h = let e = refusal-first s k (length xs) x in (rw (e, h, h), rw (e, h, h), rw (e, h, h))
 
   kept-with : length (s .unprotected) ≡ 5 → Kept s (stepWith s k xs x .state)
   kept-with f = go (sharedZero (k .main)) refl
@@ -81,10 +82,10 @@ module _ (s : State) (k : Counts) (xs : List ℕ) (x : Step) where
   pub held-next : (a : ℕ) → Held a s k xs → Held a (stepWith s k xs x .state) (countsWith s k xs x) (arrayWith s k xs x)
   held-next a r =
       let q : Kept s (stepWith s k xs x .state) = kept-with (r .five) in
-      record { same = r .same ∙ sym (go (eqb (deviceRefusal s k (length xs)) 0) refl); sixteen = q .sixteen (r .sixteen); five = q .five ∙ r .five; thirty-two = q .thirty-two (r .thirty-two) }
+      record { same = r .same ∙ sym (go (eqb (refusalWith s k (length xs) Reset) 0) refl); sixteen = q .sixteen (r .sixteen); five = q .five ∙ r .five; thirty-two = q .thirty-two (r .thirty-two) }
     where
-      go : (b : Bool) → eqb (deviceRefusal s k (length xs)) 0 ≡ b → deviceRefusal (stepWith s k xs x .state) (countsWith s k xs x) (length (arrayWith s k xs x)) ≡ deviceRefusal s k (length xs)
-      go true e = let z = eqb-true (deviceRefusal s k (length xs)) 0 e in good-next (r .five) (r .thirty-two) z ∙ sym z
+      go : (b : Bool) → eqb (refusalWith s k (length xs) Reset) 0 ≡ b → refusalWith (stepWith s k xs x .state) (countsWith s k xs x) (length (arrayWith s k xs x)) Reset ≡ refusalWith s k (length xs) Reset
+      go true e = let z = eqb-true (refusalWith s k (length xs) Reset) 0 e in good-next (r .five) (r .thirty-two) z ∙ sym z
       go false e = let q = bad-next e in rw (q .0, q .1, q .2)
 
 -- the state t, the answer a, the array ys and the counts l are what the step x makes of the state with its counts and the array
@@ -94,8 +95,7 @@ Does s k xs x t a ys l = (next t a ≡ stepWith s k xs x) × (ys ≡ arrayWith s
 -- a step, by the refusal e that was found for it, and by its kind
 module _ (c : ℕ) (s : State) (k : Counts) (xs : List ℕ) (r : Held c s k xs) (x : Step) (d e : ℕ) (own : d ≡ stepRefusal (geometry s) x) (found : e ≡ firstRefusal c d) (t : State) (a : Answer) (ys : List ℕ) (l : Counts) where
   refusal-is : refusalWith s k (length xs) x ≡ e
-  unfolding refusalWith
-  refusal-is = rw (← r .same, ← own, ← found)
+  refusal-is = refusal-first s k (length xs) x ∙ rw (← r .same, ← own, ← found)
 
   pub does-refused : (e ≡ 0 → ⊥) → t ≡ s → a ≡ Refused e → ys ≡ xs → l ≡ k → Does s k xs x t a ys l
   unfolding stepWith arrayWith countsWith

@@ -20,11 +20,12 @@ use Rattle.semantics.specs.declared.Running.{Running}
 use Rattle.semantics.specs.declared.Running.the-variants as running
 use Rattle.semantics.specs.declared.Answer.the-variants.{Refused}
 use Rattle.semantics.specs.State.{geometry, runs}
-use Rattle.semantics.specs.Branches.{of-cond}
+use Rattle.semantics.specs.Branches.{of-cond, by-test}
 use Rattle.semantics.specs.WellFormed.{wellFormed}
-use Rattle.semantics.specs.Steps.{stepRefusal, stateRefusal, firstRefusal, refusalOf, next, accepted, acceptedArray, stepOf, arrayOf, reportedOf, Machine, after, afterAll, answersOf}
+use Rattle.semantics.specs.Split.{stepRefusal, firstRefusal, reset-refused, refused-first}
+use Rattle.semantics.specs.Steps.{refusalOf, next, accepted, acceptedArray, stepOf, arrayOf, reportedOf, Machine, after, afterAll, answersOf}
 use Rattle.wear.specs.Counts.{Counts, lent, rowOf, placeIn, countAt, countOf, sharedZero, noCounts, putAt, withCount, oneMore, countsAfter}
-use Rattle.wear.specs.Steps.{formedWith, deviceRefusal, refusalWith, stepWith, arrayWith, countsWith, acceptedCounts, reportedWith, mostWornWith, eraseCountWith, Counted, afterWith, afterAllWith, answersWith}
+use Rattle.wear.specs.Steps.{formedWith, refusalWith, stepWith, arrayWith, countsWith, acceptedCounts, reportedWith, mostWornWith, eraseCountWith, Counted, afterWith, afterAllWith, answersWith}
 use Rattle.wear.specs.Places.{placed, Shaped, count-with}
 
 -- ---- a step that leaves the array, or the counts, where it is accepted
@@ -111,6 +112,23 @@ pub fresh-shared : sharedZero (noCounts .main) ≡ true
 unfolding sharedZero countAt noCounts
 fresh-shared = refl
 
+-- ---- a refusal in its two parts
+
+module _ (s : State) (k : Counts) (n : ℕ) where
+  -- what every step is refused for
+  pub reset-with : refusalWith s k n Reset ≡ cond (eqb n (words (geometry s))) (cond (formedWith s k) 0 2) 1
+  unfolding refusalWith
+  reset-with = reset-refused (geometry s) (formedWith s k) n
+
+  -- then a step for its own numbers
+  pub refusal-first : (x : Step) → refusalWith s k n x ≡ firstRefusal (refusalWith s k n Reset) (stepRefusal (geometry s) x)
+  unfolding refusalWith
+  refusal-first x = refused-first (geometry s) (formedWith s k) n x
+
+  pub length-refused : (n ≡ words (geometry s) → ⊥) → (x : Step) → refusalWith s k n x ≡ 1
+  unfolding firstRefusal
+  length-refused h x = rw (refusal-first x, reset-with, ne-eqb n (words (geometry s)) h)
+
 -- ---- where it is not 0
 
 module _ (s : State) (k : Counts) (bad : sharedZero (k .main) ≡ false) where
@@ -124,15 +142,11 @@ module _ (s : State) (k : Counts) (bad : sharedZero (k .main) ≡ false) where
 
   -- every step is refused, 1 for the array's length or else 2, and gives the state back (the array and the counts: `refused-nothing`)
   pub bad-refused : (xs : List ℕ) (x : Step) → stepWith s k xs x ≡ next s (Refused (cond (eqb (length xs) (words (geometry s))) 2 1))
-  unfolding stepWith refusalWith deviceRefusal firstRefusal
-  bad-refused xs x = rw formed-bad (go (eqb (length xs) (words (geometry s))))
-    where
-      r : ℕ
-      r = stepRefusal (geometry s) x
-
-      go : (t : Bool) → cond (eqb (cond (eqb (cond t 2 1) 0) r (cond t 2 1)) 0) (accepted s xs x) (next s (Refused (cond (eqb (cond t 2 1) 0) r (cond t 2 1)))) ≡ next s (Refused (cond t 2 1))
-      go true = refl
-      go false = refl
+  unfolding stepWith firstRefusal
+  bad-refused xs x =
+      let f = refusal-first s k (length xs) x in
+      let r = reset-with s k (length xs) in
+      by-test (eqb (length xs) (words (geometry s))) (λ e. rw (f, r, formed-bad, e)) (λ e. rw (f, r, formed-bad, e))
 
   pub bad-reported : reportedWith s k ≡ record { refusal = 2; count = 0; lowest = 0 }
   unfolding reportedWith
@@ -157,13 +171,9 @@ module _ (s : State) (k : Counts) (zero : sharedZero (k .main) ≡ true) where
       go true = refl
       go false = refl
 
-  pub device-alone : (n : ℕ) → deviceRefusal s k n ≡ stateRefusal s n
-  unfolding deviceRefusal stateRefusal
-  device-alone n = rw formed-alone
-
-  refusal-alone : (n : ℕ) (x : Step) → refusalWith s k n x ≡ refusalOf s n x
+  pub refusal-alone : (n : ℕ) (x : Step) → refusalWith s k n x ≡ refusalOf s n x
   unfolding refusalWith refusalOf
-  refusal-alone n x = rw (device-alone n)
+  refusal-alone n x = rw formed-alone
 
   -- a step is the step of the device alone
   pub step-alone : (xs : List ℕ) (x : Step) → stepWith s k xs x ≡ stepOf s xs x

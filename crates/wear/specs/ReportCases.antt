@@ -22,11 +22,12 @@ use Rattle.semantics.specs.Supply.{endFlags, ended, endedIfUnsupplied, switched
 use Rattle.semantics.specs.WellFormed.{runningAlone, programAlone, eraseAlone, eraseFits, wordsFit, bufferFits, setupFits, runningFits, programFits, suspendedEraseFits, allFit, runningApart, programApart, apart, activityFormed, setupPlaces, runningPlaces, programPlaces, placesUsed, zeroFrom, runsSupplied, wellFormed}
 use Rattle.semantics.specs.Writing.{commandOf, resume, accepts, setUp, clearStatus, firstCycle, programRuns, eraseCycle, lockCommandOf, lockCycle, settle, loads, countRight, firstRight, laterRight, confirmRight, confirmCycle, wordsCycle, cycle, keptIf, firstLoaded, wordsLoaded, heldAfter, loaded, writtenAt, written}
 use Rattle.semantics.specs.Working.{unitsLeft, unitsDone, runningAfter, bufferAfter, workedOn, worked}
-use Rattle.semantics.specs.Steps.{locationRefusal, addressRefusal, countRefusal, stepRefusal, firstRefusal, switchedTo, accepted}
+use Rattle.semantics.specs.Card.{given, card}
+use Rattle.semantics.specs.Steps.{switchedTo, accepted}
 use Rattle.semantics.specs.Recorder.{journalOf}
 use Rattle.wear.specs.declared.Worn.{Worn}
 use Rattle.wear.specs.Counts.{Counts, lent, rowOf, placeIn, countAt, countOf, sharedZero, noCounts, putAt, withCount, oneMore, countsAfter, greatest, mostWorn}
-use Rattle.wear.specs.Steps.{formedWith, deviceRefusal, refusalWith, acceptedCounts, stepWith, arrayWith, countsWith, reportedWith, mostWornWith, eraseCountWith, Counted, beside, answerWith, afterWith}
+use Rattle.wear.specs.Steps.{formedWith, refusalWith, acceptedCounts, stepWith, arrayWith, countsWith, reportedWith, mostWornWith, eraseCountWith, Counted, beside, answerWith, afterWith}
 use Rattle.wear.specs.Claim.{finishedErases, CountsStand}
 use Rattle.wear.specs.CountCases.{up, rows, at, smalls, spread}
 use Rattle.wear.specs.WearCases.{zero-four, one-nineteen, none, four, erasing, waiting, unsupplied, unprotected, stepsOf, sixA, sixB}
@@ -150,7 +151,7 @@ refusalsWhole =
     ∷ refused 3 (beside two-unprotected (replicate 16384 0x1234) spread-zero) (Write 0x1000000 0xB0) ∷ []
 
 pub refusals-hold : (map answerOf refusalsWhole ≡ map numberOf refusalsWhole) × (map leftOf refusalsWhole ≡ map givenOf refusalsWhole)
-unfolding mirror blockFrom blockOf sizeOf startFrom startOf bit spareZero allProtected emptyBuffer powerUp runningAlone programAlone eraseAlone eraseFits wordsFit bufferFits setupFits runningFits programFits suspendedEraseFits allFit runningApart programApart apart activityFormed setupPlaces runningPlaces programPlaces placesUsed zeroFrom reservedZero runsSupplied wellFormed locationRefusal addressRefusal countRefusal stepRefusal firstRefusal countAt sharedZero formedWith deviceRefusal refusalWith stepWith arrayWith countsWith
+unfolding mirror blockFrom blockOf sizeOf startFrom startOf bit spareZero allProtected emptyBuffer powerUp runningAlone programAlone eraseAlone eraseFits wordsFit bufferFits setupFits runningFits programFits suspendedEraseFits allFit runningApart programApart apart activityFormed setupPlaces runningPlaces programPlaces placesUsed zeroFrom reservedZero runsSupplied wellFormed given card countAt sharedZero formedWith refusalWith stepWith arrayWith countsWith
 refusals-hold = (refl, refl)
 
 -- ---- the full parts: no array is needed for the counts of a step that is accepted

@@ -7,7 +7,6 @@ use mathlib.Core.List.{List, [], _∷_}
 use lib.Dec.{eqb}
 use lib.ListN.{length}
 use Rattle.geometry.specs.declared.Part.{Part}
-use Rattle.geometry.specs.Blocks.{words}
 use Rattle.protection.specs.Words.{reportOf}
 use Rattle.semantics.specs.declared.State.{State}
 use Rattle.semantics.specs.declared.Step.{Step}
@@ -19,7 +18,8 @@ use Rattle.semantics.specs.declared.Reported.{Reported}
 use Rattle.semantics.specs.State.{geometry}
 use Rattle.semantics.specs.WellFormed.{wellFormed}
 use Rattle.semantics.specs.Working.{unitsDone, runningAfter}
-use Rattle.semantics.specs.Steps.{stepRefusal, firstRefusal, next, accepted, acceptedArray, Machine, fresh}
+use Rattle.semantics.specs.Card.{given, card}
+use Rattle.semantics.specs.Steps.{next, accepted, acceptedArray, Machine, fresh}
 use Rattle.wear.specs.declared.Worn.{Worn}
 use Rattle.wear.specs.Counts.{Counts, countOf, sharedZero, noCounts, countsAfter, mostWorn}
 
@@ -29,13 +29,9 @@ use Rattle.wear.specs.Counts.{Counts, countOf, sharedZero, noCounts, cou
 unfoldable pub formedWith : State → Counts → Bool
 formedWith s k = wellFormed s && sharedZero (k .main)
 
--- 1 for an array of n words, then 2
-unfoldable pub deviceRefusal : State → Counts → ℕ → ℕ
-deviceRefusal s k n = cond (eqb n (words (geometry s))) (cond (formedWith s k) 0 2) 1
-
--- the refusal of a step: these, then what the step's own numbers are refused for
+-- the refusal of a step on an array of n words, 0 where there is none: the card's
 unfoldable pub refusalWith : State → Counts → ℕ → Step → ℕ
-refusalWith s k n x = firstRefusal (deviceRefusal s k n) (stepRefusal (geometry s) x)
+refusalWith s k n x = given (card (geometry s) (formedWith s k) n x)
 
 -- ---- a step
 

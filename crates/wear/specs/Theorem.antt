@@ -23,7 +23,8 @@ use Rattle.semantics.specs.declared.Step.{Step}
 use Rattle.semantics.specs.declared.Step.the-variants.{Read, Write, Work, Supply, Reset}
 use Rattle.semantics.specs.State.{geometry, runs}
 use Rattle.semantics.specs.Working.{unitsLeft, unitsDone, runningAfter}
-use Rattle.semantics.specs.Steps.{stepRefusal, firstRefusal, Machine}
+use Rattle.semantics.specs.Split.{firstRefusal, count-good, count-bad}
+use Rattle.semantics.specs.Steps.{Machine}
 use Rattle.semantics.specs.Entries as entries
 use Rattle.semantics.specs.Entries.{Entry, entry, Live, live, isFinished, idle-worked}
 use Rattle.semantics.specs.Recorder.{Operation, Conditions, Recorder, beginning, recorded, recordedAll}
@@ -33,11 +34,11 @@ use Rattle.semantics.specs.Engine.{stack, busy, held?, Matches, rules-agree}
 use Rattle.semantics.specs.Events.{OnJournal, adds, works, rephases, changes}
 use Rattle.semantics.specs.Causes.{Cause, by-work, cause}
 use Rattle.semantics.specs.Follows.{conditions, underWay, underWayOf, eventOf}
-use Rattle.semantics.specs.Invariant.{Agree, agree-formed, agree-after, agree-fresh, state-good, count-good, count-bad}
+use Rattle.semantics.specs.Invariant.{Agree, agree-formed, agree-after, agree-fresh, state-good}
 use Rattle.wear.specs.Counts.{Counts, rowOf, placeIn, countAt, countOf, sharedZero, noCounts, oneMore, countsAfter}
-use Rattle.wear.specs.Steps.{deviceRefusal, refusalWith, acceptedCounts, countsWith, Counted, afterWith, afterAllWith, freshWith}
+use Rattle.wear.specs.Steps.{refusalWith, acceptedCounts, countsWith, Counted, afterWith, afterAllWith, freshWith}
 use Rattle.wear.specs.Places.{placed, Shaped, count-with, shape-with}
-use Rattle.wear.specs.Refused.{isWork, only-work, shared-kept, shared-all, fresh-shared, device-alone, after-alone}
+use Rattle.wear.specs.Refused.{isWork, only-work, shared-kept, shared-all, fresh-shared, refusal-first, refusal-alone, after-alone}
 use Rattle.wear.specs.Claim.{erases, isFinishedErase, finishedErases, CountsStand}
 
 -- ---- what an event makes of the number of finished erases
@@ -153,15 +154,15 @@ module _ (g : Geometry) (sound : Sound g) (limit : blocks g ≡ 259) where
 -- ---- a step
 
 -- a work step by its count: refused, and the counts stay; or not
-module _ (s : State) (k : Counts) (xs : List ℕ) (n : ℕ) (good : deviceRefusal s k (length xs) ≡ 0) where
+module _ (s : State) (k : Counts) (xs : List ℕ) (n : ℕ) (good : refusalWith s k (length xs) Reset ≡ 0) where
   worked-refused : 65535 < n → countsWith s k xs (Work n) ≡ k
-  unfolding countsWith refusalWith firstRefusal stepRefusal
-  worked-refused h = rw (good, count-bad n h)
+  unfolding countsWith firstRefusal
+  worked-refused h = rw (refusal-first s k (length xs) (Work n), good, count-bad (geometry s) n h)
 
   worked-counted : n ≤ 65535
       → countsWith s k xs (Work n) ≡ countsAfter (s .control .activity .running) (runningAfter (geometry s) (s .control .activity .running) (unitsDone (geometry s) (s .control .activity .running) n)) k
-  unfolding countsWith refusalWith firstRefusal stepRefusal acceptedCounts
-  worked-counted h = rw (good, count-good n h)
+  unfolding countsWith firstRefusal acceptedCounts
+  worked-counted h = rw (refusal-first s k (length xs) (Work n), good, count-good (geometry s) n h)
 
 -- one step, of a device that agrees with the recorder: the part is the device's own
 right-own : (xs₀ : List ℕ) (m : Machine) (c : Recorder) (k : Counts) (x : Step) → Agree (m .state .part) xs₀ m c → sharedZero (k .main) ≡ true → Right k (c .journal)
@@ -180,8 +181,8 @@ right-own xs₀ m c k x a z r = subst (λ (v : Event). Right (countsWith (m .sta
         ap (λ (d : Conditions). event (geometry (m .state)) x (record { conditions = d; journal = c .journal })) (sym (a .same))
         ∙ rules-agree (geometry (m .state)) x (conditions (m .state)) (underWay (m .state)) (c .journal) (a .sim)
 
-    good : deviceRefusal (m .state) k (length (m .array)) ≡ 0
-    good = device-alone (m .state) k z (length (m .array)) ∙ state-good (m .state) (length (m .array)) (a .size) (agree-formed (m .state .part) xs₀ m c a)
+    good : refusalWith (m .state) k (length (m .array)) Reset ≡ 0
+    good = refusal-alone (m .state) k z (length (m .array)) Reset ∙ state-good (m .state) (length (m .array)) (a .size) (agree-formed (m .state .part) xs₀ m c a)
 
     -- a step that is no work leaves the counts
     stays : (y : Step) → isWork y ≡ false → Right (countsWith (m .state) k (m .array) y) (journal-after (geometry (m .state)) (eventOf (geometry (m .state)) (m .state) y) (c .journal))

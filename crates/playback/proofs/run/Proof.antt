@@ -15,7 +15,7 @@ use Rattle.semantics.specs.declared.Control.{Control}
 use Rattle.semantics.specs.declared.State.{State}
 use Rattle.wear.specs.Counts.{lent}
 use Rattle.wear.specs.Held.{Held}
-use Rattle.wear.specs.Steps.{formedWith, deviceRefusal}
+use Rattle.wear.specs.Steps.{formedWith, refusalWith}
 use Rattle.reading.specs.Shown.{read-seen}
 use Rattle.writing.specs.Changes.{change-put, told-put}
 use Rattle.playback.specs.Tasks.{task-means}
@@ -41,7 +41,7 @@ pieces q b b′ u u′ c c′ f f′ i j k l = λ e. record { part = q; banks = 
 -- what the state, its counts and the array are refused for
 held : (c : tie.After-refusal-beside Inv-loop μ-loop)
     → (let e = c .before .before .before .before .before .before .before .before .before .before .before .before in Held (c .refusal-beside .result) (e .args .device .state) (lent (now (e .args .main)) (now (e .args .small))) (now (e .args .array)))
-unfolding formedWith deviceRefusal
+unfolding formedWith refusalWith
 held c =
     let e = c .before .before .before .before .before .before .before .before .before .before .before .before in
     let d = e .args .device in

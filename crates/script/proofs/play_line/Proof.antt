@@ -1,7 +1,7 @@
 -- `script::play_line` meets its contract: a line with a step, and a line with none. Assumes nothing.
 use Prim.Native.Nat.{ℕ}
 use mathlib.Core.Path.{sym, ap, _∙_}
-use Rattle.semantics.specs.Steps.{firstRefusal}
+use Rattle.semantics.specs.Split.{firstRefusal}
 use Rattle.script.specs.Laws.{line-made, line-refused}
 use borrow.Author.Needs.{needs}
 use Rattle.script.proofs.play_line.Statement.{statement}

@@ -1,7 +1,7 @@
 -- `state::address_refusal` meets its contract: an address in range is refused for nothing, by the law that every location lies in a block. Assumes nothing.
 use mathlib.Core.Path.{sym}
 use Rattle.geometry.specs.Laws.{sound}
-use Rattle.semantics.specs.Invariant.{address-good, address-bad}
+use Rattle.semantics.specs.Split.{address-good, address-bad}
 use Rattle.state.proofs.address_refusal.Statement.{statement}
 use Rattle.state.proofs.address_refusal.Tie as tie
 

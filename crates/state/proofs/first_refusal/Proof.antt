@@ -1,6 +1,6 @@
 -- `state::first_refusal` meets its contract, by its one test. Assumes nothing.
 use borrow.Author.Tests.{eq-eqb, ne-eqb}
-use Rattle.semantics.specs.Steps.{firstRefusal}
+use Rattle.semantics.specs.Split.{firstRefusal}
 use Rattle.state.proofs.first_refusal.Statement.{statement}
 use Rattle.state.proofs.first_refusal.Tie as tie
 

@@ -1,27 +1,26 @@
 -- `state::step_refusal` meets its contract: by the step. Assumes nothing.
-use Rattle.semantics.specs.Steps.{stepRefusal}
+use Rattle.semantics.specs.Card.{given, card}
+use Rattle.semantics.specs.Split.{stepRefusal}
 use borrow.Author.Needs.{needs}
 use Rattle.state.proofs.step_refusal.Statement.{statement}
 use Rattle.state.proofs.step_refusal.Tie as tie
 
 returns : tie.Need-returns
-unfolding stepRefusal
 returns c = rw (c .before .before .x .given .1) (c .address-refusal .ensures)
 
 returns-2 : tie.Need-returns-2
-unfolding stepRefusal
+unfolding stepRefusal card
 returns-2 c = rw (c .before .before .x2 .given .1) (c .address-refusal2 .ensures)
 
 returns-3 : tie.Need-returns-3
-unfolding stepRefusal
-returns-3 c = rw (c .before .before .x3 .given .1) (c .count-refusal .ensures)
+returns-3 c = rw (c .before .before .x3 .given .1) (c .count-refusal .ensures _)
 
 returns-4 : tie.Need-returns-4
-unfolding stepRefusal
+unfolding given card stepRefusal
 returns-4 c = rw (c .before .x4 .given .1)
 
 returns-5 : tie.Need-returns-5
-unfolding stepRefusal
+unfolding given card stepRefusal
 returns-5 c = rw (c .enum-told .given .1)
 
 pub step-refusal-spec : {M : Type 1} → statement M

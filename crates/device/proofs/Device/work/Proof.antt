@@ -2,7 +2,7 @@
 use mathlib.Core.Path.{_∙_}
 use Rattle.semantics.specs.declared.Step.the-variants.{Work}
 use Rattle.semantics.specs.Working.{workedOn, worked, workedArray}
-use Rattle.semantics.specs.Steps.{accepted, acceptedArray, stepRefusal}
+use Rattle.semantics.specs.Steps.{accepted, acceptedArray}
 use Rattle.wear.specs.Steps.{acceptedCounts}
 use Rattle.device.specs.Refusals.{outcome-accepted, outcome-refused, array-accepted, array-refused, counts-accepted, counts-refused}
 use borrow.Author.Needs.{needs}
@@ -10,11 +10,11 @@ use Rattle.device.proofs.Device.work.Statement.{statement}
 use Rattle.device.proofs.Device.work.Tie as tie
 
 returns : tie.Need-returns
-unfolding accepted acceptedArray acceptedCounts workedOn worked workedArray stepRefusal
+unfolding accepted acceptedArray acceptedCounts workedOn worked workedArray
 returns c =
     let w = c .before .before .before .before .before .before .before .before .work .ensures in
     let s = c .before .before .before .before .before .before .before .before .before .before .before .before .before .before .refusal-of .ensures _ in
-    let n = c .before .before .before .before .before .before .before .before .before .before .before .before .before .count-refusal .ensures in
+    let n = c .before .before .before .before .before .before .before .before .before .before .before .before .before .count-refusal .ensures _ in
     let e = c .before .before .before .before .before .before .before .before .before .before .before .before .first-refusal .ensures in
     let t = c .before .before .before .before .before .before .before .before .before .before .before .if1 .taken in (
       rw (w .1 .0, w .0) (outcome-accepted _ _ _ (Work _) _ _ _ s n e t),
@@ -22,10 +22,9 @@ returns c =
     )
 
 returns-2 : tie.Need-returns-2
-unfolding stepRefusal
 returns-2 c =
     let s = c .before .before .before .before .refusal-of .ensures _ in
-    let n = c .before .before .before .count-refusal .ensures in
+    let n = c .before .before .before .count-refusal .ensures _ in
     let e = c .before .before .first-refusal .ensures in (
       c .refused .ensures ∙ outcome-refused _ _ _ (Work _) _ _ _ s n e (c .before .if1 .left),
       (array-refused _ _ _ (Work _) _ _ _ s n e (c .before .if1 .left), counts-refused _ _ _ (Work _) _ _ _ s n e (c .before .if1 .left)),
