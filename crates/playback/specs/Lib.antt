@@ -2,3 +2,4 @@ pub mod Playback
 pub mod Tasks
 pub mod Laws
 pub mod Reads
+pub mod Cases
