@@ -11,7 +11,9 @@ use Rattle.semantics.specs.Encoding.{decodedAs, decode}
 use Rattle.playback.specs.Playback.{playable, answerCode, roomAfter}
 
 -- "A refusal gives its number beside the answer 0": the refusal from bit 32, the value from bit 0
-pub answers-hold : map answerCode (Word 0 ∷ Word 0x1234 ∷ Word 0xFFFF ∷ Units 0 ∷ Units 1 ∷ Units 65535 ∷ Done ∷ Refused 1 ∷ Refused 2 ∷ Refused 3 ∷ Refused 4 ∷ [])
+pub answers-hold : map answerCode
+    (Word 0 ∷ Word 0x1234 ∷ Word 0xFFFF ∷ Units 0 ∷ Units 1 ∷ Units 65535 ∷ Done ∷ Refused 1 ∷ Refused 2 ∷ Refused 3
+    ∷ Refused 4 ∷ [])
     ≡ 0 ∷ 0x1234 ∷ 0xFFFF ∷ 0 ∷ 1 ∷ 65535 ∷ 0 ∷ 0x100000000 ∷ 0x200000000 ∷ 0x300000000 ∷ 0x400000000 ∷ []
 answers-hold = refl
 
@@ -29,6 +31,7 @@ playable-hold = (refl, refl, refl, refl, refl, refl)
 
 -- the answers from the first place on, and the places past them as they were
 pub room-hold : (roomAfter (7 ∷ 8 ∷ 9 ∷ []) (Done ∷ Refused 3 ∷ []) ≡ 0 ∷ 0x300000000 ∷ 9 ∷ [])
-    × (roomAfter (7 ∷ 8 ∷ 9 ∷ []) [] ≡ 7 ∷ 8 ∷ 9 ∷ []) × (roomAfter (7 ∷ 8 ∷ []) (Word 5 ∷ Units 6 ∷ []) ≡ 5 ∷ 6 ∷ [])
+    × (roomAfter (7 ∷ 8 ∷ 9 ∷ []) [] ≡ 7 ∷ 8 ∷ 9 ∷ [])
+    × (roomAfter (7 ∷ 8 ∷ []) (Word 5 ∷ Units 6 ∷ []) ≡ 5 ∷ 6 ∷ [])
 unfolding roomAfter
 room-hold = (refl, refl, refl)
