@@ -4,11 +4,19 @@
 -- Assumes nothing.
 use Prim.Native.Nat.{ℕ, _*_}
 use mathlib.Core.Bool.{Bool, true, not, _&&_}
-use mathlib.Core.List.{List, [], _∷_}
+use mathlib.Core.List.{List, [], _∷_, map}
+use mathlib.Core.Path.{_≡_, refl}
 use lib.Dec.{T, eqb}
 use lib.ListN.{length, replicate}
+use Rattle.geometry.specs.declared.Part.{Part}
+use Rattle.geometry.specs.declared.Part.the-variants.{FullBottom, FullTop, BenchBottom, BenchTop}
 use Rattle.geometry.specs.Blocks.{sizeOf, startFrom, startOf}
-use Rattle.m58.specs.Calls.{startCode, powersUp, poweredUp, reportCode, wornCode, countCode, hexCode, hexVerdict, hexArray, hexWritten, hexRoom}
+use Rattle.semantics.specs.State.{powerUp}
+use Rattle.wear.specs.Counts.{Counts, noCounts}
+use Rattle.hex.specs.Records.{verdict, arrayRead}
+use Rattle.hex.specs.Text.{written, roomAfter}
+use Rattle.saved.specs.Saved.{savedOf}
+use Rattle.m58.specs.Calls.{startCode, powersUp, poweredUp, unworn, reportCode, wornCode, countCode, hexCode, hexVerdict, hexArray, hexWritten, hexRoom}
 
 -- a part's number, a block's, and the number that is told
 pub data Case : Type 0 where
@@ -94,3 +102,38 @@ noPart =
 pub power-hold : T (everyPower power) × T noPart
 unfolding powersUp poweredUp hexVerdict hexWritten hexArray hexRoom
 power-hold = (tt, tt)
+
+-- ---- what is told of each part, by its number
+
+abbrev parts : List Part
+parts = FullBottom ∷ FullTop ∷ BenchBottom ∷ BenchTop ∷ []
+
+abbrev numbers : List ℕ
+numbers = 0 ∷ 1 ∷ 2 ∷ 3 ∷ []
+
+-- the words of power-up of that part, and else the room as it was; the counts at 0, and else those that stood
+pub powered-hold : (k : Counts)
+    → (map (λ n. poweredUp n (replicate 25 7)) numbers ≡ map (λ p. savedOf (powerUp p)) parts)
+    × (poweredUp 4 (replicate 25 7) ≡ replicate 25 7) × (poweredUp 0 (7 ∷ 8 ∷ []) ≡ 7 ∷ 8 ∷ [])
+    × (map (λ n. unworn n (replicate 25 7) k) numbers ≡ replicate 4 noCounts) × (unworn 4 (replicate 25 7) k ≡ k)
+    × (unworn 0 (replicate 24 7) k ≡ k)
+unfolding powersUp poweredUp unworn
+powered-hold k = (refl, refl, refl, refl, refl, refl)
+
+-- a text read into that part's array: the refusal and beside it the line, and the array; an array written out: the
+-- refusal and beside it the length, and the room
+pub hex-hold : (text ws room : List ℕ)
+    → (map (λ n. hexVerdict n text ws) numbers
+    ≡ map (λ p. hexCode (verdict p text ws .refusal) (verdict p text ws .line)) parts)
+    × (map (λ n. hexArray n text ws) numbers ≡ map (λ p. arrayRead p text ws) parts)
+    × (map (λ n. hexWritten n ws room) numbers
+    ≡ map (λ p. hexCode (written p ws room .refusal) (written p ws room .length)) parts)
+    × (map (λ n. hexRoom n ws room) numbers ≡ map (λ p. roomAfter p ws room) parts)
+unfolding hexVerdict hexArray hexWritten hexRoom
+hex-hold text ws room = (refl, refl, refl, refl)
+
+-- an array that is no part's: 1, and no line or length beside it
+pub short-hold : (map (λ n. hexVerdict n (58 ∷ []) (1 ∷ 2 ∷ [])) numbers ≡ replicate 4 0x100000000)
+    × (map (λ n. hexWritten n (1 ∷ 2 ∷ []) (7 ∷ [])) numbers ≡ replicate 4 0x100000000)
+unfolding hexVerdict hexWritten verdict written
+short-hold = (refl, refl)

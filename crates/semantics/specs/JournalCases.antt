@@ -67,6 +67,9 @@ journals =
     (ready ++ erases ++ work 10 ⟶ entry (erase 4) 10 running ∷ [])
     ∷ (ready ++ erases ++ work 10 ++ work 65535 ⟶ entry (erase 4) 64 finished ∷ [])
     ∷ (ready ++ programs ++ work 5 ++ two ++ work 5 ⟶ entry (buffer 0x80 words) 2 finished ∷ entry (program 0x80 0x1234) 1 finished ∷ [])
+    -- units of several steps add up; a small block has 16 words
+    ∷ (ready ++ erases ++ work 10 ++ work 5 ⟶ entry (erase 4) 15 running ∷ [])
+    ∷ (ready ++ cycles 0x0 0x60 0xD0 ++ cycles 0x0 0x20 0xD0 ++ work 65535 ⟶ entry (erase 0) 16 finished ∷ [])
     -- "When supply goes off, a running operation ends then and there .. Demand 3 counts such an entry as unfinished": for good, and the units that it had stay
     ∷ (ready ++ erases ++ work 10 ++ off ⟶ entry (erase 4) 10 broken-off ∷ [])
     ∷ (ready ++ erases ++ work 10 ++ off ++ on ++ resume ++ work 65535 ⟶ entry (erase 4) 10 broken-off ∷ [])
@@ -189,8 +192,23 @@ journals =
     -- a set-up is taken without supply
     ∷ (ready ++ off ++ Write 0x80 0x40 ∷ on ++ Write 0x80 0x1234 ∷ [] ⟶ entry (program 0x80 0x1234) 0 running ∷ [])
     ∷ (ready ++ off ++ Write 0x40 0x20 ∷ on ++ Write 0x40 0xD0 ∷ [] ⟶ entry (erase 4) 0 running ∷ [])
-    -- a program in the block of the suspended erase is no entry
+    -- a program in the block of the suspended erase is no entry, and neither is a buffer program; nor is that one in a
+    -- protected block
     ∷ (ready ++ erases ++ pause ++ cycles 0x50 0x40 0x1234 ⟶ entry (erase 4) 0 suspended ∷ [])
+    ∷ (ready ++ erases ++ pause ++ cycles 0x50 0xE8 0 ++ cycles 0x50 0x1234 0xD0 ⟶ entry (erase 4) 0 suspended ∷ [])
+    ∷ (ready ++ cycles 0xC0 0xE8 0 ++ cycles 0xC0 0x1234 0xD0 ⟶ [])
+    -- "He begins with supply off"; a protection command is for its own block, and for none below or above
+    ∷ (cycles 0x80 0x60 0xD0 ++ programs ⟶ [])
+    ∷ (on ++ cycles 0x80 0x60 0xD0 ++ erases ⟶ [])
+    ∷ (ready ++ cycles 0x80 0x60 0x01 ++ erases ⟶ entry (erase 4) 0 running ∷ [])
+    ∷ (ready ++ cycles 0x40 0x60 0x01 ++ programs ⟶ entry (program 0x80 0x1234) 0 running ∷ [])
+    -- and it does not look at supply
+    ∷ (ready ++ off ++ cycles 0x80 0x60 0x01 ++ on ++ programs ⟶ [])
+    -- D0h while something runs resumes nothing; what runs need not be the latest entry
+    ∷ (ready ++ erases ++ pause ++ programs ++ resume
+    ⟶ entry (program 0x80 0x1234) 0 running ∷ entry (erase 4) 0 suspended ∷ [])
+    ∷ (ready ++ erases ++ pause ++ programs ++ work 1 ++ resume ++ programs
+    ⟶ entry (program 0x80 0x1234) 1 finished ∷ entry (erase 4) 0 running ∷ [])
     -- 40h beside a suspended program, and 20h beside a suspended erase, are no set-up without supply either
     ∷ (ready ++ programs ++ pause ++ off ++ Write 0x80 0x40 ∷ on ++ Write 0x80 0x5678 ∷ [] ⟶ entry (program 0x80 0x1234) 0 suspended ∷ [])
     ∷ (ready ++ erases ++ work 10 ++ pause ++ off ++ Write 0x80 0x20 ∷ on ++ resume ⟶ entry (erase 4) 10 running ∷ [])

@@ -34,6 +34,7 @@ pub mod WordByWord
 pub mod FurtherCases
 pub mod AnswerCases
 pub mod Encoding
+pub mod EncodingCases
 pub mod Entries
 pub mod Recorder
 pub mod Tests

@@ -120,6 +120,8 @@ writingCases =
     ∷ plays BenchBottom (bench 0xFFFF) (unprotect 0x40 ++ erase 0x40 ++ shows 0x40 0xA8)
     ∷ plays BenchBottom (bench 0xFFFF) (erase 0x40 ++ shows 0x40 0xA8)
     ∷ plays BenchBottom (bench 0xFFFF) (prepared 0x40 ++ cycles 0x40 0x20 0x20 ++ shows 0x40 0xB0 ++ write 0x40 0xFF ++ shows 0x40 0xFFFF)
+    -- for a wrong code also where the block is protected and supply is on: the code comes before both
+    ∷ plays BenchBottom (bench 0xFFFF) (supply true ++ cycles 0x40 0x20 0x20 ++ shows 0x40 0xB0)
     -- a wrong lock code sets SR5 and SR4 and changes neither protection nor configuration
     ∷ reports BenchBottom (bench 0xFFFF)
     (unprotect 0x40 ++ cycles 0x40 0x60 0x60 ++ shows 0x40 0xB0 ++ write 0x40 0x50 ++ cycles 0x80 0x60 0x02 ++ shows 0x80 0xB0 ++ write 0x80 0x90 ++ shows 0x5 0xBFCF) 1 4
@@ -127,6 +129,9 @@ writingCases =
     ∷ reports BenchTop (bench 0xFFFF)
     (unprotect 0x3F80 ++ cycles 0xABBF80 0x60 0x03 ++ shows 0x3F80 0x80 ++ write 0x3F80 0x90 ++ shows 0x3C05 0xBF80 ++ shows 0x3F82 0x0000 ++ protect 0x0 ++ shows 0x0 0x80) 1 4
     ∷ plays BenchBottom (bench 0xFFFF) (prepared 0x40 ++ unprotect 0x80 ++ protect 0x40 ++ program 0x40 0x1234 ++ shows 0x40 0x92 ++ program 0x80 0x1234 ++ shows 0x80 0x12)
+    -- 01h does not look at supply either, and leaves the flags
+    ∷ reports BenchBottom (bench 0xFFFF) (unprotect 0x40 ++ protect 0x40) 0 259
+    ∷ plays BenchBottom (bench 0xFFFF) (allFlags ++ protect 0x40 ++ shows 0x40 0xBA)
     -- the report of unprotected blocks: none at power-up; three, with supply off too; two once block 4 is protected again; none after reset
     ∷ reports BenchBottom (bench 0xFFFF) [] 0 259
     ∷ reports BenchBottom (bench 0xFFFF) three 3 4
