@@ -4,7 +4,8 @@ use mathlib.Core.List.{List, [], _∷_, _++_, append-assoc}
 use mathlib.Core.Path.{_≡_, refl, sym, _∙_}
 use native.Mathlib.Omega.{arith}
 use lib.ListN.{length, set, length-set}
-use Rattle.printing.specs.Room.{placed, advanced, advanced-in, placed-append, placed-length, placed-none, put-in, put-then}
+use Rattle.printing.specs.Room.{placed, advanced, advanced-in, placed-append, placed-length, placed-none, put-in}
+use Rattle.printing.specs.Room.{put-then}
 use Rattle.hex.specs.Records.{total}
 use Rattle.hex.specs.Text.{digitsOf, checkOf, recordText}
 use Rattle.hex.specs.Sizes.{length-digitsOf}

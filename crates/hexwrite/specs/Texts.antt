@@ -14,8 +14,10 @@ use Rattle.geometry.specs.declared.Part.the-variants.{FullBottom, FullTop, Benc
 use Rattle.geometry.specs.Blocks.{geometryOf, words}
 use Rattle.printing.specs.Room.{placed}
 use Rattle.hex.specs.declared.Written.{Written}
-use Rattle.hex.specs.Text.{dataRecord, upperRecord, endRecord, bytesOf, span, sixteenAt, sixteens, textOf, written, roomAfter}
-use Rattle.hex.specs.Sizes.{length-recordText, length-bytesOf, length-sixteenAt, sixteens-mono, textLength, length-endRecord, length-textOf}
+use Rattle.hex.specs.Text.{dataRecord, upperRecord, endRecord, bytesOf, span, sixteenAt, sixteens, textOf, written}
+use Rattle.hex.specs.Text.{roomAfter}
+use Rattle.hex.specs.Sizes.{length-recordText, length-bytesOf, length-sixteenAt, sixteens-mono, textLength}
+use Rattle.hex.specs.Sizes.{length-endRecord, length-textOf}
 use Rattle.hexwrite.specs.Records.{placed-then}
 
 -- ---- the bytes of words

@@ -1,5 +1,6 @@
 // Writes an array as Intel HEX into borrowed room (document 02, item 3). What the text is, is defined in the crate hex.
-// A private function is told that its bytes fit, so none tests a place. It puts them at a place; the caller knows how many there are.
+// A private function is told that its bytes fit, so none tests a place. It puts them at a place; the caller knows how
+// many there are.
 use geometry::Part;
 use hex::Written;
 ghost use mathlib.Core.Path.{_≡_};
@@ -111,7 +112,8 @@ fn put_end(text: &mut [u8], at: usize)
     put_check(text, at + 9, head);
 }
 
-// The records of the sixteen bytes of number k: a 04 record where 65,536 bytes begin, and their own. Gives the place after them.
+// The records of the sixteen bytes of number k: a 04 record where 65,536 bytes begin, and their own. Gives the place
+// after them.
 fn put_sixteen(text: &mut [u8], at: usize, array: &[u16], k: usize) -> usize
     requires { ⌜ at + length (sixteenAt 65536 (bytesOf (now array)) (16 * k)) ≤ length (now text) ⌝ }
     requires { ⌜ 8 * k + 8 ≤ length (now array) ⌝ }
@@ -157,7 +159,8 @@ pub fn text_length(part: Part) -> usize
     }
 }
 
-// Writes the text of a part's array. Refuses 1 where the array is not a part's, then 17 where the room is too short; a refusal leaves the room as it was.
+// Writes the text of a part's array. Refuses 1 where the array is not a part's, then 17 where the room is too short; a
+// refusal leaves the room as it was.
 pub fn write(part: Part, array: &[u16], text: &mut [u8]) -> Written
     ensures { λ r. ⌜ r ≡ written part (now (array .entry)) (now (text .entry)) ⌝ }
     ensures text { λ r. ⌜ now (text .exit) ≡ roomAfter part (now (array .entry)) (now (text .entry)) ⌝ }

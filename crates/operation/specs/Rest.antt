@@ -1,5 +1,5 @@
--- A device on which nothing runs, is suspended or is loaded: what is under way is then well formed, and no place of the buffer is in use. And what runs in no bank, as
--- nothing runs. Assumes nothing.
+-- A device on which nothing runs, is suspended or is loaded: what is under way is then well formed, and no place of the
+-- buffer is in use. And what runs in no bank, as nothing runs. Assumes nothing.
 use Prim.Native.Nat.{ℕ}
 use mathlib.Core.Bool.{Bool, true, false, not, _&&_, true≢false, false≢true}
 use mathlib.Core.Path.{_≡_, refl, ap, _∙_}
@@ -15,7 +15,9 @@ use Rattle.semantics.specs.declared.SuspendedErase.the-variants as erase
 use Rattle.semantics.specs.declared.Activity.{Activity}
 use Rattle.semantics.specs.State.{activity, runs, programSuspended, eraseSuspended}
 use Rattle.semantics.specs.Reading.{runsIn}
-use Rattle.semantics.specs.WellFormed.{runningAlone, programAlone, eraseAlone, setupFits, runningFits, programFits, suspendedEraseFits, allFit, runningApart, programApart, apart, activityFormed, setupPlaces, runningPlaces, programPlaces, placesUsed}
+use Rattle.semantics.specs.WellFormed.{runningAlone, programAlone, eraseAlone, setupFits, runningFits, programFits}
+use Rattle.semantics.specs.WellFormed.{suspendedEraseFits, allFit, runningApart, programApart, apart, activityFormed}
+use Rattle.semantics.specs.WellFormed.{setupPlaces, runningPlaces, programPlaces, placesUsed}
 
 -- a load stands
 abbrev pub isLoad : Setup → Bool
@@ -29,7 +31,9 @@ isLoad (setup.BufferWords l n k) = true
 
 -- a set-up of two cycles may be pending
 abbrev pub atRest : Activity → Bool
-atRest a = not (isLoad (a .setup)) && (not (runs (a .running)) && (not (programSuspended (a .program)) && not (eraseSuspended (a .erase))))
+atRest a =
+    not (isLoad (a .setup)) &&
+    (not (runs (a .running)) && (not (programSuspended (a .program)) && not (eraseSuspended (a .erase))))
 
 -- ---- what that comes to, field by field
 
@@ -56,7 +60,10 @@ no-erase : (e : SuspendedErase) → not (eraseSuspended e) ≡ true → e ≡ er
 no-erase erase.Nothing h = refl
 no-erase (erase.Erase b n) h = absurd (false≢true h)
 
-rest : (a : Activity) → atRest a ≡ true → (isLoad (a .setup) ≡ false) × (a ≡ activity (a .setup) running.Idle program.Nothing erase.Nothing)
+abbrev resting : Setup → Activity
+resting s = activity s running.Idle program.Nothing erase.Nothing
+
+rest : (a : Activity) → atRest a ≡ true → (isLoad (a .setup) ≡ false) × (a ≡ resting (a .setup))
 rest a h =
     let x = split (isLoad (a .setup)) _ h in
     let y = split (runs (a .running)) _ (x .1) in
@@ -71,28 +78,26 @@ at-rest-idle a h = split (runs (a .running)) _ (split (isLoad (a .setup)) _ h .1
 
 -- ---- it is well formed, and uses no place
 
-formed : (g : Geometry) (s : Setup) → isLoad s ≡ false → activityFormed g (activity s running.Idle program.Nothing erase.Nothing) ≡ true
-unfolding activityFormed runningAlone programAlone eraseAlone allFit setupFits runningFits programFits suspendedEraseFits apart runningApart programApart
-formed g setup.Nothing h = refl
-formed g setup.Program h = refl
-formed g setup.Erase h = refl
-formed g setup.Lock h = refl
-formed g (setup.BufferCount b) h = absurd (true≢false h)
-formed g (setup.BufferFirst b n) h = absurd (true≢false h)
-formed g (setup.BufferWords l n k) h = absurd (true≢false h)
+-- four set-ups are no load
+unloaded : (P : Setup → Type 0) → P setup.Nothing → P setup.Program → P setup.Erase → P setup.Lock → (s : Setup) →
+    isLoad s ≡ false → P s
+unloaded P n p e l setup.Nothing h = n
+unloaded P n p e l setup.Program h = p
+unloaded P n p e l setup.Erase h = e
+unloaded P n p e l setup.Lock h = l
+unloaded P n p e l (setup.BufferCount b) h = absurd (true≢false h)
+unloaded P n p e l (setup.BufferFirst b w) h = absurd (true≢false h)
+unloaded P n p e l (setup.BufferWords f w k) h = absurd (true≢false h)
 
 pub at-rest-formed : (g : Geometry) (a : Activity) → atRest a ≡ true → activityFormed g a ≡ true
-at-rest-formed g a h = let x = rest a h in ap (activityFormed g) (x .1) ∙ formed g (a .setup) (x .0)
-
-unused : (s : Setup) → isLoad s ≡ false → placesUsed (activity s running.Idle program.Nothing erase.Nothing) ≡ 0
-unfolding placesUsed setupPlaces runningPlaces programPlaces
-unused setup.Nothing h = refl
-unused setup.Program h = refl
-unused setup.Erase h = refl
-unused setup.Lock h = refl
-unused (setup.BufferCount b) h = absurd (true≢false h)
-unused (setup.BufferFirst b n) h = absurd (true≢false h)
-unused (setup.BufferWords l n k) h = absurd (true≢false h)
+unfolding activityFormed runningAlone programAlone eraseAlone allFit setupFits runningFits programFits suspendedEraseFits apart runningApart programApart
+at-rest-formed g a h =
+    let x = rest a h in
+    ap (activityFormed g) (x .1) ∙
+    unloaded (λ s. activityFormed g (resting s) ≡ true) refl refl refl refl (a .setup) (x .0)
 
 pub at-rest-unused : (a : Activity) → atRest a ≡ true → placesUsed a ≡ 0
-at-rest-unused a h = let x = rest a h in ap placesUsed (x .1) ∙ unused (a .setup) (x .0)
+unfolding placesUsed setupPlaces runningPlaces programPlaces
+at-rest-unused a h =
+    let x = rest a h in
+    ap placesUsed (x .1) ∙ unloaded (λ s. placesUsed (resting s) ≡ 0) refl refl refl refl (a .setup) (x .0)

@@ -8,7 +8,11 @@ use semantics::SuspendedProgram;
 ghost use mathlib.Core.Path.{_≡_};
 ghost use Rattle.geometry.specs.Blocks.{geometryOf};
 ghost use Rattle.semantics.specs.State.{withSetup, withRunning, runs, programSuspended, eraseSuspended};
-ghost use Rattle.semantics.specs.WellFormed.{pending, isEraseSetup, isErase, erasing, runningAlone, programAlone, eraseAlone, eraseFits, staysIn, wordsFit, bufferFits, setupFits, runningFits, programFits, suspendedEraseFits, allFit, runningApart, programApart, apart, activityFormed, setupPlaces, runningPlaces, programPlaces, placesUsed};
+ghost use Rattle.semantics.specs.WellFormed.{pending, isEraseSetup, isErase, erasing, runningAlone, programAlone};
+ghost use Rattle.semantics.specs.WellFormed.{eraseAlone, eraseFits, staysIn, wordsFit, bufferFits, setupFits};
+ghost use Rattle.semantics.specs.WellFormed.{runningFits, programFits, suspendedEraseFits, allFit, runningApart};
+ghost use Rattle.semantics.specs.WellFormed.{programApart, apart, activityFormed};
+ghost use Rattle.semantics.specs.WellFormed.{setupPlaces, runningPlaces, programPlaces, placesUsed};
 ghost use Rattle.semantics.specs.Reading.{runsIn};
 ghost use Rattle.semantics.specs.Writing.{suspended, resumedErase, resumed, accepts};
 ghost use Rattle.operation.specs.Rest.{isLoad, atRest};
@@ -403,8 +407,8 @@ fn is_load(s: Setup) -> bool
     }
 }
 
-// Nothing runs, is suspended or is loaded; a set-up of two cycles may be pending. So it is well formed and uses no place of the buffer, and these four tests are all
-// that it needs.
+// Nothing runs, is suspended or is loaded; a set-up of two cycles may be pending. So it is well formed and uses no
+// place of the buffer, and these four tests are all that it needs.
 pub fn at_rest(a: Activity) -> bool
     ensures { λ r. ⌜ r ≡ atRest a ⌝ }
 {

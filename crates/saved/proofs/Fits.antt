@@ -1,4 +1,5 @@
--- A state that is a parameter fits its types, by what a function is told of it. Each path goes to a field, in the order of the declaration. Assumes nothing.
+-- A state that is a parameter fits its types, by what a function is told of it. Each path goes to a field, in the order
+-- of the declaration. Assumes nothing.
 use mathlib.Core.List.{List}
 use lib.ListN.{length-map}
 use mir.Syntax.{w16}

@@ -1,4 +1,5 @@
--- Laws of the saved words: a state whose numbers fit their types is got back from its words, and words that are no saved state say one that the device refuses.
+-- Laws of the saved words: a state whose numbers fit their types is got back from its words, and words that are no
+-- saved state say one that the device refuses.
 -- Assumes nothing.
 use Prim.Native.Nat.{ℕ, zero, suc, _+_, _*_, _/_, _%_, _^_, _<_, _≤_}
 use mathlib.Core.Bool.{Bool, true, false, _&&_}
@@ -30,11 +31,18 @@ use Rattle.semantics.specs.declared.State.{State}
 use Rattle.semantics.specs.State.{activity, flagsOf, emptyBuffer, powerUp}
 use Rattle.semantics.specs.Tabulate.{tabulate, length-tabulate, word-tabulate, tabulate-of, tabulate-is}
 use Rattle.semantics.specs.Reading.{bitIf}
-use Rattle.semantics.specs.WellFormed.{runningAlone, programAlone, eraseAlone, setupFits, runningFits, programFits, suspendedEraseFits, allFit, runningApart, programApart, apart, activityFormed, wellFormed}
+use Rattle.semantics.specs.WellFormed.{runningAlone, programAlone, eraseAlone, setupFits, runningFits, programFits}
+use Rattle.semantics.specs.WellFormed.{suspendedEraseFits, allFit, runningApart, programApart, apart, activityFormed}
+use Rattle.semantics.specs.WellFormed.{wellFormed}
 use Rattle.semantics.specs.Register.{isReserved}
 use Rattle.semantics.specs.Refusals.{reserved-unformed}
 use Rattle.saved.specs.declared.Four.{Four}
-use Rattle.saved.specs.Saved.{partNumber, modeNumber, modeNumbered, bankNumber, bankNumbered, flagNumbered, half, setupNumbers, setupOf, runningNumbers, runningOf, programNumbers, programOf, eraseNumbers, eraseOf, flagNumbers, joined, ofHalves, bytes, fromByte, first, modesWord, modesIn, bankWords, activityWords, activityOf, flagsIn, restOf, packed, lane, packedAt, laneAt, bufferWords, bufferIn, savedOf, loadedOf, same, isSaved, noState, stateOf, putInto}
+use Rattle.saved.specs.Saved.{partNumber, modeNumber, modeNumbered, bankNumber, bankNumbered, flagNumbered, half}
+use Rattle.saved.specs.Saved.{setupNumbers, setupOf, runningNumbers, runningOf, programNumbers, programOf}
+use Rattle.saved.specs.Saved.{eraseNumbers, eraseOf, flagNumbers, joined, ofHalves, bytes, fromByte, first}
+use Rattle.saved.specs.Saved.{modesWord, modesIn, bankWords, activityWords, activityOf, flagsIn, restOf, packed}
+use Rattle.saved.specs.Saved.{lane, packedAt, laneAt, bufferWords, bufferIn, savedOf, loadedOf, same, isSaved}
+use Rattle.saved.specs.Saved.{noState, stateOf, putInto}
 
 -- ---- lists
 

@@ -18,7 +18,11 @@ use Rattle.semantics.specs.Reading.{bitIf}
 use Rattle.semantics.specs.State.{activity}
 use Rattle.semantics.specs.Tests.{and-true-l, and-true-r}
 use Rattle.saved.specs.declared.Four.{Four}
-use Rattle.saved.specs.Saved.{partNumber, modeNumber, bankNumber, bankNumbered, flagNumbered, half, setupNumbers, runningNumbers, programNumbers, eraseNumbers, holds, flagNumbers, joined, bytes, fromByte, flagsIn, controlWord, packed, lane, savedOf, loadedOf, same, isSaved, activityWords, activityOf, bytesBelow, activitySame, controlInRange, restInRange, inRange, fourAt, setupOf, runningOf, programOf, eraseOf, resting, toldBy}
+use Rattle.saved.specs.Saved.{partNumber, modeNumber, bankNumber, bankNumbered, flagNumbered, half, setupNumbers}
+use Rattle.saved.specs.Saved.{runningNumbers, programNumbers, eraseNumbers, holds, flagNumbers, joined, bytes}
+use Rattle.saved.specs.Saved.{fromByte, flagsIn, controlWord, packed, lane, savedOf, loadedOf, same, isSaved}
+use Rattle.saved.specs.Saved.{activityWords, activityOf, bytesBelow, activitySame, controlInRange, restInRange}
+use Rattle.saved.specs.Saved.{inRange, fourAt, setupOf, runningOf, programOf, eraseOf, resting, decodedOf}
 use Rattle.saved.specs.Laws.{first-all, joined-eq, flags-small, packed-lanes, saved-length}
 
 -- ---- one number: what is saved of what it says is the number itself, where it is in its range
@@ -164,9 +168,9 @@ zero-at ws i h =
     rw (eqb-true (getD ws i 0) 0 (and-true-l t _ h), eqb-true (getD ws (i + 1) 0) 0 (and-true-r t _ h))
 
 -- eight words that are 0 say that nothing is under way
-pub rest-told : (ws : List ℕ) → activitySame ws resting ≡ true → record { same = true; activity = resting } ≡ toldBy ws
+pub rest-decoded : (ws : List ℕ) → activitySame ws resting ≡ true → record { same = true; activity = resting } ≡ decodedOf ws
 unfolding activitySame
-rest-told ws s =
+rest-decoded ws s =
     let none : Four = (0, 0, 0, 0) in
     let r = and-true-r (holds ws 3 none) _ s in
     let p = and-true-r (holds ws 5 none) _ r in

@@ -1,4 +1,5 @@
--- A device's state as 25 words of 64 bits, so that programs in C can keep it: which bits say what, the state that words say, and which words are a saved state.
+-- A device's state as 25 words of 64 bits, so that programs in C can keep it: which bits say what, the state that words
+-- say, and which words are a saved state.
 -- Definitions only; the laws are in Laws.
 -- Assumes nothing.
 use Prim.Native.Nat.{ℕ, zero, suc, _+_, _*_, _/_, _%_}
@@ -29,7 +30,7 @@ use Rattle.semantics.specs.Tabulate.{tabulate}
 use Rattle.semantics.specs.Reading.{bitIf}
 use Rattle.saved.specs.declared.Four.{Four}
 use Rattle.saved.specs.declared.Found.{Found}
-use Rattle.saved.specs.declared.Told.{Told}
+use Rattle.saved.specs.declared.Decoded.{Decoded}
 
 -- ---- a field as numbers, and back. Of the numbers of an enum the last stands for every other number too
 
@@ -66,8 +67,8 @@ abbrev pub half : ℕ
 half = 4294967296
 
 -- what is pending, runs or is suspended: its kind, and three numbers, of which one that it does not use is 0.
--- Set-up: 0 nothing, 1 program, 2 erase, 3 lock; of a load 4, block (its count is due), or 5, block, number of words (its first word), or 6, start, number of words,
--- data cycles that are due
+-- Set-up: 0 nothing, 1 program, 2 erase, 3 lock; of a load 4, block (its count is due), or 5, block, number of words
+-- (its first word), or 6, start, number of words, data cycles that are due
 abbrev pub setupNumbers : Setup → Four
 setupNumbers setup.Nothing = (0, 0, 0, 0)
 setupNumbers setup.Program = (1, 0, 0, 0)
@@ -131,8 +132,8 @@ flagNumbers f = bitIf (f .sr5) 1 ∷ bitIf (f .sr4) 1 ∷ bitIf (f .sr3) 1 ∷ b
 abbrev pub joined : ℕ → ℕ → ℕ → ℕ
 joined m x y = x + y * m
 
--- four numbers in two words: the first in the lower half of the first word (bits 0 to 31), the second in its upper half (from bit 32), the third and the fourth
--- so in the second word
+-- four numbers in two words: the first in the lower half of the first word (bits 0 to 31), the second in its upper half
+-- (from bit 32), the third and the fourth so in the second word
 abbrev pub inHalves : Four → List ℕ
 inHalves f = joined half (f .0) (f .1) ∷ joined half (f .2) (f .3) ∷ []
 
@@ -215,16 +216,17 @@ abbrev pub bufferIn : List ℕ → List ℕ
 bufferIn ws = tabulate 32 (laneAt (drop 17 ws))
 
 -- word 0 the part; 1 and 2 the modes of banks 0 to 7 and 8 to 15, a byte each, the lowest bank in the lowest byte;
--- 3 and 4 the set-up; 5 and 6 what runs; 7 and 8 the suspended program; 9 and 10 the suspended erase: the kind in the lower half of the first word, the numbers in
--- its upper half and in the lower and the upper half of the second;
--- 11 the flags SR5, SR4, SR3, SR1 a byte each from the lowest, the configuration register in bits 32 to 47, the supply from bit 48;
+-- 3 and 4 the set-up; 5 and 6 what runs; 7 and 8 the suspended program; 9 and 10 the suspended erase: the kind in the
+-- lower half of the first word, the numbers in its upper half and in the lower and the upper half of the second;
+-- 11 the flags SR5, SR4, SR3, SR1 a byte each from the lowest, the configuration register in bits 32 to 47, the supply
+-- from bit 48;
 -- 12 to 16 the protection words; 17 to 24 the buffer, four of its words to a word
 unfoldable pub savedOf : State → List ℕ
 savedOf s =
     partNumber (s .part) ∷ (bankWords (s .banks) ++ (activityWords (s .control .activity) ++ (restOf s ++ bufferWords (s .buffer))))
 
--- the state that words say, whatever they are, field by field: a word that is missing is 0, and a number is reduced to the bits that its field has, which
--- for a protection word, and for a word of the buffer, are all
+-- the state that words say, whatever they are, field by field: a word that is missing is 0, and a number is reduced to
+-- the bits that its field has, which for a protection word, and for a word of the buffer, are all
 abbrev pub activityOf : List ℕ → Activity
 activityOf ws =
     activity (setupOf (fourAt ws 3)) (runningOf (fourAt ws 5)) (programOf (fourAt ws 7)) (eraseOf (fourAt ws 9))
@@ -254,12 +256,13 @@ same [] (y ∷ l) = false
 same (x ∷ k) [] = false
 same (x ∷ k) (y ∷ l) = eqb x y && same k l
 
--- words are a saved state where they are what the state that they say is saved as: so there are 25, and bits that are not used are 0
+-- words are a saved state where they are what the state that they say is saved as: so there are 25, and bits that are
+-- not used are 0
 unfoldable pub isSaved : List ℕ → Bool
 isSaved ws = same ws (savedOf (loadedOf ws))
 
--- for words that are no saved state: power-up of the part that they name, not well formed by a spare bit of the protection words, so that the device refuses
--- every step, with 2 where the array has the part's length
+-- for words that are no saved state: power-up of the part that they name, not well formed by a spare bit of the
+-- protection words, so that the device refuses every step, with 2 where the array has the part's length
 unfoldable pub noState : List ℕ → State
 noState ws = withProtection (powerUp (partNumbered (getD ws 0 0))) (0 ∷ 0 ∷ 0 ∷ 0 ∷ 8 ∷ [])
 
@@ -294,14 +297,15 @@ activitySame ws a =
     && holds ws 9 (eraseNumbers (a .erase))))
 
 -- what is under way, with whether its words are so
-abbrev pub toldBy : List ℕ → Told
-toldBy ws = record { same = activitySame ws (activityOf ws); activity = activityOf ws }
+abbrev pub decodedOf : List ℕ → Decoded
+decodedOf ws = record { same = activitySame ws (activityOf ws); activity = activityOf ws }
 
 -- nothing is pending, runs or is suspended
 abbrev pub resting : Activity
 resting = activity setup.Nothing running.Idle program.Nothing erase.Nothing
 
--- the four flags 0 or 1, and so the supply; the configuration register is any 16 bits, of which `wellFormed` judges the reserved ones
+-- the four flags 0 or 1, and so the supply; the configuration register is any 16 bits, of which `wellFormed` judges the
+-- reserved ones
 abbrev pub controlInRange : ℕ → Bool
 controlInRange w = bytesBelow 2 3 (w % half) && ltb (w / half / 65536) 2
 

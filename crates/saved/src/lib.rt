@@ -1,4 +1,5 @@
-// A device's state as 25 words, so that programs in C can keep it, and back. Each public function takes every state and all words.
+// A device's state as 25 words, so that programs in C can keep it, and back. Each public function takes every state and
+// all words.
 use geometry::Part;
 use semantics::Activity;
 use semantics::Bank;
@@ -16,17 +17,24 @@ ghost use lib.ListN.{length, getD};
 ghost use lib.Seq.{sets};
 ghost use Rattle.geometry.specs.Blocks.{partNumbered};
 ghost use Rattle.semantics.specs.Reading.{bitIf};
-ghost use Rattle.saved.specs.Saved.{partNumber, bankNumber, bankNumbered, flagNumbered, half, setupNumbers, plainSetup, loadOf, setupOf, runningNumbers, runningOf, programNumbers, programOf, eraseNumbers, eraseOf, joined, inHalves, fourAt, holds, modesWord, modesIn, bankWords, banksOf, activityWords, controlWord, restWords, packed, bufferWords, bufferIn, savedOf, loadedOf, isSaved, noState, foundOf, putInto, activityOf, flagsIn, protectionIn, bytesBelow, activitySame, resting, toldBy, restInRange, notFound};
+ghost use Rattle.saved.specs.Saved.{partNumber, bankNumber, bankNumbered, flagNumbered, half, setupNumbers};
+ghost use Rattle.saved.specs.Saved.{plainSetup, loadOf, setupOf, runningNumbers, runningOf, programNumbers};
+ghost use Rattle.saved.specs.Saved.{programOf, eraseNumbers, eraseOf, joined, inHalves, fourAt, holds};
+ghost use Rattle.saved.specs.Saved.{modesWord, modesIn, bankWords, banksOf, activityWords, controlWord};
+ghost use Rattle.saved.specs.Saved.{restWords, packed, bufferWords, bufferIn, savedOf, loadedOf, noState};
+ghost use Rattle.saved.specs.Saved.{foundOf, putInto, activityOf, flagsIn, protectionIn, bytesBelow};
+ghost use Rattle.saved.specs.Saved.{activitySame, resting, decodedOf, restInRange, notFound};
 ghost use Rattle.saved.specs.Laws.{Fitting};
 
 // The upper half of a word is from here on.
 const HALF: u64 = 4294967296;
 
-// What is pending, runs or is suspended as numbers: its kind, and three numbers, of which one that it does not use is 0.
+// What is pending, runs or is suspended as numbers: its kind, and three numbers, of which one that it does not use is
+// 0.
 struct Four(u32, u32, u32, u32);
 
-// Whether the words of what is under way are those that it is saved as, and what is under way.
-struct Told {
+// What is under way, decoded from its words, and whether they are just the words that it is saved as.
+struct Decoded {
     same: bool,
     activity: Activity,
 }
@@ -309,7 +317,7 @@ fn resting() -> Activity
     }
 }
 
-// So the words say.
+// The eight words of what is under way are 0, as those of nothing are.
 fn at_rest(words: &[u64]) -> bool
     ensures { λ r. ⌜ r ≡ activitySame (now (words .entry)) resting ⌝ }
 {
@@ -340,24 +348,26 @@ fn activity_same(words: &[u64], a: Activity) -> bool
     holds(words, 9, erase_numbers(erase))
 }
 
-// What is under way, and whether its words are those that it is saved as. At rest, the common case of a call, nothing is decoded or compared.
-fn told_by(words: &[u64]) -> Told
-    ensures { λ r. ⌜ r ≡ toldBy (now (words .entry)) ⌝ }
+// What is under way, and whether its words are those that it is saved as. At rest, the common case of a call, nothing
+// is decoded or compared.
+fn decode_activity(words: &[u64]) -> Decoded
+    ensures { λ r. ⌜ r ≡ decodedOf (now (words .entry)) ⌝ }
 {
     if at_rest(words) {
-        return Told {
+        return Decoded {
             same: true,
             activity: resting(),
         };
     }
     let a = activity_of(words);
-    Told {
+    Decoded {
         same: activity_same(words, a),
         activity: a,
     }
 }
 
-// The lowest n bytes, and what is above them, are each below m. No return from the loop, so that the compiler makes a test of one mask of it.
+// The lowest n bytes, and what is above them, are each below m. No return from the loop, so that the compiler makes a
+// test of one mask of it.
 fn bytes_below(m: u64, n: usize, w: u64) -> bool
     ensures { λ r. ⌜ r ≡ bytesBelow m n w ⌝ }
 {
@@ -390,17 +400,6 @@ fn rest_in_range(words: &[u64]) -> bool
     }
     let w = words[11];
     bytes_below(2, 3, w % HALF) & (w / HALF / 65536 < 2)
-}
-
-// Whether the words are what the state that they say is saved as: those of what is under way are compared, of the
-// rest the range is tested.
-pub fn is_saved(words: &[u64]) -> bool
-    ensures { λ r. ⌜ r ≡ isSaved (now (words .entry)) ⌝ }
-{
-    if !rest_in_range(words) {
-        return false;
-    }
-    activity_same(words, activity_of(words))
 }
 
 // ---- the state of words
@@ -476,7 +475,7 @@ fn buffer_of(words: &[u64]) -> [u16; 32]
     buffer
 }
 
-// The state that words say, with what is under way, that they say.
+// The state of words of which what is under way is decoded already.
 fn load_with(words: &[u64], a: Activity) -> State
     requires { ⌜ a ≡ activityOf (now words) ⌝ }
     ensures { λ r. ⌜ r ≡ loadedOf (now (words .entry)) ⌝ }
@@ -496,14 +495,8 @@ fn load_with(words: &[u64], a: Activity) -> State
     }
 }
 
-pub fn load(words: &[u64]) -> State
-    ensures { λ r. ⌜ r ≡ loadedOf (now (words .entry)) ⌝ }
-{
-    load_with(words, activity_of(words))
-}
-
 // The state for words that are no saved state: the device refuses every step on it.
-pub fn no_state(words: &[u64]) -> State
+fn no_state(words: &[u64]) -> State
     ensures { λ r. ⌜ r ≡ noState (now (words .entry)) ⌝ }
 {
     state::with_protection(state::power_up(part_in(words)), [0, 0, 0, 0, 8])
@@ -525,11 +518,11 @@ pub fn found_in(words: &[u64]) -> Found
     if !rest_in_range(words) {
         return not_found(words);
     }
-    let told = told_by(words);
-    if !told.same {
+    let decoded = decode_activity(words);
+    if !decoded.same {
         return not_found(words);
     }
-    let a = told.activity;
+    let a = decoded.activity;
     Found {
         saved: true,
         state: load_with(words, a),
@@ -627,7 +620,8 @@ fn put_buffer(words: &mut [u64], buffer: [u16; 32])
     }
 }
 
-// Puts the words of a state into room for just 25. Every state of the code fits its types, so that it is got back from them (`state-back` of specs/Laws).
+// Puts the words of a state into room for just 25. Every state of the code fits its types, so that it is got back from
+// them (`state-back` of specs/Laws).
 pub fn save(s: State, words: &mut [u64])
     ensures { λ _. ⌜ now (words .exit) ≡ putInto (now (words .entry)) (savedOf s) ⌝ }
     ensures fitting { λ _. ⌜ Fitting s ⌝ }

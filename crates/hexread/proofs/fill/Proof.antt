@@ -17,15 +17,6 @@ Inv-loop text array₀ at₀ upper₀ array at upper = Filling text array₀ arr
 abbrev μ-loop : tie.MeasureT-loop
 μ-loop text array₀ at₀ upper₀ array at upper = length text - at
 
-loop-holds : tie.Need-loop-holds Inv-loop μ-loop
-loop-holds c = fill-start _ _ (c .before .before .pre)
-
-taken-at-requires : tie.Need-taken-at-requires Inv-loop μ-loop
-taken-at-requires c κs = search needs
-
-record-end-requires : tie.Need-record-end-requires Inv-loop μ-loop
-record-end-requires c κs = taken-ends _ _ _ (c .before .loop-test .taken) (c .taken-at .ensures)
-
 sub-line : tie.Need-sub-line Inv-loop μ-loop
 sub-line c = placed-line _ _ _ _ (c .before .before .loop-test .taken) (c .before .taken-at .ensures) (c .record-end .ensures) .from
 
@@ -42,9 +33,6 @@ header-of-requires c κs =
     let place = placed-line _ _ _ _ h (r .before .taken-at .ensures) (r .record-end .ensures) in
     long-enough _ (good-line _ _ _ _ _ (r .before .before .before .loop .inv) h _ _ place .formed)
 
-same-length : tie.Need-same-length Inv-loop μ-loop
-same-length c = c .before .before .before .before .before .before .before .loop .inv .same
-
 returns : tie.Need-returns Inv-loop μ-loop
 returns c =
     let r = c .before .before .before .before in
@@ -52,21 +40,6 @@ returns c =
     let place = placed-line _ _ _ _ h (r .before .taken-at .ensures) (r .record-end .ensures) in
     let kind = ap (λ (h : Header). h .kind) (c .before .before .header-of .ensures) in
     fill-end _ _ _ _ _ (r .before .before .before .loop .inv) h _ _ place (sym kind ∙ c .if1 .taken)
-
-cast-start : tie.Need-cast-start Inv-loop μ-loop
-cast-start c = search needs
-
-mul-start : tie.Need-mul-start Inv-loop μ-loop
-mul-start c = search needs
-
-cast-start-2 : tie.Need-cast-start-2 Inv-loop μ-loop
-cast-start-2 c = search needs
-
-add-start : tie.Need-add-start Inv-loop μ-loop
-add-start c = search needs
-
-cast-store : tie.Need-cast-store Inv-loop μ-loop
-cast-store c = search needs
 
 store-requires : tie.Need-store-requires Inv-loop μ-loop
 store-requires c κs =
@@ -116,37 +89,12 @@ loop-again-2 c =
     let kind = ap (λ (h : Header). h .kind) (c .before .before .before .before .before .header-of .ensures) in
     rw (c .upper-of .ensures) (fill-upper _ _ _ _ _ (r .before .before .before .loop .inv) h _ _ place (λ e. c .before .before .before .if1 .left (kind ∙ e)) (λ e. c .before .if2 .left (kind ∙ e)))
 
-same-length-2 : tie.Need-same-length-2 Inv-loop μ-loop
-same-length-2 c = c .before .loop .inv .same
-
-returns-2 : tie.Need-returns-2 Inv-loop μ-loop
-returns-2 c = absurd (fill-none _ _ _ _ _ (c .before .loop .inv) (c .loop-test .left))
-
 pub fill-spec : {M : Type 1} → statement M
 fill-spec =
     tie.close
-    (tie.spec
-    Inv-loop
-    μ-loop
-    loop-holds
-    taken-at-requires
-    record-end-requires
-    sub-line
-    part-line-start
-    part-line-end
-    header-of-requires
-    same-length
-    returns
-    cast-start
-    mul-start
-    cast-start-2
-    add-start
-    cast-store
-    store-requires
-    upper-of-requires
-    loop-less
-    loop-again
-    loop-less-2
-    loop-again-2
-    same-length-2
-    returns-2)
+    (tie.spec Inv-loop μ-loop (λ c. fill-start _ _ (c .before .before .pre)) (search needs)
+    (λ c κs. taken-ends _ _ _ (c .before .loop-test .taken) (c .taken-at .ensures)) sub-line part-line-start
+    part-line-end header-of-requires (λ c. c .before .before .before .before .before .before .before .loop .inv .same)
+    returns (search needs) (search needs) (search needs) (search needs) (search needs) store-requires
+    upper-of-requires loop-less loop-again loop-less-2 loop-again-2 (λ c. c .before .loop .inv .same)
+    (λ c. absurd (fill-none _ _ _ _ _ (c .before .loop .inv) (c .loop-test .left))))

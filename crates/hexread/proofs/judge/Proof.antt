@@ -14,15 +14,6 @@ Inv-loop text size at₀ upper₀ number₀ at upper number = Judging text size 
 abbrev μ-loop : tie.MeasureT-loop
 μ-loop text size at₀ upper₀ number₀ at upper number = length text - at
 
-loop-holds : tie.Need-loop-holds Inv-loop μ-loop
-loop-holds c = judge-start _ _
-
-taken-at-requires : tie.Need-taken-at-requires Inv-loop μ-loop
-taken-at-requires c κs = search needs
-
-record-end-requires : tie.Need-record-end-requires Inv-loop μ-loop
-record-end-requires c κs = taken-ends _ _ _ (c .before .loop-test .taken) (c .taken-at .ensures)
-
 sub-look : tie.Need-sub-look Inv-loop μ-loop
 sub-look c = placed-line _ _ _ _ (c .before .before .loop-test .taken) (c .before .taken-at .ensures) (c .record-end .ensures) .from
 
@@ -31,9 +22,6 @@ part-look-start c = placed-line _ _ _ _ (c .before .before .loop-test .taken) (c
 
 part-look-end : tie.Need-part-look-end Inv-loop μ-loop
 part-look-end c = placed-line _ _ _ _ (c .before .before .loop-test .taken) (c .before .taken-at .ensures) (c .record-end .ensures) .inside
-
-look-requires : tie.Need-look-requires Inv-loop μ-loop
-look-requires c κs = search needs
 
 add-number : tie.Need-add-number Inv-loop μ-loop
 add-number c =
@@ -69,25 +57,10 @@ loop-again c =
     let place = placed-line _ _ _ _ h (r .before .taken-at .ensures) (r .record-end .ensures) in
     step-on _ _ _ _ _ (r .before .before .before .loop .inv) h _ _ place _ (c .before .before .before .look .ensures) (c .before .if1 .left) (c .if2 .left)
 
-returns-3 : tie.Need-returns-3 Inv-loop μ-loop
-returns-3 c = judge-none _ _ _ _ _ (c .before .loop .inv) (c .loop-test .left)
-
 pub judge-spec : {M : Type 1} → statement M
 judge-spec =
     tie.close
-    (tie.spec
-    Inv-loop
-    μ-loop
-    loop-holds
-    taken-at-requires
-    record-end-requires
-    sub-look
-    part-look-start
-    part-look-end
-    look-requires
-    add-number
-    returns
-    returns-2
-    loop-less
-    loop-again
-    returns-3)
+    (tie.spec Inv-loop μ-loop (λ c. judge-start _ _) (search needs)
+    (λ c κs. taken-ends _ _ _ (c .before .loop-test .taken) (c .taken-at .ensures)) sub-look part-look-start
+    part-look-end (search needs) add-number returns returns-2 loop-less loop-again
+    (λ c. judge-none _ _ _ _ _ (c .before .loop .inv) (c .loop-test .left)))

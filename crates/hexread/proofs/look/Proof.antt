@@ -11,14 +11,8 @@ use Rattle.hexread.specs.Refusals.{long-enough, long-upper, good-if}
 use Rattle.hexread.proofs.look.Statement.{statement}
 use Rattle.hexread.proofs.look.Tie as tie
 
-refusal-of-requires : tie.Need-refusal-of-requires
-refusal-of-requires c κs = search needs
-
 returns : tie.Need-returns
 returns c = record { refusal = c .before .refusal-of .ensures; ends = λ e. absurd (c .if1 .taken e); upperThen = λ e. absurd (c .if1 .taken e) }
-
-header-of-requires : tie.Need-header-of-requires
-header-of-requires c κs = long-enough _ (good-if _ _ _ (sym (c .before .refusal-of .ensures) ∙ c .if1 .left) .formed)
 
 upper-of-requires : tie.Need-upper-of-requires
 upper-of-requires c κs =
@@ -43,4 +37,6 @@ returns-3 c =
 pub look-spec : {M : Type 1} → statement M
 look-spec =
     tie.close
-    (tie.spec refusal-of-requires returns header-of-requires upper-of-requires returns-2 returns-3)
+    (tie.spec (search needs) returns
+    (λ c κs. long-enough _ (good-if _ _ _ (sym (c .before .refusal-of .ensures) ∙ c .if1 .left) .formed))
+    upper-of-requires returns-2 returns-3)

@@ -6,21 +6,6 @@ use Rattle.hexread.specs.Reading.{other-length, accepted, read-whole, re
 use Rattle.hexread.proofs.read.Statement.{statement}
 use Rattle.hexread.proofs.read.Tie as tie
 
-length-of-requires : tie.Need-length-of-requires
-length-of-requires c κs = search needs
-
-cast-n : tie.Need-cast-n
-cast-n c = search needs
-
-returns : tie.Need-returns
-returns c = other-length _ _ _ (λ e. c .if1 .taken (e ∙ sym (c .before .length-of .ensures .0)))
-
-mul-judge : tie.Need-mul-judge
-mul-judge c = search needs
-
-judge-requires : tie.Need-judge-requires
-judge-requires c κs = search needs
-
 fill-requires : tie.Need-fill-requires
 fill-requires c κs =
     let j = c .before .before .before in
@@ -28,9 +13,6 @@ fill-requires c κs =
     let long = j .before .if1 .left ∙ n in
     let a = c .before .before .before .before .before .before .before .before .args in
     accepted (a .part) _ (now (a .array)) long _ _ n (j .judge .ensures) (c .before .if2 .taken)
-
-same-length : tie.Need-same-length
-same-length c = search needs
 
 returns-2 : tie.Need-returns-2
 returns-2 c =
@@ -49,13 +31,6 @@ returns-3 c =
 pub read-spec : {M : Type 1} → statement M
 read-spec =
     tie.close
-    (tie.spec
-    length-of-requires
-    cast-n
-    returns
-    mul-judge
-    judge-requires
-    fill-requires
-    same-length
-    returns-2
-    returns-3)
+    (tie.spec (search needs) (search needs)
+    (λ c. other-length _ _ _ (λ e. c .if1 .taken (e ∙ sym (c .before .length-of .ensures .0)))) (search needs)
+    (search needs) fill-requires (search needs) returns-2 returns-3)

@@ -5,12 +5,6 @@ use Rattle.hexread.specs.Bytes.{other-type}
 use Rattle.hexread.proofs.refusal_by.Statement.{statement}
 use Rattle.hexread.proofs.refusal_by.Tie as tie
 
-returns : tie.Need-returns
-returns c = rw (not-true (c .before .before .args .s .digits) (c .if1 .taken))
-
-is-shaped-requires : tie.Need-is-shaped-requires
-is-shaped-requires c κs = search needs
-
 returns-2 : tie.Need-returns-2
 returns-2 c =
     let shape = c .before in
@@ -28,9 +22,6 @@ returns-4 c =
     let shape = c .before .before .before .before .before .before .before in
     let s = shape .before .before .before .args .s in
     simp (not-false (s .digits) (shape .before .if1 .left), ← shape .is-shaped .ensures, not-false (shape .is-shaped .result) (c .before .before .before .before .before .before .if2 .left), eq-eqb (s .sum) 0 (c .before .before .before .before .if3 .left), other-type, c .if4 .taken)
-
-is-outside-requires : tie.Need-is-outside-requires
-is-outside-requires c κs = search needs
 
 returns-5 : tie.Need-returns-5
 returns-5 c =
@@ -65,12 +56,5 @@ returns-6 c =
 pub refusal-by-spec : {M : Type 1} → statement M
 refusal-by-spec =
     tie.close
-    (tie.spec
-    returns
-    is-shaped-requires
-    returns-2
-    returns-3
-    returns-4
-    is-outside-requires
-    returns-5
-    returns-6)
+    (tie.spec (λ c. rw (not-true (c .before .before .args .s .digits) (c .if1 .taken))) (search needs) returns-2
+    returns-3 returns-4 (search needs) returns-5 returns-6)

@@ -13,27 +13,6 @@ Inv-loop line start count array₀ i₀ array i = Storing line start count array
 abbrev μ-loop : tie.MeasureT-loop
 μ-loop line start count array₀ i₀ array i = count - i
 
-loop-holds : tie.Need-loop-holds Inv-loop μ-loop
-loop-holds c = store-start _ _ _ _
-
-mul-byte-at : tie.Need-mul-byte-at Inv-loop μ-loop
-mul-byte-at c = search needs
-
-add-byte-at : tie.Need-add-byte-at Inv-loop μ-loop
-add-byte-at c = search needs
-
-byte-at-requires : tie.Need-byte-at-requires Inv-loop μ-loop
-byte-at-requires c κs = search needs
-
-add-address : tie.Need-add-address Inv-loop μ-loop
-add-address c = let fits = c .before .before .before .before .before .pre .room (omega arith) in search needs
-
-mul-with-byte : tie.Need-mul-with-byte Inv-loop μ-loop
-mul-with-byte c = let fits = c .before .before .before .before .before .pre .room (omega arith) in search needs
-
-slice-read-with-byte : tie.Need-slice-read-with-byte Inv-loop μ-loop
-slice-read-with-byte c = let fits = c .before .before .before .before .before .before .pre .room (omega arith) in search needs
-
 with-byte-requires : tie.Need-with-byte-requires Inv-loop μ-loop
 with-byte-requires c κs =
     let l = c .before .before .before in
@@ -45,41 +24,17 @@ mul-array c = let fits = c .before .before .before .before .before .before .befo
 slice-write-array : tie.Need-slice-write-array Inv-loop μ-loop
 slice-write-array c = let fits = c .before .before .before .before .before .before .before .pre .room (omega arith) in search needs
 
-add-i : tie.Need-add-i Inv-loop μ-loop
-add-i c = search needs
-
-loop-less : tie.Need-loop-less Inv-loop μ-loop
-loop-less c = search needs
-
 loop-again : tie.Need-loop-again Inv-loop μ-loop
 loop-again c =
     let l = c .before .before .before .before in
     store-step _ _ _ _ (l .before .before .before .pre) _ _ (l .loop .inv) (c .before .before .before .loop-test .taken) _ (c .with-byte .ensures ∙ rw (c .before .before .byte-at .ensures))
 
-same-length : tie.Need-same-length Inv-loop μ-loop
-same-length c = c .before .loop .inv .same
-
-returns : tie.Need-returns Inv-loop μ-loop
-returns c = store-end _ _ _ _ _ _ (c .before .loop .inv) (c .loop-test .left)
-
 pub store-spec : {M : Type 1} → statement M
 store-spec =
     tie.close
-    (tie.spec
-    Inv-loop
-    μ-loop
-    loop-holds
-    mul-byte-at
-    add-byte-at
-    byte-at-requires
-    add-address
-    mul-with-byte
-    slice-read-with-byte
-    with-byte-requires
-    mul-array
-    slice-write-array
-    add-i
-    loop-less
-    loop-again
-    same-length
-    returns)
+    (tie.spec Inv-loop μ-loop (λ c. store-start _ _ _ _) (search needs) (search needs) (search needs)
+    (λ c. let fits = c .before .before .before .before .before .pre .room (omega arith) in search needs)
+    (λ c. let fits = c .before .before .before .before .before .pre .room (omega arith) in search needs)
+    (λ c. let fits = c .before .before .before .before .before .before .pre .room (omega arith) in search needs)
+    with-byte-requires mul-array slice-write-array (search needs) (search needs) loop-again
+    (λ c. c .before .loop .inv .same) (λ c. store-end _ _ _ _ _ _ (c .before .loop .inv) (c .loop-test .left)))

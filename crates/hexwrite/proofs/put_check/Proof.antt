@@ -8,21 +8,6 @@ use Rattle.hexwrite.specs.Records.{ended, placed-last}
 use Rattle.hexwrite.proofs.put_check.Statement.{statement}
 use Rattle.hexwrite.proofs.put_check.Tie as tie
 
-wrapping-sub-u8-requires : tie.Need-wrapping-sub-u8-requires
-wrapping-sub-u8-requires c κs = search needs
-
-put-byte-requires : tie.Need-put-byte-requires
-put-byte-requires c κs = search needs
-
-add-last : tie.Need-add-last
-add-last c = search needs
-
-slice-write-text : tie.Need-slice-write-text
-slice-write-text c = search needs
-
-same-length : tie.Need-same-length
-same-length c = search needs
-
 returns : tie.Need-returns
 unfolding ended digitsOf
 returns c =
@@ -35,10 +20,4 @@ returns c =
 pub put-check-spec : {M : Type 1} → statement M
 put-check-spec =
     tie.close
-    (tie.spec
-    wrapping-sub-u8-requires
-    put-byte-requires
-    add-last
-    slice-write-text
-    same-length
-    returns)
+    (tie.spec (search needs) (search needs) (search needs) (search needs) (λ c. search needs) returns)

@@ -6,24 +6,6 @@ use Rattle.hexwrite.specs.Texts.{bytes-count}
 use Rattle.hexwrite.proofs.put_data.Statement.{statement}
 use Rattle.hexwrite.proofs.put_data.Tie as tie
 
-put-head-requires : tie.Need-put-head-requires
-put-head-requires c κs = search needs
-
-add-put-words : tie.Need-add-put-words
-add-put-words c = search needs
-
-put-words-requires : tie.Need-put-words-requires
-put-words-requires c κs = search needs
-
-add-put-check : tie.Need-add-put-check
-add-put-check c = search needs
-
-put-check-requires : tie.Need-put-check-requires
-put-check-requires c κs = search needs
-
-same-length : tie.Need-same-length
-same-length c = search needs
-
 returns : tie.Need-returns
 returns c =
     let check = c .before .before in
@@ -38,11 +20,4 @@ returns c =
 pub put-data-spec : {M : Type 1} → statement M
 put-data-spec =
     tie.close
-    (tie.spec
-    put-head-requires
-    add-put-words
-    put-words-requires
-    add-put-check
-    put-check-requires
-    same-length
-    returns)
+    (tie.spec (search needs) (search needs) (search needs) (search needs) (search needs) (search needs) returns)

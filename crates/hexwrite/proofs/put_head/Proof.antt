@@ -6,39 +6,15 @@ use Rattle.hexwrite.specs.Records.{begun-none, begun-then}
 use Rattle.hexwrite.proofs.put_head.Statement.{statement}
 use Rattle.hexwrite.proofs.put_head.Tie as tie
 
-slice-write-text : tie.Need-slice-write-text
-slice-write-text c = search needs
-
-add-put-byte : tie.Need-add-put-byte
-add-put-byte c = search needs
-
-put-byte-requires : tie.Need-put-byte-requires
-put-byte-requires c κs = let start = c .before .before in omega (arith, length-set (start .args .text .now) (start .args .at) 58)
-
-add-put-byte-2 : tie.Need-add-put-byte-2
-add-put-byte-2 c = search needs
-
-cast-put-byte : tie.Need-cast-put-byte
-cast-put-byte c = search needs
-
 put-byte-requires-2 : tie.Need-put-byte-requires-2
 put-byte-requires-2 c κs =
     let start = c .before .before .before .before .before .before in
     omega (arith, length-set (start .args .text .now) (start .args .at) 58)
 
-add-put-byte-3 : tie.Need-add-put-byte-3
-add-put-byte-3 c = search needs
-
-cast-put-byte-2 : tie.Need-cast-put-byte-2
-cast-put-byte-2 c = search needs
-
 put-byte-requires-3 : tie.Need-put-byte-requires-3
 put-byte-requires-3 c κs =
     let start = c .before .before .before .before .before .before .before .before .before .before in
     omega (arith, length-set (start .args .text .now) (start .args .at) 58)
-
-add-put-byte-4 : tie.Need-add-put-byte-4
-add-put-byte-4 c = search needs
 
 put-byte-requires-4 : tie.Need-put-byte-requires-4
 put-byte-requires-4 c κs =
@@ -67,17 +43,7 @@ returns c =
 pub put-head-spec : {M : Type 1} → statement M
 put-head-spec =
     tie.close
-    (tie.spec
-    slice-write-text
-    add-put-byte
-    put-byte-requires
-    add-put-byte-2
-    cast-put-byte
-    put-byte-requires-2
-    add-put-byte-3
-    cast-put-byte-2
-    put-byte-requires-3
-    add-put-byte-4
-    put-byte-requires-4
-    same-length
-    returns)
+    (tie.spec (search needs) (search needs)
+    (λ c κs. let start = c .before .before in omega (arith, length-set (start .args .text .now) (start .args .at) 58))
+    (search needs) (search needs) put-byte-requires-2 (search needs) (search needs) put-byte-requires-3 (search needs)
+    put-byte-requires-4 same-length returns)

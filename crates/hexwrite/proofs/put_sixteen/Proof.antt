@@ -8,36 +8,15 @@ use Rattle.hexwrite.specs.Texts.{first-put, other-put, first-length, oth
 use Rattle.hexwrite.proofs.put_sixteen.Statement.{statement}
 use Rattle.hexwrite.proofs.put_sixteen.Tie as tie
 
-mul-offset : tie.Need-mul-offset
-mul-offset c = search needs
-
-cast-offset : tie.Need-cast-offset
-cast-offset c = search needs
-
-cast-put-upper : tie.Need-cast-put-upper
-cast-put-upper c = search needs
-
 put-upper-requires : tie.Need-put-upper-requires
 put-upper-requires c κs =
     let start = c .before .before .before .before in
     omega (arith, first-length (start .args .array .now) (start .args .k) (omega arith) (omega arith))
 
-add-put-data : tie.Need-add-put-data
-add-put-data c = search needs
-
-mul-put-data : tie.Need-mul-put-data
-mul-put-data c = search needs
-
 put-data-requires : tie.Need-put-data-requires
 put-data-requires c κs =
     let start = c .before .before .before .before .before .before .before .before in
     (omega (arith, first-length (start .args .array .now) (start .args .k) (omega arith) (omega arith)), search needs)
-
-add-result : tie.Need-add-result
-add-result c = search needs
-
-same-length : tie.Need-same-length
-same-length c = search needs
 
 returns : tie.Need-returns
 returns c =
@@ -50,19 +29,10 @@ returns c =
     let long = first-length ws k (omega arith) e in
     (omega arith, first-put ws k (start .args .text .now) (start .args .at) e (upper .put-upper .ensures) (put .put-data .ensures) (omega arith))
 
-mul-put-data-2 : tie.Need-mul-put-data-2
-mul-put-data-2 c = search needs
-
 put-data-requires-2 : tie.Need-put-data-requires-2
 put-data-requires-2 c κs =
     let start = c .before .before .before .before in
     (omega (arith, other-length (start .args .array .now) (start .args .k) (omega arith) (λ z. omega arith)), search needs)
-
-add-result-2 : tie.Need-add-result-2
-add-result-2 c = search needs
-
-same-length-2 : tie.Need-same-length-2
-same-length-2 c = search needs
 
 returns-2 : tie.Need-returns-2
 returns-2 c =
@@ -76,19 +46,6 @@ returns-2 c =
 pub put-sixteen-spec : {M : Type 1} → statement M
 put-sixteen-spec =
     tie.close
-    (tie.spec
-    mul-offset
-    cast-offset
-    cast-put-upper
-    put-upper-requires
-    add-put-data
-    mul-put-data
-    put-data-requires
-    add-result
-    same-length
-    returns
-    mul-put-data-2
-    put-data-requires-2
-    add-result-2
-    same-length-2
-    returns-2)
+    (tie.spec (search needs) (search needs) (search needs) put-upper-requires (search needs) (search needs)
+    put-data-requires (search needs) (search needs) returns (search needs) put-data-requires-2 (search needs)
+    (search needs) returns-2)

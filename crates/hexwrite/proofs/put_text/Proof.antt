@@ -1,4 +1,5 @@
--- `hexwrite::put_text` meets its contract. The invariant: the first k sixteens are put, and `at` is the place after them. Assumes nothing.
+-- `hexwrite::put_text` meets its contract. The invariant: the first k sixteens are put, and `at` is the place after
+-- them. Assumes nothing.
 use Prim.Native.Nat.{ℕ, _-_, _/_, _≤_}
 use mathlib.Core.List.{List}
 use mathlib.Core.Path.{_≡_, sym, _∙_}
@@ -19,21 +20,11 @@ Inv-loop text₀ array count at₀ k₀ text at k =
 abbrev μ-loop : tie.MeasureT-loop
 μ-loop text₀ array count at₀ k₀ text at k = count - k
 
-loop-holds : tie.Need-loop-holds Inv-loop μ-loop
-unfolding sixteens
-loop-holds c = (search needs, search needs, search needs, sym (placed-none _ 0))
-
 put-sixteen-requires : tie.Need-put-sixteen-requires Inv-loop μ-loop
 put-sixteen-requires c κs =
     let head = c .before .before in
     let start = head .before .before .before in
     (omega (arith, sixteen-room (start .args .array .now) (head .loop .k) (omega arith)), search needs)
-
-add-k : tie.Need-add-k Inv-loop μ-loop
-add-k c = search needs
-
-loop-less : tie.Need-loop-less Inv-loop μ-loop
-loop-less c = search needs
 
 loop-again : tie.Need-loop-again Inv-loop μ-loop
 loop-again c =
@@ -57,9 +48,6 @@ put-end-requires c κs =
     let e : head .loop .k ≡ length ws / 8 = omega arith in
     omega (arith, rw e at (head .loop .inv .2), end-room ws)
 
-same-length : tie.Need-same-length Inv-loop μ-loop
-same-length c = search needs
-
 returns : tie.Need-returns Inv-loop μ-loop
 unfolding plainText
 returns c =
@@ -72,16 +60,8 @@ returns c =
     put .put-end .ensures ∙ rw (head .loop .inv .3, e) (placed-then _ 0 _ _ (omega arith) (omega arith))
 
 pub put-text-spec : {M : Type 1} → statement M
+unfolding sixteens
 put-text-spec =
     tie.close
-    (tie.spec
-    Inv-loop
-    μ-loop
-    loop-holds
-    put-sixteen-requires
-    add-k
-    loop-less
-    loop-again
-    put-end-requires
-    same-length
-    returns)
+    (tie.spec Inv-loop μ-loop (λ c. (search needs, search needs, search needs, sym (placed-none _ 0)))
+    put-sixteen-requires (search needs) (search needs) loop-again put-end-requires (search needs) returns)

@@ -17,34 +17,6 @@ Inv-loop text₀ at sum array from next₀ i₀ text next i = (i ≤ 8) × (leng
 abbrev μ-loop : tie.MeasureT-loop
 μ-loop text₀ at sum array from next₀ i₀ text next i = 8 - i
 
-loop-holds : tie.Need-loop-holds Inv-loop μ-loop
-unfolding bytesOf
-loop-holds c = (search needs, search needs, added-none _ _ (c .before .before .fits .sum .fits))
-
-add-j : tie.Need-add-j Inv-loop μ-loop
-add-j c = search needs
-
-mul-put-word : tie.Need-mul-put-word Inv-loop μ-loop
-mul-put-word c = search needs
-
-add-put-word : tie.Need-add-put-word Inv-loop μ-loop
-add-put-word c = search needs
-
-mul-put-word-2 : tie.Need-mul-put-word-2 Inv-loop μ-loop
-mul-put-word-2 c = search needs
-
-shared-slice-read-put-word : tie.Need-shared-slice-read-put-word Inv-loop μ-loop
-shared-slice-read-put-word c = search needs
-
-put-word-requires : tie.Need-put-word-requires Inv-loop μ-loop
-put-word-requires c κs = search needs
-
-add-i : tie.Need-add-i Inv-loop μ-loop
-add-i c = search needs
-
-loop-less : tie.Need-loop-less Inv-loop μ-loop
-loop-less c = search needs
-
 loop-again : tie.Need-loop-again Inv-loop μ-loop
 loop-again c =
     let put = c .before .before in
@@ -57,27 +29,11 @@ loop-again c =
     let place = bytes-count array from i (omega arith) in
     (search needs, search needs, rw (bytes-more array from i h) (added-then (head .loop .inv .2) (put .put-word .ensures) (omega arith) (omega arith)))
 
-same-length : tie.Need-same-length Inv-loop μ-loop
-same-length c = search needs
-
-returns : tie.Need-returns Inv-loop μ-loop
-returns c = let e : c .before .loop .i ≡ 8 = omega arith in rw e at (c .before .loop .inv .2)
-
 pub put-words-spec : {M : Type 1} → statement M
+unfolding bytesOf
 put-words-spec =
     tie.close
-    (tie.spec
-    Inv-loop
-    μ-loop
-    loop-holds
-    add-j
-    mul-put-word
-    add-put-word
-    mul-put-word-2
-    shared-slice-read-put-word
-    put-word-requires
-    add-i
-    loop-less
-    loop-again
-    same-length
-    returns)
+    (tie.spec Inv-loop μ-loop (λ c. (search needs, search needs, added-none _ _ (c .before .before .fits .sum .fits)))
+    (search needs) (search needs) (search needs) (search needs) (search needs) (search needs) (search needs)
+    (search needs) loop-again (search needs)
+    (λ c. let e : c .before .loop .i ≡ 8 = omega arith in rw e at (c .before .loop .inv .2)))

@@ -5,19 +5,10 @@ use Rattle.hexwrite.specs.Texts.{refused-length, refused-room, whole-tex
 use Rattle.hexwrite.proofs.write.Statement.{statement}
 use Rattle.hexwrite.proofs.write.Tie as tie
 
-length-of-requires : tie.Need-length-of-requires
-length-of-requires c κs = search needs
-
-cast-if1 : tie.Need-cast-if1
-cast-if1 c = search needs
-
 returns : tie.Need-returns
 returns c =
     let start = c .before .before .before .before in
     refused-length (start .args .part) (start .args .array .now) (start .args .text .now) (λ e. omega arith)
-
-text-length-requires : tie.Need-text-length-requires
-text-length-requires c κs = search needs
 
 returns-2 : tie.Need-returns-2
 returns-2 c =
@@ -28,9 +19,6 @@ put-text-requires : tie.Need-put-text-requires
 put-text-requires c κs =
     let start = c .before .before .before .before .before .before .before in
     (omega (arith, plain-length (start .args .part) (start .args .array .now) (omega arith)), omega arith)
-
-same-length : tie.Need-same-length
-same-length c = search needs
 
 returns-3 : tie.Need-returns-3
 returns-3 c =
@@ -43,12 +31,5 @@ returns-3 c =
 pub write-spec : {M : Type 1} → statement M
 write-spec =
     tie.close
-    (tie.spec
-    length-of-requires
-    cast-if1
-    returns
-    text-length-requires
-    returns-2
-    put-text-requires
-    same-length
+    (tie.spec (search needs) (search needs) returns (search needs) returns-2 put-text-requires (search needs)
     returns-3)

@@ -14,28 +14,6 @@ Inv-loop base line at n ok₀ i₀ ok i = (i ≤ n) × (ok ≡ digits base line 
 abbrev μ-loop : tie.MeasureT-loop
 μ-loop base line at n ok₀ i₀ ok i = n - i
 
-loop-holds : tie.Need-loop-holds Inv-loop μ-loop
-unfolding digits
-loop-holds c = (search needs, refl)
-
-cast-byte-at : tie.Need-cast-byte-at Inv-loop μ-loop
-cast-byte-at c = search needs
-
-add-byte-at : tie.Need-add-byte-at Inv-loop μ-loop
-add-byte-at c = search needs
-
-byte-at-requires : tie.Need-byte-at-requires Inv-loop μ-loop
-byte-at-requires c κs = search needs
-
-hex-value-requires : tie.Need-hex-value-requires Inv-loop μ-loop
-hex-value-requires c κs = search needs
-
-add-i : tie.Need-add-i Inv-loop μ-loop
-add-i c = search needs
-
-loop-less : tie.Need-loop-less Inv-loop μ-loop
-loop-less c = search needs
-
 loop-again : tie.Need-loop-again Inv-loop μ-loop
 unfolding digits
 loop-again c = (search needs, simp (add-one, c .before .before .before .loop .inv .1, c .hex-value .ensures, c .before .byte-at .ensures))
@@ -46,17 +24,8 @@ returns c =
     c .before .loop .inv .1 ∙ ap (digits _ _ _) e
 
 pub digits-spec : {M : Type 1} → statement M
+unfolding digits
 digits-spec =
     tie.close
-    (tie.spec
-    Inv-loop
-    μ-loop
-    loop-holds
-    cast-byte-at
-    add-byte-at
-    byte-at-requires
-    hex-value-requires
-    add-i
-    loop-less
-    loop-again
-    returns)
+    (tie.spec Inv-loop μ-loop (λ c. (search needs, refl)) (search needs) (search needs) (search needs) (search needs)
+    (search needs) (search needs) loop-again returns)

@@ -6,22 +6,11 @@ use Rattle.line.specs.Forms.{hexValue}
 use Rattle.line.proofs.hex_value.Statement.{statement}
 use Rattle.line.proofs.hex_value.Tie as tie
 
-sub-result : tie.Need-sub-result
-sub-result c = search needs
-
-returns : tie.Need-returns
-unfolding hexValue
-returns c = simp (le-leb 48 _ (c .before .if1 .left), le-leb (c .before .before .args .b) 57 (omega arith))
-
 returns-2 : tie.Need-returns-2
 unfolding hexValue
 returns-2 c =
     let b = c .before .before .before .before .args .b in
     simp (lt-leb b 57 (c .before .before .if2 .left), le-leb 48 b (omega arith), le-leb 65 b (c .before .if3 .left), le-leb b 70 (omega arith))
-
-returns-3 : tie.Need-returns-3
-unfolding hexValue
-returns-3 c = simp (lt-leb 48 _ (c .if1 .taken), lt-leb 65 (c .before .args .b) (omega arith))
 
 returns-4 : tie.Need-returns-4
 unfolding hexValue
@@ -36,4 +25,9 @@ returns-5 c =
     simp (le-leb 48 b (omega arith), lt-leb b 57 (omega arith), le-leb 65 b (omega arith), lt-leb b 70 (omega arith))
 
 pub hex-value-spec : {M : Type 1} → statement M
-hex-value-spec = tie.close (tie.spec sub-result returns returns-2 returns-3 returns-4 returns-5)
+unfolding hexValue
+hex-value-spec =
+    tie.close
+    (tie.spec (search needs)
+    (λ c. simp (le-leb 48 _ (c .before .if1 .left), le-leb (c .before .before .args .b) 57 (omega arith))) returns-2
+    (λ c. simp (lt-leb 48 _ (c .if1 .taken), lt-leb 65 (c .before .args .b) (omega arith))) returns-4 returns-5)

@@ -5,29 +5,6 @@ use Rattle.line.specs.Forms.{isWork}
 use Rattle.line.proofs.is_work.Statement.{statement}
 use Rattle.line.proofs.is_work.Tie as tie
 
-returns : tie.Need-returns
-unfolding isWork
-returns c = simp (lt-leb 3 _ (c .if1 .taken))
-
-returns-2 : tie.Need-returns-2
-unfolding isWork
-returns-2 c = simp (le-leb 3 _ (c .before .if1 .left), lt-leb _ 7 (c .if2 .taken))
-
-begins-requires : tie.Need-begins-requires
-begins-requires c κs = search needs
-
-sub-digits : tie.Need-sub-digits
-sub-digits c = search needs
-
-cast-digits : tie.Need-cast-digits
-cast-digits c = search needs
-
-digits-requires : tie.Need-digits-requires
-digits-requires c κs = search needs
-
-byte-at-requires : tie.Need-byte-at-requires
-byte-at-requires c κs = search needs
-
 returns-3 : tie.Need-returns-3
 unfolding isWork
 returns-3 c =
@@ -40,14 +17,9 @@ returns-3 c =
     )
 
 pub is-work-spec : {M : Type 1} → statement M
+unfolding isWork
 is-work-spec =
     tie.close
-    (tie.spec
-    returns
-    returns-2
-    begins-requires
-    sub-digits
-    cast-digits
-    digits-requires
-    byte-at-requires
-    returns-3)
+    (tie.spec (λ c. simp (lt-leb 3 _ (c .if1 .taken)))
+    (λ c. simp (le-leb 3 _ (c .before .if1 .left), lt-leb _ 7 (c .if2 .taken))) (search needs) (search needs)
+    (search needs) (search needs) (search needs) returns-3)

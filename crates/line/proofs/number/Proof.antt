@@ -23,25 +23,6 @@ digit-mod m b v M =
     let q : m * b + v ≡ m / M * b * M + (m % M * b + v) = omega arith in
     sym (ap (λ (x : ℕ). x % M) q ∙ mul-add-mod-self-right _ M _)
 
-loop-holds : tie.Need-loop-holds Inv-loop μ-loop
-unfolding number
-loop-holds c = (search needs, search needs, refl)
-
-cast-byte-at : tie.Need-cast-byte-at Inv-loop μ-loop
-cast-byte-at c = search needs
-
-add-byte-at : tie.Need-add-byte-at Inv-loop μ-loop
-add-byte-at c = search needs
-
-byte-at-requires : tie.Need-byte-at-requires Inv-loop μ-loop
-byte-at-requires c κs = search needs
-
-hex-value-requires : tie.Need-hex-value-requires Inv-loop μ-loop
-hex-value-requires c κs = search needs
-
-cast-value : tie.Need-cast-value Inv-loop μ-loop
-cast-value c = search needs
-
 -- the product of a number below 2^24 and a byte
 product : {m b : ℕ} → m < 16777216 → b < 256 → m * b ≤ 16777215 * 255
 product h k = mul-le-mul {n₂ = 16777215} {m₂ = 255} (omega arith) (omega arith)
@@ -51,12 +32,6 @@ mul-made c = omega (arith, product (c .before .before .before .loop .inv .1) (c 
 
 add-made : tie.Need-add-made Inv-loop μ-loop
 add-made c = omega (arith, product (c .before .before .before .loop .inv .1) (c .before .before .before .before .before .fits .base .fits), c .hex-value .ok)
-
-add-i : tie.Need-add-i Inv-loop μ-loop
-add-i c = search needs
-
-loop-less : tie.Need-loop-less Inv-loop μ-loop
-loop-less c = search needs
 
 loop-again : tie.Need-loop-again Inv-loop μ-loop
 unfolding number
@@ -68,20 +43,8 @@ returns c =
     c .before .loop .inv .2 ∙ ap (λ (m : ℕ). m % 16777216) (ap (number _ _ _) e)
 
 pub number-spec : {M : Type 1} → statement M
+unfolding number
 number-spec =
     tie.close
-    (tie.spec
-    Inv-loop
-    μ-loop
-    loop-holds
-    cast-byte-at
-    add-byte-at
-    byte-at-requires
-    hex-value-requires
-    cast-value
-    mul-made
-    add-made
-    add-i
-    loop-less
-    loop-again
-    returns)
+    (tie.spec Inv-loop μ-loop (λ c. (search needs, search needs, refl)) (search needs) (search needs) (search needs)
+    (search needs) (search needs) mul-made add-made (search needs) (search needs) loop-again returns)

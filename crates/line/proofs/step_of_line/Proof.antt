@@ -30,24 +30,9 @@ not-supply c = sym (c .before .is-supply .ensures) ∙ c .if4 .left
 not-reset : (c : tie.Else5) → isReset (c .before .before .before .before .before .before .before .before .before .before .before .args .line .now) ≡ false
 not-reset c = sym (c .before .is-reset .ensures) ∙ c .if5 .left
 
-is-read-requires : tie.Need-is-read-requires
-is-read-requires c κs = search needs
-
-number-requires : tie.Need-number-requires
-number-requires c κs = search needs
-
 returns : tie.Need-returns
 unfolding stepOfLine
 returns c = let h = sym (c .before .before .is-read .ensures) ∙ c .before .if1 .taken in simp (h, c .number .ensures, kept (laws.read-address _ h) (omega arith))
-
-is-write-requires : tie.Need-is-write-requires
-is-write-requires c κs = search needs
-
-number-requires-2 : tie.Need-number-requires-2
-number-requires-2 c κs = search needs
-
-number-requires-3 : tie.Need-number-requires-3
-number-requires-3 c κs = search needs
 
 cast-t8 : tie.Need-cast-t8
 cast-t8 c =
@@ -67,36 +52,15 @@ returns-2 c =
       kept (laws.write-data _ h) (omega arith),
     )
 
-is-work-requires : tie.Need-is-work-requires
-is-work-requires c κs = search needs
-
-sub-number : tie.Need-sub-number
-sub-number c = omega (arith, laws.work-length _ (sym (c .before .is-work .ensures) ∙ c .if3 .taken))
-
-cast-number : tie.Need-cast-number
-cast-number c = omega (arith, laws.work-length _ (sym (c .before .is-work .ensures) ∙ c .if3 .taken))
-
-number-requires-4 : tie.Need-number-requires-4
-number-requires-4 c κs = search needs
-
 returns-3 : tie.Need-returns-3
 unfolding stepOfLine
 returns-3 c =
     let h = sym (c .before .before .is-work .ensures) ∙ c .before .if3 .taken in
     simp (not-read (c .before .before .before .before .before), not-write (c .before .before .before), h, c .number4 .ensures, kept (laws.work-count _ h) (omega arith))
 
-is-supply-requires : tie.Need-is-supply-requires
-is-supply-requires c κs = search needs
-
-byte-at-requires : tie.Need-byte-at-requires
-byte-at-requires c κs = search needs
-
 returns-4 : tie.Need-returns-4
 unfolding stepOfLine
 returns-4 c = simp (not-read (c .before .before .before .before .before .before .before), not-write (c .before .before .before .before .before), not-work (c .before .before .before), sym (c .before .before .is-supply .ensures) ∙ c .before .if4 .taken, c .byte-at .ensures)
-
-is-reset-requires : tie.Need-is-reset-requires
-is-reset-requires c κs = search needs
 
 returns-5 : tie.Need-returns-5
 unfolding stepOfLine
@@ -109,23 +73,7 @@ returns-6 c = simp (not-read (c .before .before .before .before .before .before 
 pub step-of-line-spec : {M : Type 1} → statement M
 step-of-line-spec =
     tie.close
-    (tie.spec
-    is-read-requires
-    number-requires
-    returns
-    is-write-requires
-    number-requires-2
-    number-requires-3
-    cast-t8
-    returns-2
-    is-work-requires
-    sub-number
-    cast-number
-    number-requires-4
-    returns-3
-    is-supply-requires
-    byte-at-requires
-    returns-4
-    is-reset-requires
-    returns-5
-    returns-6)
+    (tie.spec (search needs) (search needs) returns (search needs) (search needs) (search needs) cast-t8 returns-2
+    (search needs) (λ c. omega (arith, laws.work-length _ (sym (c .before .is-work .ensures) ∙ c .if3 .taken)))
+    (λ c. omega (arith, laws.work-length _ (sym (c .before .is-work .ensures) ∙ c .if3 .taken))) (search needs)
+    returns-3 (search needs) (search needs) returns-4 (search needs) returns-5 returns-6)

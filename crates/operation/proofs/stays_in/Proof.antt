@@ -3,17 +3,8 @@ use borrow.Author.Needs.{needs}
 use Rattle.operation.proofs.stays_in.Statement.{statement}
 use Rattle.operation.proofs.stays_in.Tie as tie
 
-returns : tie.Need-returns
-returns c = simp (c .block-size .ensures .0, c .before .block-start .ensures .0)
-
 pub stays-in-spec : {M : Type 1} → statement M
 stays-in-spec =
     tie.close
-    (tie.spec
-    (λ c κs. search needs)
-    (λ c. search needs)
-    (λ c κs. search needs)
-    (λ c. search needs)
-    (λ c. search needs)
-    (λ c. search needs)
-    returns)
+    (tie.spec (search needs) (search needs) (search needs) (search needs) (search needs) (search needs)
+    (λ c. simp (c .block-size .ensures .0, c .before .block-start .ensures .0)))

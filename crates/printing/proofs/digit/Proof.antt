@@ -5,22 +5,9 @@ use Rattle.printing.specs.Text.{digitOf}
 use Rattle.printing.proofs.digit.Statement.{statement}
 use Rattle.printing.proofs.digit.Tie as tie
 
-cast-d : tie.Need-cast-d
-cast-d c = search needs
-
-add-result : tie.Need-add-result
-add-result c = search needs
-
-add-result-2 : tie.Need-add-result-2
-add-result-2 c = search needs
-
-returns : tie.Need-returns
-unfolding digitOf
-returns c = rw (lt-ltb _ 10 (c .if1 .taken))
-
-returns-2 : tie.Need-returns-2
-unfolding digitOf
-returns-2 c = rw (le-ltb _ 10 (c .if1 .left))
-
 pub digit-spec : {M : Type 1} → statement M
-digit-spec = tie.close (tie.spec cast-d add-result add-result-2 returns returns-2)
+unfolding digitOf
+digit-spec =
+    tie.close
+    (tie.spec (search needs) (search needs) (search needs) (λ c. rw (lt-ltb _ 10 (c .if1 .taken)))
+    (λ c. rw (le-ltb _ 10 (c .if1 .left))))

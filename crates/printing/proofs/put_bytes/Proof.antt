@@ -15,43 +15,14 @@ Inv-loop room₀ at bytes next₀ i₀ room next i = (i ≤ length bytes) × Put
 abbrev μ-loop : tie.MeasureT-loop
 μ-loop room₀ at bytes next₀ i₀ room next i = length bytes - i
 
-loop-holds : tie.Need-loop-holds Inv-loop μ-loop
-loop-holds c = (search needs, put-none _ _)
-
-shared-slice-read-put-byte : tie.Need-shared-slice-read-put-byte Inv-loop μ-loop
-shared-slice-read-put-byte c = search needs
-
-put-byte-requires : tie.Need-put-byte-requires Inv-loop μ-loop
-put-byte-requires c κs = search needs
-
-add-i : tie.Need-add-i Inv-loop μ-loop
-add-i c = search needs
-
-loop-less : tie.Need-loop-less Inv-loop μ-loop
-loop-less c = search needs
-
 loop-again : tie.Need-loop-again Inv-loop μ-loop
 loop-again c =
     let at-test = c .before .before .before .before .before in
     (search needs, rw (add-one, take-suc {A = ℕ} _ _ 0 (at-test .loop-test .taken)) (put-then (at-test .before .loop .inv .1) (c .before .before .put-byte .ensures)))
 
-same-length : tie.Need-same-length Inv-loop μ-loop
-same-length c = ap length (c .before .loop .inv .1 .room) ∙ placed-length _ _ _
-
-returns : tie.Need-returns Inv-loop μ-loop
-returns c = rw (take-all _ _ (c .loop-test .left)) at (c .before .loop .inv .1)
-
 pub put-bytes-spec : {M : Type 1} → statement M
 put-bytes-spec =
     tie.close
-    (tie.spec
-    Inv-loop
-    μ-loop
-    loop-holds
-    shared-slice-read-put-byte
-    put-byte-requires
-    add-i
-    loop-less
-    loop-again
-    same-length
-    returns)
+    (tie.spec Inv-loop μ-loop (λ c. (search needs, put-none _ _)) (search needs) (search needs) (search needs)
+    (search needs) loop-again (λ c. ap length (c .before .loop .inv .1 .room) ∙ placed-length _ _ _)
+    (λ c. rw (take-all _ _ (c .loop-test .left)) at (c .before .loop .inv .1)))

@@ -1,4 +1,5 @@
--- `saved::activity_same` meets its contract, by those of the functions that give the numbers and compare them. Assumes nothing.
+-- `saved::activity_same` meets its contract, by those of the functions that give the numbers and compare them. Assumes
+-- nothing.
 use mathlib.Core.Bool.{true, false}
 use mathlib.Core.Path.{refl, sym, ap, _∙_}
 use borrow.Author.Tests.{not-true, not-false}
@@ -31,16 +32,5 @@ returns-4 c =
 pub activity-same-spec : {M : Type 1} → statement M
 activity-same-spec =
     tie.close
-    (tie.spec
-    (λ c κs. search needs)
-    (λ c κs. search needs)
-    returns
-    (λ c κs. search needs)
-    (λ c κs. search needs)
-    returns-2
-    (λ c κs. search needs)
-    (λ c κs. search needs)
-    returns-3
-    (λ c κs. search needs)
-    (λ c κs. search needs)
-    returns-4)
+    (tie.spec (search needs) (search needs) returns (search needs) (search needs) returns-2 (search needs)
+    (search needs) returns-3 (search needs) (search needs) returns-4)

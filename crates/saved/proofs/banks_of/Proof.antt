@@ -9,11 +9,4 @@ unfolding tabulate
 returns c = rw (c .with-modes2 .ensures, c .before .before .with-modes .ensures, c .before .before .before .word-at .ensures, c .before .word-at2 .ensures)
 
 pub banks-of-spec : {M : Type 1} → statement M
-banks-of-spec =
-    tie.close
-    (tie.spec
-    (λ c κs. search needs)
-    (λ c κs. search needs)
-    (λ c κs. search needs)
-    (λ c κs. search needs)
-    returns)
+banks-of-spec = tie.close (tie.spec (search needs) (search needs) (search needs) (search needs) returns)

@@ -1,4 +1,5 @@
--- `saved::buffer_of` meets its contract. The invariant: the words of the buffer that the first `j` words hold are taken. Assumes nothing.
+-- `saved::buffer_of` meets its contract. The invariant: the words of the buffer that the first `j` words hold are
+-- taken. Assumes nothing.
 use Prim.Native.Nat.{_≤_, _-_, _*_}
 use mathlib.Core.Path.{_≡_, refl, _∙_}
 use native.Mathlib.Omega.{arith}
@@ -17,45 +18,15 @@ Inv-loop words buffer₀ j₀ buffer j = (j ≤ 8) × (buffer ≡ sets buffer₀
 abbrev μ-loop : tie.MeasureT-loop
 μ-loop words buffer₀ j₀ buffer j = 8 - j
 
-loop-holds : tie.Need-loop-holds Inv-loop μ-loop
-loop-holds c = (search needs, refl)
-
 loop-again : tie.Need-loop-again Inv-loop μ-loop
 loop-again c = (search needs, taken-more (c .before .before .before .before .args .words .now) _ _ _ _ (search needs) (c .word-at .ensures) (c .before .before .loop .inv .1))
 
-returns : tie.Need-returns Inv-loop μ-loop
-unfolding tabulate
-returns c = let e : c .before .loop .j ≡ 8 = omega arith in c .before .loop .inv .1 ∙ rw e
-
 pub buffer-of-spec : {M : Type 1} → statement M
+unfolding tabulate
 buffer-of-spec =
     tie.close
-    (tie.spec
-    Inv-loop
-    μ-loop
-    loop-holds
-    (λ c. search needs)
-    (λ c κs. search needs)
-    (λ c. search needs)
-    (λ c. search needs)
-    (λ c. search needs)
-    (λ c. search needs)
-    (λ c. search needs)
-    (λ c. search needs)
-    (λ c. search needs)
-    (λ c. search needs)
-    (λ c. search needs)
-    (λ c. search needs)
-    (λ c. search needs)
-    (λ c. search needs)
-    (λ c. search needs)
-    (λ c. search needs)
-    (λ c. search needs)
-    (λ c. search needs)
-    (λ c. search needs)
-    (λ c. search needs)
-    (λ c. search needs)
-    (λ c. search needs)
-    (λ c. search needs)
-    loop-again
-    returns)
+    (tie.spec Inv-loop μ-loop (λ c. (search needs, refl)) (search needs) (search needs) (search needs) (search needs)
+    (search needs) (search needs) (search needs) (search needs) (search needs) (search needs) (search needs)
+    (search needs) (search needs) (search needs) (search needs) (search needs) (search needs) (search needs)
+    (search needs) (search needs) (search needs) (search needs) (search needs) loop-again
+    (λ c. let e : c .before .loop .j ≡ 8 = omega arith in c .before .loop .inv .1 ∙ rw e))

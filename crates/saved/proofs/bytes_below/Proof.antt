@@ -1,4 +1,5 @@
--- `saved::bytes_below` meets its contract. The invariant: what is tested, and the test of what is left, are the whole test. Assumes nothing.
+-- `saved::bytes_below` meets its contract. The invariant: what is tested, and the test of what is left, are the whole
+-- test. Assumes nothing.
 use Prim.Native.Nat.{_≤_, _+_, _-_, suc}
 use mathlib.Core.Bool.{_&&_, and-assoc}
 use mathlib.Core.Path.{_≡_, _∙_}
@@ -14,9 +15,6 @@ Inv-loop m n w below₀ rest₀ i₀ below rest i = (i ≤ n) × ((below && byte
 abbrev μ-loop : tie.MeasureT-loop
 μ-loop m n w below₀ rest₀ i₀ below rest i = n - i
 
-loop-holds : tie.Need-loop-holds Inv-loop μ-loop
-loop-holds c = let e : c .args .n - 0 ≡ c .args .n = omega arith in (search needs, rw e)
-
 loop-again : tie.Need-loop-again Inv-loop μ-loop
 unfolding bytesBelow
 loop-again c =
@@ -30,11 +28,5 @@ returns c = let e : c .before .before .args .n - c .before .loop .i ≡ 0 = omeg
 pub bytes-below-spec : {M : Type 1} → statement M
 bytes-below-spec =
     tie.close
-    (tie.spec
-    Inv-loop
-    μ-loop
-    loop-holds
-    (λ c. search needs)
-    (λ c. search needs)
-    loop-again
-    returns)
+    (tie.spec Inv-loop μ-loop (λ c. let e : c .args .n - 0 ≡ c .args .n = omega arith in (search needs, rw e))
+    (search needs) (search needs) loop-again returns)

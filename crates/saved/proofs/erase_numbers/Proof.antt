@@ -8,8 +8,5 @@ use Rattle.saved.proofs.erase_numbers.Tie as tie
 pub erase-numbers-spec : {M : Type 1} → statement M
 erase-numbers-spec =
     tie.close
-    (tie.spec
-    (λ c. search needs)
-    (λ c. search needs)
-    (λ c. ap eraseNumbers (sym (c .enum-told .given .1)))
+    (tie.spec (search needs) (search needs) (λ c. ap eraseNumbers (sym (c .enum-told .given .1)))
     (λ c. ap eraseNumbers (sym (c .before .e .given .1))))

@@ -7,11 +7,4 @@ returns : tie.Need-returns
 returns c = rw (c .before .before .before .flag-numbered .ensures, c .before .before .flag-numbered2 .ensures, c .before .flag-numbered3 .ensures, c .flag-numbered4 .ensures)
 
 pub flags-of-spec : {M : Type 1} → statement M
-flags-of-spec =
-    tie.close
-    (tie.spec
-    (λ c κs. search needs)
-    (λ c κs. search needs)
-    (λ c κs. search needs)
-    (λ c κs. search needs)
-    returns)
+flags-of-spec = tie.close (tie.spec (search needs) (search needs) (search needs) (search needs) returns)

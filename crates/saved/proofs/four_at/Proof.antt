@@ -1,4 +1,5 @@
--- `saved::four_at` meets its contract, by those of the functions that read a word and make four of them. Assumes nothing.
+-- `saved::four_at` meets its contract, by those of the functions that read a word and make four of them. Assumes
+-- nothing.
 use Prim.Native.Nat.{ℕ, _*_, _/_, _%_, _<_}
 use mathlib.Core.Path.{_≡_}
 use native.Mathlib.Nat.{mod-eq-of-lt}
@@ -18,12 +19,5 @@ returns c = rw (← c .before .word-at .ensures, ← c .word-at2 .ensures, upper
 pub four-at-spec : {M : Type 1} → statement M
 four-at-spec =
     tie.close
-    (tie.spec
-    (λ c κs. search needs)
-    (λ c. search needs)
-    (λ c κs. search needs)
-    (λ c. search needs)
-    (λ c. search needs)
-    (λ c. search needs)
-    (λ c. search needs)
+    (tie.spec (search needs) (search needs) (search needs) (search needs) (search needs) (search needs) (search needs)
     returns)

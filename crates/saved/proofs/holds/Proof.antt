@@ -7,12 +7,4 @@ returns : tie.Need-returns
 returns c = rw (c .before .before .before .word-at .ensures, c .before .before .halves .ensures, c .before .word-at2 .ensures, c .halves2 .ensures)
 
 pub holds-spec : {M : Type 1} → statement M
-holds-spec =
-    tie.close
-    (tie.spec
-    (λ c κs. search needs)
-    (λ c κs. search needs)
-    (λ c. search needs)
-    (λ c κs. search needs)
-    (λ c κs. search needs)
-    returns)
+holds-spec = tie.close (tie.spec (search needs) (search needs) (search needs) (search needs) (search needs) returns)

@@ -17,10 +17,6 @@ Inv-loop from banks w₀ i₀ w i = (i ≤ 8) × (w ≡ bytes (drop i (tabulate 
 abbrev μ-loop : tie.MeasureT-loop
 μ-loop from banks w₀ i₀ w i = i
 
-loop-holds : tie.Need-loop-holds Inv-loop μ-loop
-unfolding tabulate
-loop-holds c = (search needs, refl)
-
 mul-w : tie.Need-mul-w Inv-loop μ-loop
 mul-w c = let v = c .before .before .before .loop .inv .1 in omega (arith, modes-small (c .before .before .before .before .args .t1) (c .before .before .before .before .args .from) (c .before .before .before .loop .i) (search needs))
 
@@ -33,22 +29,10 @@ loop-again c =
     let e : i ≡ suc (i - 1) = omega arith in
     (search needs, modes-next (c .before .before .before .before .args .t1) (c .before .before .before .before .args .from) (i - 1) _ _ (search needs) (rw e at (c .before .before .before .loop .inv .1)) (c .bank-number .ensures .0))
 
-returns : tie.Need-returns Inv-loop μ-loop
-returns c = let e : c .before .loop .i ≡ 0 = omega arith in rw e at (c .before .loop .inv .1)
-
 pub modes-word-spec : {M : Type 1} → statement M
+unfolding tabulate
 modes-word-spec =
     tie.close
-    (tie.spec
-    Inv-loop
-    μ-loop
-    loop-holds
-    (λ c. search needs)
-    (λ c. search needs)
-    (λ c. search needs)
-    (λ c κs. search needs)
-    mul-w
-    add-w
-    (λ c. search needs)
-    loop-again
-    returns)
+    (tie.spec Inv-loop μ-loop (λ c. (search needs, refl)) (search needs) (search needs) (search needs) (search needs)
+    mul-w add-w (search needs) loop-again
+    (λ c. let e : c .before .loop .i ≡ 0 = omega arith in rw e at (c .before .loop .inv .1)))

@@ -4,15 +4,9 @@ use Rattle.saved.specs.Saved.{noState}
 use Rattle.saved.proofs.no_state.Statement.{statement}
 use Rattle.saved.proofs.no_state.Tie as tie
 
-returns : tie.Need-returns
-unfolding noState
-returns c = simp (c .with-protection .ensures, c .before .power-up .ensures, c .before .before .part-in .ensures)
-
 pub no-state-spec : {M : Type 1} → statement M
+unfolding noState
 no-state-spec =
     tie.close
-    (tie.spec
-    (λ c κs. search needs)
-    (λ c κs. search needs)
-    (λ c κs. search needs)
-    returns)
+    (tie.spec (search needs) (search needs) (search needs)
+    (λ c. simp (c .with-protection .ensures, c .before .power-up .ensures, c .before .before .part-in .ensures)))

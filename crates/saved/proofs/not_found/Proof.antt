@@ -4,8 +4,4 @@ use Rattle.saved.proofs.not_found.Statement.{statement}
 use Rattle.saved.proofs.not_found.Tie as tie
 
 pub not-found-spec : {M : Type 1} → statement M
-not-found-spec =
-    tie.close
-    (tie.spec
-    (λ c κs. search needs)
-    (λ c. rw (c .no-state .ensures)))
+not-found-spec = tie.close (tie.spec (search needs) (λ c. rw (c .no-state .ensures)))

@@ -7,9 +7,6 @@ use Rattle.geometry.specs.Blocks.{partNumbered}
 use Rattle.saved.proofs.part_in.Statement.{statement}
 use Rattle.saved.proofs.part_in.Tie as tie
 
-returns : tie.Need-returns
-returns c = c .part-numbered .ensures ∙ ap partNumbered (c .before .before .word-at .ensures)
-
 returns-2 : tie.Need-returns-2
 returns-2 c =
     let n = c .before .word-at .result in
@@ -19,9 +16,5 @@ returns-2 c =
 pub part-in-spec : {M : Type 1} → statement M
 part-in-spec =
     tie.close
-    (tie.spec
-    (λ c κs. search needs)
-    (λ c. search needs)
-    (λ c κs. search needs)
-    returns
-    returns-2)
+    (tie.spec (search needs) (search needs) (search needs)
+    (λ c. c .part-numbered .ensures ∙ ap partNumbered (c .before .before .word-at .ensures)) returns-2)

@@ -8,11 +8,6 @@ use Rattle.saved.proofs.program_numbers.Tie as tie
 pub program-numbers-spec : {M : Type 1} → statement M
 program-numbers-spec =
     tie.close
-    (tie.spec
-    (λ c. search needs)
-    (λ c. search needs)
-    (λ c. search needs)
-    (λ c. search needs)
-    (λ c. ap programNumbers (sym (c .enum-told .given .1)))
-    (λ c. ap programNumbers (sym (c .before .p .given .1)))
+    (tie.spec (search needs) (search needs) (search needs) (search needs)
+    (λ c. ap programNumbers (sym (c .enum-told .given .1))) (λ c. ap programNumbers (sym (c .before .p .given .1)))
     (λ c. ap programNumbers (sym (c .before .p2 .given .1))))

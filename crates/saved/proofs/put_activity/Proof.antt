@@ -1,4 +1,5 @@
--- `saved::put_activity` meets its contract, by those of the functions that give the numbers and put them in place. Assumes nothing.
+-- `saved::put_activity` meets its contract, by those of the functions that give the numbers and put them in place.
+-- Assumes nothing.
 use borrow.Author.Needs.{needs}
 use Rattle.saved.proofs.put_activity.Statement.{statement}
 use Rattle.saved.proofs.put_activity.Tie as tie
@@ -9,14 +10,5 @@ returns c = rw (c .before .before .put-four4 .ensures, c .before .before .before
 pub put-activity-spec : {M : Type 1} → statement M
 put-activity-spec =
     tie.close
-    (tie.spec
-    (λ c κs. search needs)
-    (λ c κs. search needs)
-    (λ c κs. search needs)
-    (λ c κs. search needs)
-    (λ c κs. search needs)
-    (λ c κs. search needs)
-    (λ c κs. search needs)
-    (λ c κs. search needs)
-    (λ c. search needs)
-    returns)
+    (tie.spec (search needs) (search needs) (search needs) (search needs) (search needs) (search needs) (search needs)
+    (search needs) (search needs) returns)

@@ -17,9 +17,6 @@ Inv-loop words₀ buffer j₀ words j = (j ≤ 8) × ((length words ≡ 25) × (
 abbrev μ-loop : tie.MeasureT-loop
 μ-loop words₀ buffer j₀ words j = 8 - j
 
-loop-holds : tie.Need-loop-holds Inv-loop μ-loop
-loop-holds c = (search needs, (search needs, refl))
-
 loop-again : tie.Need-loop-again Inv-loop μ-loop
 loop-again c = (
   search needs,
@@ -29,38 +26,12 @@ loop-again c = (
   ),
 )
 
-returns : tie.Need-returns Inv-loop μ-loop
-unfolding tabulate
-returns c = let e : c .before .loop .j ≡ 8 = omega arith in c .before .loop .inv .1 .1 ∙ rw e
-
 pub put-buffer-spec : {M : Type 1} → statement M
+unfolding tabulate
 put-buffer-spec =
     tie.close
-    (tie.spec
-    Inv-loop
-    μ-loop
-    loop-holds
-    (λ c. search needs)
-    (λ c. search needs)
-    (λ c. search needs)
-    (λ c. search needs)
-    (λ c. search needs)
-    (λ c. search needs)
-    (λ c. search needs)
-    (λ c. search needs)
-    (λ c. search needs)
-    (λ c. search needs)
-    (λ c. search needs)
-    (λ c. search needs)
-    (λ c. search needs)
-    (λ c. search needs)
-    (λ c. search needs)
-    (λ c κs. search needs)
-    (λ c. search needs)
-    (λ c. search needs)
-    (λ c. search needs)
-    (λ c. search needs)
-    (λ c. search needs)
-    loop-again
-    (λ c. search needs)
-    returns)
+    (tie.spec Inv-loop μ-loop (λ c. (search needs, (search needs, refl))) (search needs) (search needs) (search needs)
+    (search needs) (search needs) (search needs) (search needs) (search needs) (search needs) (search needs)
+    (search needs) (search needs) (search needs) (search needs) (search needs) (search needs) (search needs)
+    (search needs) (search needs) (search needs) (search needs) loop-again (search needs)
+    (λ c. let e : c .before .loop .j ≡ 8 = omega arith in c .before .loop .inv .1 .1 ∙ rw e))

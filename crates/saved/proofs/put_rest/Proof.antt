@@ -5,25 +5,11 @@ use Rattle.semantics.specs.Tabulate.{tabulate}
 use Rattle.saved.proofs.put_rest.Statement.{statement}
 use Rattle.saved.proofs.put_rest.Tie as tie
 
-returns : tie.Need-returns
-unfolding tabulate
-returns c = rw (c .control-word .ensures)
-
 pub put-rest-spec : {M : Type 1} → statement M
+unfolding tabulate
 put-rest-spec =
     tie.close
-    (tie.spec
-    (λ c κs. search needs)
-    (λ c. search needs)
-    (λ c. search needs)
-    (λ c. simp length-set (search needs))
-    (λ c. search needs)
-    (λ c. simp length-set (search needs))
-    (λ c. search needs)
-    (λ c. simp length-set (search needs))
-    (λ c. search needs)
-    (λ c. simp length-set (search needs))
-    (λ c. search needs)
-    (λ c. simp length-set (search needs))
-    (λ c. simp length-set)
-    returns)
+    (tie.spec (search needs) (search needs) (search needs) (λ c. simp length-set (search needs)) (search needs)
+    (λ c. simp length-set (search needs)) (search needs) (λ c. simp length-set (search needs)) (search needs)
+    (λ c. simp length-set (search needs)) (search needs) (λ c. simp length-set (search needs)) (λ c. simp length-set)
+    (λ c. rw (c .control-word .ensures)))

@@ -8,13 +8,6 @@ use Rattle.saved.proofs.running_numbers.Tie as tie
 pub running-numbers-spec : {M : Type 1} → statement M
 running-numbers-spec =
     tie.close
-    (tie.spec
-    (λ c. search needs)
-    (λ c. search needs)
-    (λ c. search needs)
-    (λ c. search needs)
-    (λ c. search needs)
-    (λ c. ap runningNumbers (sym (c .enum-told .given .1)))
-    (λ c. ap runningNumbers (sym (c .before .r .given .1)))
-    (λ c. ap runningNumbers (sym (c .before .r2 .given .1)))
-    (λ c. ap runningNumbers (sym (c .before .r3 .given .1))))
+    (tie.spec (search needs) (search needs) (search needs) (search needs) (search needs)
+    (λ c. ap runningNumbers (sym (c .enum-told .given .1))) (λ c. ap runningNumbers (sym (c .before .r .given .1)))
+    (λ c. ap runningNumbers (sym (c .before .r2 .given .1))) (λ c. ap runningNumbers (sym (c .before .r3 .given .1))))

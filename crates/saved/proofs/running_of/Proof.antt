@@ -4,12 +4,6 @@ use borrow.Author.Needs.{needs}
 use Rattle.saved.proofs.running_of.Statement.{statement}
 use Rattle.saved.proofs.running_of.Tie as tie
 
-returns : tie.Need-returns
-returns c = simp (eq-eqb _ _ (c .if1 .taken))
-
-returns-2 : tie.Need-returns-2
-returns-2 c = simp (ne-eqb _ _ (c .before .before .before .if1 .left), eq-eqb _ _ (c .before .if2 .taken))
-
 returns-3 : tie.Need-returns-3
 returns-3 c = simp (ne-eqb _ _ (c .before .before .before .before .if1 .left), ne-eqb _ _ (c .before .before .if2 .left), eq-eqb _ _ (c .if3 .taken))
 
@@ -19,9 +13,6 @@ returns-4 c = simp (ne-eqb _ _ (c .before .before .before .before .if1 .left), n
 pub running-of-spec : {M : Type 1} → statement M
 running-of-spec =
     tie.close
-    (tie.spec
-    returns
-    (λ c. search needs)
-    returns-2
-    returns-3
+    (tie.spec (λ c. simp (eq-eqb _ _ (c .if1 .taken))) (search needs)
+    (λ c. simp (ne-eqb _ _ (c .before .before .before .if1 .left), eq-eqb _ _ (c .before .if2 .taken))) returns-3
     returns-4)

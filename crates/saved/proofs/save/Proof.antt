@@ -10,10 +10,6 @@ use Rattle.saved.proofs.Fits.{fits}
 use Rattle.saved.proofs.save.Statement.{statement}
 use Rattle.saved.proofs.save.Tie as tie
 
-returns : tie.Need-returns
-unfolding putInto
-returns c = (rw (ne-eqb _ 25 (c .if1 .taken)), fits _ _ (c .before .before .good .0))
-
 put-activity-requires : tie.Need-put-activity-requires
 put-activity-requires c κs = ap length (c .before .before .before .put-banks .ensures) ∙ simp length-set (c .before .before .before .before .before .before .before .before .before .before .before .if1 .left)
 
@@ -36,15 +32,9 @@ returns-2 c = (
 )
 
 pub save-spec : {M : Type 1} → statement M
+unfolding putInto
 save-spec =
     tie.close
-    (tie.spec
-    returns
-    (λ c κs. search needs)
-    (λ c. search needs)
-    (λ c κs. search needs)
-    put-activity-requires
-    put-rest-requires
-    put-buffer-requires
-    same-length
+    (tie.spec (λ c. (rw (ne-eqb _ 25 (c .if1 .taken)), fits _ _ (c .before .before .good .0))) (search needs)
+    (search needs) (λ c κs. search needs) put-activity-requires put-rest-requires put-buffer-requires same-length
     returns-2)

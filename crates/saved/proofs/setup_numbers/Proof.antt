@@ -8,18 +8,9 @@ use Rattle.saved.proofs.setup_numbers.Tie as tie
 pub setup-numbers-spec : {M : Type 1} → statement M
 setup-numbers-spec =
     tie.close
-    (tie.spec
-    (λ c. search needs)
-    (λ c. search needs)
-    (λ c. search needs)
-    (λ c. search needs)
-    (λ c. search needs)
-    (λ c. search needs)
-    (λ c. search needs)
-    (λ c. ap setupNumbers (sym (c .enum-told .given .1)))
-    (λ c. ap setupNumbers (sym (c .enum-told2 .given .1)))
-    (λ c. ap setupNumbers (sym (c .enum-told3 .given .1)))
-    (λ c. ap setupNumbers (sym (c .enum-told4 .given .1)))
+    (tie.spec (search needs) (search needs) (search needs) (search needs) (search needs) (search needs) (search needs)
+    (λ c. ap setupNumbers (sym (c .enum-told .given .1))) (λ c. ap setupNumbers (sym (c .enum-told2 .given .1)))
+    (λ c. ap setupNumbers (sym (c .enum-told3 .given .1))) (λ c. ap setupNumbers (sym (c .enum-told4 .given .1)))
     (λ c. ap setupNumbers (sym (c .before .setup .given .1)))
     (λ c. ap setupNumbers (sym (c .before .setup2 .given .1)))
     (λ c. ap setupNumbers (sym (c .before .setup3 .given .1))))

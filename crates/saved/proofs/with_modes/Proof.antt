@@ -1,4 +1,5 @@
--- `saved::with_modes` meets its contract. The invariant: the banks of the lowest `i` bytes are stored, and the bytes from there on are left. Assumes nothing.
+-- `saved::with_modes` meets its contract. The invariant: the banks of the lowest `i` bytes are stored, and the bytes
+-- from there on are left. Assumes nothing.
 use Prim.Native.Nat.{ℕ, suc, _+_, _-_, _/_, _≤_}
 use mathlib.Core.Path.{_≡_, refl, ap, _∙_, sym}
 use native.Mathlib.Omega.{arith}
@@ -18,9 +19,6 @@ Inv-loop from w now₀ rest₀ i₀ now rest i = (i ≤ 8) × ((now ≡ sets now
 abbrev μ-loop : tie.MeasureT-loop
 μ-loop from w now₀ rest₀ i₀ now rest i = 8 - i
 
-loop-holds : tie.Need-loop-holds Inv-loop μ-loop
-loop-holds c = (search needs, (refl, refl))
-
 loop-again : tie.Need-loop-again Inv-loop μ-loop
 loop-again c =
     let w = c .before .before .before .args .w in
@@ -34,21 +32,10 @@ loop-again c =
       ),
     )
 
-returns : tie.Need-returns Inv-loop μ-loop
-unfolding tabulate
-returns c = let e : c .before .loop .i ≡ 8 = omega arith in c .before .loop .inv .1 .0 ∙ rw e
-
 pub with-modes-spec : {M : Type 1} → statement M
+unfolding tabulate
 with-modes-spec =
     tie.close
-    (tie.spec
-    Inv-loop
-    μ-loop
-    loop-holds
-    (λ c κs. search needs)
-    (λ c. search needs)
-    (λ c. search needs)
-    (λ c. search needs)
-    (λ c. search needs)
-    loop-again
-    returns)
+    (tie.spec Inv-loop μ-loop (λ c. (search needs, (refl, refl))) (search needs) (search needs) (search needs)
+    (search needs) (search needs) loop-again
+    (λ c. let e : c .before .loop .i ≡ 8 = omega arith in c .before .loop .inv .1 .0 ∙ rw e))
