@@ -27,4 +27,5 @@ returns c = sym (c .before .loop .inv ∙ rw (zero-past (c .before .loop .i) (c 
 pub zero-after-spec : {M : Type 1} → statement M
 zero-after-spec =
     tie.close
-    (tie.spec Inv-loop μ-loop loop-holds (λ c. search needs) (λ c. search needs) (λ c. search needs) (λ c. search needs) loop-again returns)
+    (tie.spec Inv-loop μ-loop loop-holds (λ c. search needs) (λ c. search needs) (λ c. search needs)
+    (λ c. search needs) loop-again returns)

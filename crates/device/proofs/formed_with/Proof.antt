@@ -9,9 +9,4 @@ unfolding formedWith
 returns c l = rw (c .before .well-formed .ensures, c .shared-zero .ensures)
 
 pub formed-with-spec : {M : Type 1} → statement M
-formed-with-spec =
-    tie.close
-    (tie.spec
-    (λ c κs. search needs)
-    (λ c κs. search needs)
-    returns)
+formed-with-spec = tie.close (tie.spec (λ c κs. search needs) (λ c κs. search needs) returns)

@@ -9,9 +9,4 @@ unfolding refusalWith
 returns c l = rw (← c .before .formed-with .ensures l) (c .refusal-beside .ensures)
 
 pub refusal-of-spec : {M : Type 1} → statement M
-refusal-of-spec =
-    tie.close
-    (tie.spec
-    (λ c κs. search needs)
-    (λ c κs. search needs)
-    returns)
+refusal-of-spec = tie.close (tie.spec (λ c κs. search needs) (λ c κs. search needs) returns)

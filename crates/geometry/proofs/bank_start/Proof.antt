@@ -37,11 +37,5 @@ returns-2 c =
 pub bank-start-spec : {M : Type 1} → statement M
 bank-start-spec =
     tie.close
-    (tie.spec
-    (λ c κs. search needs)
-    (λ c. search needs)
-    (λ c. search needs)
-    mul-run-start
-    (λ c κs. search needs)
-    returns
-    returns-2)
+    (tie.spec (λ c κs. search needs) (λ c. search needs) (λ c. search needs) mul-run-start (λ c κs. search needs)
+    returns returns-2)

@@ -49,13 +49,5 @@ returns c = (omega (arith, found c), number c)
 pub block-by-table-spec : {M : Type 1} → statement M
 block-by-table-spec =
     tie.close
-    (tie.spec
-    (λ c κs. search needs)
-    (λ c κs. search needs)
-    (λ c κs. search needs)
-    (λ c. search needs)
-    mul-not-above
-    not-above-requires
-    sub-result
-    cast-result
-    returns)
+    (tie.spec (λ c κs. search needs) (λ c κs. search needs) (λ c κs. search needs) (λ c. search needs) mul-not-above
+    not-above-requires sub-result cast-result returns)

@@ -35,11 +35,4 @@ returns-3 c =
 
 pub block-size-spec : {M : Type 1} → statement M
 block-size-spec =
-    tie.close
-    (tie.spec
-    (λ c κs. search needs)
-    (λ c. search needs)
-    returns
-    (λ c κs. search needs)
-    returns-2
-    returns-3)
+    tie.close (tie.spec (λ c κs. search needs) (λ c. search needs) returns (λ c κs. search needs) returns-2 returns-3)

@@ -59,16 +59,6 @@ returns-3 c =
 pub block-start-spec : {M : Type 1} → statement M
 block-start-spec =
     tie.close
-    (tie.spec
-    (λ c κs. search needs)
-    (λ c κs. search needs)
-    returns
-    (λ c. search needs)
-    mul-run-start
-    (λ c κs. search needs)
-    returns-2
-    (λ c. search needs)
-    (λ c. search needs)
-    mul-run-start-2
-    (λ c κs. search needs)
+    (tie.spec (λ c κs. search needs) (λ c κs. search needs) returns (λ c. search needs) mul-run-start
+    (λ c κs. search needs) returns-2 (λ c. search needs) (λ c. search needs) mul-run-start-2 (λ c κs. search needs)
     returns-3)

@@ -22,12 +22,5 @@ returns-4 c = (sym (ap geometryOf (c .enum-told4 .given .1)), omega arith)
 pub geometry-of-spec : {M : Type 1} → statement M
 geometry-of-spec =
     tie.close
-    (tie.spec
-    (λ c. search needs)
-    (λ c. search needs)
-    (λ c. search needs)
-    (λ c. search needs)
-    returns
-    returns-2
-    returns-3
-    returns-4)
+    (tie.spec (λ c. search needs) (λ c. search needs) (λ c. search needs) (λ c. search needs) returns returns-2
+    returns-3 returns-4)

@@ -30,11 +30,5 @@ returns-3 c =
 pub look-up-spec : {M : Type 1} → statement M
 look-up-spec =
     tie.close
-    (tie.spec
-    returns
-    returns-2
-    (λ c κs. search needs)
-    (λ c κs. search needs)
-    block-by-table-requires
-    (λ c κs. search needs)
-    returns-3)
+    (tie.spec returns returns-2 (λ c κs. search needs) (λ c κs. search needs) block-by-table-requires
+    (λ c κs. search needs) returns-3)

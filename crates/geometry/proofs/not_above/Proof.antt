@@ -60,18 +60,5 @@ returns c =
 pub not-above-spec : {M : Type 1} → statement M
 not-above-spec =
     tie.close
-    (tie.spec
-    Inv-loop
-    μ-loop
-    loop-holds
-    (λ c. search needs)
-    add-if1
-    sub-if1
-    mul-if1
-    shared-slice-read-if1
-    add-low
-    loop-less
-    loop-again
-    loop-less-2
-    loop-again-2
-    returns)
+    (tie.spec Inv-loop μ-loop loop-holds (λ c. search needs) add-if1 sub-if1 mul-if1 shared-slice-read-if1 add-low
+    loop-less loop-again loop-less-2 loop-again-2 returns)

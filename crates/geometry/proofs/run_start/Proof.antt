@@ -18,5 +18,4 @@ returns-4 : tie.Need-returns-4
 returns-4 c = rw (← c .before .geometry-of .ensures .0, c .if1 .left)
 
 pub run-start-spec : {M : Type 1} → statement M
-run-start-spec =
-    tie.close (tie.spec (λ c κs. search needs) (λ c. search needs) returns returns-2 returns-3 returns-4)
+run-start-spec = tie.close (tie.spec (λ c κs. search needs) (λ c. search needs) returns returns-2 returns-3 returns-4)

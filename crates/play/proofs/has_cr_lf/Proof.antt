@@ -39,4 +39,7 @@ returns-2 : tie.Need-returns-2 Inv-loop μ-loop
 returns-2 c = omega arith
 
 pub has-cr-lf-spec : {M : Type 1} → statement M
-has-cr-lf-spec = tie.close (tie.spec Inv-loop μ-loop loop-holds shared-slice-read-if1 sub-if2 shared-slice-read-if2 returns add-i loop-less loop-again returns-2)
+has-cr-lf-spec =
+    tie.close
+    (tie.spec Inv-loop μ-loop loop-holds shared-slice-read-if1 sub-if2 shared-slice-read-if2 returns add-i loop-less
+    loop-again returns-2)

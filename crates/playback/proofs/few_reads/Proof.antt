@@ -41,15 +41,5 @@ returns-3 c = sym (c .before .loop .inv .0 ∙ ap allReads (drop-of-length-le _ 
 pub few-reads-spec : {M : Type 1} → statement M
 few-reads-spec =
     tie.close
-    (tie.spec
-    Inv-loop
-    μ-loop
-    returns
-    loop-holds
-    (λ c. search needs)
-    (λ c. search needs)
-    returns-2
-    (λ c. search needs)
-    (λ c. search needs)
-    loop-again
-    returns-3)
+    (tie.spec Inv-loop μ-loop returns loop-holds (λ c. search needs) (λ c. search needs) returns-2 (λ c. search needs)
+    (λ c. search needs) loop-again returns-3)

@@ -19,13 +19,5 @@ returns-4 c = rw (← c .before .before .before .before .before .before .decoded
 pub task-of-spec : {M : Type 1} → statement M
 task-of-spec =
     tie.close
-    (tie.spec
-    (λ c κs. search needs)
-    (λ c. search needs)
-    (λ c. search needs)
-    returns
-    returns-2
-    (λ c κs. search needs)
-    (λ c κs. search needs)
-    returns-3
-    returns-4)
+    (tie.spec (λ c κs. search needs) (λ c. search needs) (λ c. search needs) returns returns-2 (λ c κs. search needs)
+    (λ c κs. search needs) returns-3 returns-4)

@@ -7,8 +7,4 @@ returns : tie.Need-returns
 returns c = rw (c .with-setup .ensures)
 
 pub with-setup-spec : {M : Type 1} → statement M
-with-setup-spec =
-    tie.close
-    (tie.spec
-    (λ c κs. search needs)
-    returns)
+with-setup-spec = tie.close (tie.spec (λ c κs. search needs) returns)

@@ -5,9 +5,6 @@ use Rattle.printing.specs.Room.{put-then}
 use Rattle.printing.proofs.put_answer.Statement.{statement}
 use Rattle.printing.proofs.put_answer.Tie as tie
 
-enum-told : tie.Need-enum-told
-enum-told c = search needs
-
 returns-2 : tie.Need-returns-2
 unfolding answerText
 returns-2 c = rw (c .before .before .before .before .before .answer2 .given .1) (c .before .before .put-decimal .ensures)
@@ -27,7 +24,7 @@ pub put-answer-spec : {M : Type 1} → statement M
 unfolding answerText
 put-answer-spec =
     tie.close
-    (tie.spec (search needs) (search needs) (search needs) (search needs) enum-told (search needs) (search needs)
+    (tie.spec (search needs) (search needs) (search needs) (search needs) (λ c. search needs) (search needs) (search needs)
     (search needs) (search needs) (search needs) (search needs) (search needs)
     (λ c. rw (c .before .before .before .before .before .answer .given .1) (c .before .before .put-hex4 .ensures))
     (search needs) returns-2 (search needs) returns-3 (search needs) returns-4)

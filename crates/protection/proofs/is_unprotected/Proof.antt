@@ -15,4 +15,6 @@ returns-2 c = rw (lt-ltb _ _ (c .before .if1 .left))
 
 pub is-unprotected-spec : {M : Type 1} → statement M
 is-unprotected-spec =
-    tie.close (tie.spec returns (λ c. search needs) (λ c. search needs) (λ c. search needs) (λ c. search needs) (λ c. search needs) returns-2)
+    tie.close
+    (tie.spec returns (λ c. search needs) (λ c. search needs) (λ c. search needs) (λ c. search needs)
+    (λ c. search needs) returns-2)

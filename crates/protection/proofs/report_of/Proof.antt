@@ -105,19 +105,5 @@ returns-2 c = λ j. record { count = total (c .before) j; lowest = least-none (w
 pub report-of-spec : {M : Type 1} → statement M
 report-of-spec =
     tie.close
-    (tie.spec
-    Inv-loop
-    μ-loop
-    (λ c κs. search needs)
-    loop-holds
-    cast-w
-    mul-w
-    array-read-w
-    add-count
-    mul-if1
-    add-lowest
-    add-i
-    loop-less
-    loop-again
-    returns
-    returns-2)
+    (tie.spec Inv-loop μ-loop (λ c κs. search needs) loop-holds cast-w mul-w array-read-w add-count mul-if1 add-lowest
+    add-i loop-less loop-again returns returns-2)

@@ -7,10 +7,4 @@ returns : tie.Need-returns
 returns c = rw (c .runs-in .ensures, ← c .before .before .runs .ensures, c .before .if1 .taken)
 
 pub busy-elsewhere-spec : {M : Type 1} → statement M
-busy-elsewhere-spec =
-    tie.close
-    (tie.spec
-    (λ c κs. search needs)
-    (λ c κs. search needs)
-    returns
-    (λ c. search needs))
+busy-elsewhere-spec = tie.close (tie.spec (λ c κs. search needs) (λ c κs. search needs) returns (λ c. search needs))

@@ -9,10 +9,4 @@ returns-2 : tie.Need-returns-2
 returns-2 c = sym (runs-nowhere _ _ _ (sym (c .before .runs .ensures) ∙ c .if1 .left))
 
 pub busy-in-spec : {M : Type 1} → statement M
-busy-in-spec =
-    tie.close
-    (tie.spec
-    (λ c κs. search needs)
-    (λ c κs. search needs)
-    (λ c. search needs)
-    returns-2)
+busy-in-spec = tie.close (tie.spec (λ c κs. search needs) (λ c κs. search needs) (λ c. search needs) returns-2)

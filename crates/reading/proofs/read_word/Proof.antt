@@ -10,4 +10,6 @@ returns c =
     read-seen (m .before .before .before .before .before .before .before .args .s) _ _ _ _ _ _ (m .before .before .location-of .ensures .0) (m .before .bank-of .ensures .0) (m .mode-of .ensures) (c .read-at .ensures)
 
 pub read-word-spec : {M : Type 1} → statement M
-read-word-spec = tie.close (tie.spec (λ c κs. search needs) (λ c κs. search needs) (λ c κs. search needs) (λ c κs. search needs) returns)
+read-word-spec =
+    tie.close
+    (tie.spec (λ c κs. search needs) (λ c κs. search needs) (λ c κs. search needs) (λ c κs. search needs) returns)

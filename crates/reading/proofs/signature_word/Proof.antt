@@ -28,13 +28,5 @@ returns-5 c = simp (← c .before .before .before .before .before .bank-offset .
 pub signature-word-spec : {M : Type 1} → statement M
 signature-word-spec =
     tie.close
-    (tie.spec
-    (λ c κs. search needs)
-    returns
-    (λ c κs. search needs)
-    returns-2
-    returns-3
-    (λ c κs. search needs)
-    (λ c κs. search needs)
-    returns-4
-    returns-5)
+    (tie.spec (λ c κs. search needs) returns (λ c κs. search needs) returns-2 returns-3 (λ c κs. search needs)
+    (λ c κs. search needs) returns-4 returns-5)

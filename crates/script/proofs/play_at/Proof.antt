@@ -20,13 +20,5 @@ returns c = played-at _ _ _ _ _ _ _ _ _ _ _ (c .before .before .before .before .
 pub play-at-spec : {M : Type 1} → statement M
 play-at-spec =
     tie.close
-    (tie.spec
-    (λ c κs. search needs)
-    (λ c. search needs)
-    sub-play-line
-    part-play-line-start
-    part-play-line-end
-    (λ c κs. search needs)
-    (λ c. search needs)
-    (λ c. search needs)
-    returns)
+    (tie.spec (λ c κs. search needs) (λ c. search needs) sub-play-line part-play-line-start part-play-line-end
+    (λ c κs. search needs) (λ c. search needs) (λ c. search needs) returns)

@@ -24,10 +24,5 @@ returns c =
 pub play-text-spec : {M : Type 1} → statement M
 play-text-spec =
     tie.close
-    (tie.spec
-    (λ c κs. search needs)
-    (λ c κs. search needs)
-    play-lines-requires
-    (λ c κs. search needs)
-    (λ c. search needs)
-    returns)
+    (tie.spec (λ c κs. search needs) (λ c κs. search needs) play-lines-requires (λ c κs. search needs)
+    (λ c. search needs) returns)

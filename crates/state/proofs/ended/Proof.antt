@@ -9,10 +9,4 @@ unfolding ended
 returns c = rw (c .join .ensures, c .before .end-flags .ensures, c .before .before .with-running .ensures)
 
 pub ended-spec : {M : Type 1} → statement M
-ended-spec =
-    tie.close
-    (tie.spec
-    (λ c κs. search needs)
-    (λ c κs. search needs)
-    (λ c κs. search needs)
-    returns)
+ended-spec = tie.close (tie.spec (λ c κs. search needs) (λ c κs. search needs) (λ c κs. search needs) returns)

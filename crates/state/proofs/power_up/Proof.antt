@@ -9,5 +9,4 @@ unfolding powerUp
 returns c = simp (c .before .before .all-protected .ensures, c .before .no-flags .ensures, c .empty .ensures)
 
 pub power-up-spec : {M : Type 1} → statement M
-power-up-spec =
-    tie.close (tie.spec (λ c κs. search needs) (λ c κs. search needs) (λ c κs. search needs) returns)
+power-up-spec = tie.close (tie.spec (λ c κs. search needs) (λ c κs. search needs) (λ c κs. search needs) returns)

@@ -15,11 +15,4 @@ returns-3 : tie.Need-returns-3
 returns-3 c = rw (reset-refused _ _ _, ← c .before .before .length-of .ensures .0, eq-eqb _ _ (c .before .if1 .left), c .if2 .left)
 
 pub refusal-beside-spec : {M : Type 1} → statement M
-refusal-beside-spec =
-    tie.close
-    (tie.spec
-    (λ c κs. search needs)
-    (λ c. search needs)
-    returns
-    returns-2
-    returns-3)
+refusal-beside-spec = tie.close (tie.spec (λ c κs. search needs) (λ c. search needs) returns returns-2 returns-3)

@@ -9,8 +9,4 @@ unfolding runsSupplied
 returns c = rw (c .before .runs .ensures)
 
 pub runs-supplied-spec : {M : Type 1} → statement M
-runs-supplied-spec =
-    tie.close
-    (tie.spec
-    (λ c κs. search needs)
-    returns)
+runs-supplied-spec = tie.close (tie.spec (λ c κs. search needs) returns)

@@ -15,9 +15,4 @@ unfolding switched endedIfUnsupplied ended
 returns-2 c = let e = c .before .before .if1 .left in let r = rw e at (c .end-running .ensures) in rw e (r .0, r .1)
 
 pub switch-supply-spec : {M : Type 1} → statement M
-switch-supply-spec =
-    tie.close
-    (tie.spec
-    returns
-    (λ c κs. search needs)
-    returns-2)
+switch-supply-spec = tie.close (tie.spec returns (λ c κs. search needs) returns-2)

@@ -14,10 +14,5 @@ returns-2 c = c .put-count2 .ensures ∙ full _ _ _ (c .before .before .before .
 pub add-one-spec : {M : Type 1} → statement M
 add-one-spec =
     tie.close
-    (tie.spec
-    (λ c κs. search needs)
-    (λ c. search needs)
-    (λ c κs. search needs)
-    returns
-    (λ c κs. search needs)
+    (tie.spec (λ c κs. search needs) (λ c. search needs) (λ c κs. search needs) returns (λ c κs. search needs)
     returns-2)

@@ -9,7 +9,4 @@ unfolding noCounts
 returns c = refl
 
 pub clear-spec : {M : Type 1} → statement M
-clear-spec =
-    tie.close
-    (tie.spec
-    returns)
+clear-spec = tie.close (tie.spec returns)

@@ -29,15 +29,5 @@ returns-5 c = rw (c .enum-told3 .given .1)
 pub count-finished-spec : {M : Type 1} → statement M
 count-finished-spec =
     tie.close
-    (tie.spec
-    (λ c. search needs)
-    (λ c. search needs)
-    (λ c. search needs)
-    (λ c κs. search needs)
-    returns
-    (λ c κs. search needs)
-    (λ c. search needs)
-    returns-2
-    returns-3
-    returns-4
-    returns-5)
+    (tie.spec (λ c. search needs) (λ c. search needs) (λ c. search needs) (λ c κs. search needs) returns
+    (λ c κs. search needs) (λ c. search needs) returns-2 returns-3 returns-4 returns-5)

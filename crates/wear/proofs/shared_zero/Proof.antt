@@ -10,9 +10,4 @@ unfolding sharedZero countAt
 returns c = refl
 
 pub shared-zero-spec : {M : Type 1} → statement M
-shared-zero-spec =
-    tie.close
-    (tie.spec
-    (λ c. search needs)
-    (λ c. search needs)
-    returns)
+shared-zero-spec = tie.close (tie.spec (λ c. search needs) (λ c. search needs) returns)

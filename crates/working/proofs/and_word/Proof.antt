@@ -13,11 +13,5 @@ returns-2 c = anded-none _ _ _ (c .if1 .left)
 pub and-word-spec : {M : Type 1} → statement M
 and-word-spec =
     tie.close
-    (tie.spec
-    (λ c. search needs)
-    (λ c. search needs)
-    (λ c. search needs)
-    (λ c. search needs)
-    (λ c. search needs)
-    returns
-    returns-2)
+    (tie.spec (λ c. search needs) (λ c. search needs) (λ c. search needs) (λ c. search needs) (λ c. search needs)
+    returns returns-2)

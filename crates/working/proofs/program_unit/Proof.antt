@@ -14,10 +14,4 @@ returns-2 : tie.Need-returns-2
 returns-2 c = (λ g. program-ends g _ _ _ (omega arith), λ g bs. c .before .before .and-word .ensures ∙ program-done g bs _ _ _ 1 (omega arith))
 
 pub program-unit-spec : {M : Type 1} → statement M
-program-unit-spec =
-    tie.close
-    (tie.spec
-    returns
-    (λ c κs. search needs)
-    (λ c. search needs)
-    returns-2)
+program-unit-spec = tie.close (tie.spec returns (λ c κs. search needs) (λ c. search needs) returns-2)

@@ -12,10 +12,4 @@ returns c =
     (rw (w, e .0), (rw w (e .1 .0), rw (e .0) at (e .1 .1)))
 
 pub work-spec : {M : Type 1} → statement M
-work-spec =
-    tie.close
-    (tie.spec
-    (λ c κs. search needs)
-    (λ c κs. search needs)
-    (λ c. search needs)
-    returns)
+work-spec = tie.close (tie.spec (λ c κs. search needs) (λ c κs. search needs) (λ c. search needs) returns)

@@ -12,10 +12,5 @@ returns-2 c = rw (c .command-change .ensures, c .before .command-of .ensures, �
 pub change-of-spec : {M : Type 1} → statement M
 change-of-spec =
     tie.close
-    (tie.spec
-    (λ c κs. search needs)
-    (λ c κs. search needs)
-    returns
-    (λ c κs. search needs)
-    (λ c κs. search needs)
+    (tie.spec (λ c κs. search needs) (λ c κs. search needs) returns (λ c κs. search needs) (λ c κs. search needs)
     returns-2)

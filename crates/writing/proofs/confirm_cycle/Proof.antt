@@ -15,10 +15,5 @@ returns-2 c = simp (c .wrong .ensures, ← c .before .before .confirm-right .ens
 pub confirm-cycle-spec : {M : Type 1} → statement M
 confirm-cycle-spec =
     tie.close
-    (tie.spec
-    (λ c κs. search needs)
-    (λ c κs. search needs)
-    (λ c κs. search needs)
-    returns
-    (λ c κs. search needs)
+    (tie.spec (λ c κs. search needs) (λ c κs. search needs) (λ c κs. search needs) returns (λ c κs. search needs)
     returns-2)

@@ -9,8 +9,4 @@ unfolding firstRight
 returns c = simp (c .stays-in .ensures)
 
 pub first-right-spec : {M : Type 1} → statement M
-first-right-spec =
-    tie.close
-    (tie.spec
-    (λ c κs. search needs)
-    returns)
+first-right-spec = tie.close (tie.spec (λ c κs. search needs) returns)

@@ -19,13 +19,5 @@ returns-3 c = rw (c .before .before .before .before .enum-told3 .given .1, ← c
 pub hold-buffer-spec : {M : Type 1} → statement M
 hold-buffer-spec =
     tie.close
-    (tie.spec
-    (λ c. search needs)
-    (λ c. search needs)
-    (λ c. search needs)
-    (λ c κs. search needs)
-    (λ c κs. search needs)
-    (λ c κs. search needs)
-    returns
-    returns-2
-    returns-3)
+    (tie.spec (λ c. search needs) (λ c. search needs) (λ c. search needs) (λ c κs. search needs)
+    (λ c κs. search needs) (λ c κs. search needs) returns returns-2 returns-3)

@@ -29,13 +29,5 @@ returns-3 c = rw (ne-eqb _ _ (c .before .before .before .before .if1 .left), ←
 pub load-words-spec : {M : Type 1} → statement M
 load-words-spec =
     tie.close
-    (tie.spec
-    (λ c κs. search needs)
-    (λ c κs. search needs)
-    (λ c κs. search needs)
-    sub-load
-    (λ c κs. search needs)
-    (λ c κs. search needs)
-    returns
-    returns-2
-    returns-3)
+    (tie.spec (λ c κs. search needs) (λ c κs. search needs) (λ c κs. search needs) sub-load (λ c κs. search needs)
+    (λ c κs. search needs) returns returns-2 returns-3)

@@ -13,10 +13,4 @@ unfolding loads
 returns-2 c = simp (c .wrong .ensures, c .before .if1 .left)
 
 pub loads-spec : {M : Type 1} → statement M
-loads-spec =
-    tie.close
-    (tie.spec
-    (λ c κs. search needs)
-    returns
-    (λ c κs. search needs)
-    returns-2)
+loads-spec = tie.close (tie.spec (λ c κs. search needs) returns (λ c κs. search needs) returns-2)

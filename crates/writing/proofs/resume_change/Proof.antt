@@ -15,10 +15,4 @@ returns-3 c = rw (c .resumed2 .ensures, ← c .before .before .before .runs .ens
 pub resume-change-spec : {M : Type 1} → statement M
 resume-change-spec =
     tie.close
-    (tie.spec
-    (λ c κs. search needs)
-    returns
-    (λ c κs. search needs)
-    returns-2
-    (λ c κs. search needs)
-    returns-3)
+    (tie.spec (λ c κs. search needs) returns (λ c κs. search needs) returns-2 (λ c κs. search needs) returns-3)

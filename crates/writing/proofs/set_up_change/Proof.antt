@@ -10,9 +10,4 @@ returns-2 : tie.Need-returns-2
 returns-2 c = rw (← c .before .accepts .ensures, c .if1 .left)
 
 pub set-up-change-spec : {M : Type 1} → statement M
-set-up-change-spec =
-    tie.close
-    (tie.spec
-    (λ c κs. search needs)
-    returns
-    returns-2)
+set-up-change-spec = tie.close (tie.spec (λ c κs. search needs) returns returns-2)

@@ -7,8 +7,4 @@ returns : tie.Need-returns
 returns c = rw (c .ended .ensures)
 
 pub with-ended-spec : {M : Type 1} → statement M
-with-ended-spec =
-    tie.close
-    (tie.spec
-    (λ c κs. search needs)
-    returns)
+with-ended-spec = tie.close (tie.spec (λ c κs. search needs) returns)

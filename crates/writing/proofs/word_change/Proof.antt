@@ -24,5 +24,4 @@ returns-3 : tie.Need-returns-3
 returns-3 c = rw (ne-eqb _ _ (c .before .before .if1 .left), ← c .before .later-right .ensures, c .if2 .left)
 
 pub word-change-spec : {M : Type 1} → statement M
-word-change-spec =
-    tie.close (tie.spec returns (λ c κs. search needs) (λ c. search needs) sub-place returns-2 returns-3)
+word-change-spec = tie.close (tie.spec returns (λ c κs. search needs) (λ c. search needs) sub-place returns-2 returns-3)

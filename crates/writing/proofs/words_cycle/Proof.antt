@@ -16,4 +16,5 @@ returns-2 c = rw (ne-eqb _ _ (c .before .before .if1 .left), ← c .before .late
 pub words-cycle-spec : {M : Type 1} → statement M
 words-cycle-spec =
     tie.close
-    (tie.spec (λ c κs. search needs) returns (λ c. search needs) (λ c κs. search needs) (λ c κs. search needs) returns-2)
+    (tie.spec (λ c κs. search needs) returns (λ c. search needs) (λ c κs. search needs) (λ c κs. search needs)
+    returns-2)

@@ -7,10 +7,4 @@ returns : tie.Need-returns
 returns c = simp (c .with-raised .ensures, c .before .flags-of .ensures, c .before .before .settle .ensures)
 
 pub wrong-spec : {M : Type 1} → statement M
-wrong-spec =
-    tie.close
-    (tie.spec
-    (λ c κs. search needs)
-    (λ c κs. search needs)
-    (λ c κs. search needs)
-    returns)
+wrong-spec = tie.close (tie.spec (λ c κs. search needs) (λ c κs. search needs) (λ c κs. search needs) returns)

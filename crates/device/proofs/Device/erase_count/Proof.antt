@@ -14,10 +14,4 @@ returns-2 c = rw (← c .before .formed-with .ensures _, c .if1 .left)
 
 pub erase-count-spec : {M : Type 1} → statement M
 erase-count-spec =
-    tie.close
-    (tie.spec
-    (λ c κs. search needs)
-    (λ c κs. search needs)
-    (λ c. search needs)
-    returns
-    returns-2)
+    tie.close (tie.spec (λ c κs. search needs) (λ c κs. search needs) (λ c. search needs) returns returns-2)

@@ -15,10 +15,5 @@ returns-2 c = rw (← c .before .formed-with .ensures _, c .if1 .left)
 pub most-worn-spec : {M : Type 1} → statement M
 most-worn-spec =
     tie.close
-    (tie.spec
-    (λ c κs. search needs)
-    (λ c κs. search needs)
-    (λ c κs. search needs)
-    (λ c. search needs)
-    returns
+    (tie.spec (λ c κs. search needs) (λ c κs. search needs) (λ c κs. search needs) (λ c. search needs) returns
     returns-2)

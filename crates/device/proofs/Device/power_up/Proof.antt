@@ -9,9 +9,4 @@ returns : tie.Need-returns
 returns c = (ap holding (c .power-up .ensures), c .before .clear .ensures)
 
 pub power-up-spec : {M : Type 1} → statement M
-power-up-spec =
-    tie.close
-    (tie.spec
-    (λ c κs. search needs)
-    (λ c κs. search needs)
-    returns)
+power-up-spec = tie.close (tie.spec (λ c κs. search needs) (λ c κs. search needs) returns)

@@ -13,10 +13,4 @@ unfolding reportedWith
 returns-2 c = rw (← c .before .formed-with .ensures _, c .if1 .left)
 
 pub report-spec : {M : Type 1} → statement M
-report-spec =
-    tie.close
-    (tie.spec
-    (λ c κs. search needs)
-    (λ c κs. search needs)
-    returns
-    returns-2)
+report-spec = tie.close (tie.spec (λ c κs. search needs) (λ c κs. search needs) returns returns-2)

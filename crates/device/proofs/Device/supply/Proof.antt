@@ -22,10 +22,5 @@ returns-2 c = c .refused .ensures ∙ outcome-refused _ _ _ (Supply _) _ _ _ (c 
 pub supply-spec : {M : Type 1} → statement M
 supply-spec =
     tie.close
-    (tie.spec
-    (λ c κs. search needs)
-    (λ c κs. search needs)
-    (λ c κs. search needs)
-    returns
-    (λ c κs. search needs)
+    (tie.spec (λ c κs. search needs) (λ c κs. search needs) (λ c κs. search needs) returns (λ c κs. search needs)
     returns-2)
