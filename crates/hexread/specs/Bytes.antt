@@ -12,7 +12,8 @@ use borrow.Author.Tests.{ltb-true}
 use Rattle.semantics.specs.Tests.{and-true-l, and-true-r, or-false-l, or-false-r}
 use Rattle.semantics.specs.Numbers.{within, within-true}
 use Rattle.hex.specs.declared.Verdict.{Verdict}
-use Rattle.hex.specs.Records.{digit, allDigits, pairs, bytes, total, count, offset, kind, isEnd, shaped, otherType, upperAfter, recordLines, recordRefusal, refusalFrom, linesFrom}
+use Rattle.hex.specs.Records.{digit, allDigits, pairs, bytes, total, count, offset, kind, isEnd, shaped, otherType}
+use Rattle.hex.specs.Records.{upperAfter, recordLines, recordRefusal, refusalFrom, linesFrom}
 use Rattle.hexread.specs.declared.Header.{Header}
 use Rattle.hexread.specs.declared.Scanned.{Scanned}
 use Rattle.hexread.specs.declared.LineSeen.{LineSeen}

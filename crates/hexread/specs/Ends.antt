@@ -1,4 +1,5 @@
--- Where the record of the line that begins at a place ends, and that these records, one after the other, are `recordLines`.
+-- Where the record of the line that begins at a place ends, and that these records, one after the other, are
+-- `recordLines`.
 -- Assumes nothing.
 use Prim.Native.Nat.{ℕ, zero, suc, _+_, _-_, _<_, _≤_}
 use mathlib.Core.Bool.{Bool, true, false, cond, _&&_}

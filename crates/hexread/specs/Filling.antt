@@ -10,7 +10,9 @@ use borrow.Author.Tests.{eq-eqb, ne-eqb, eqb-true, ltb-true, ltb-false, not-fals
 use Rattle.lines.specs.declared.Taken.{Taken}
 use Rattle.semantics.specs.Tests.{or-false-l, and-true-l, and-true-r}
 use Rattle.semantics.specs.Tabulate.{length-tabulate}
-use Rattle.hex.specs.Records.{digit, allDigits, pairs, bytes, count, offset, kind, dataOf, isEnd, otherType, upperAfter, wordAfter, recordLines, recordRefusal, refusalFrom, Named, namedFrom, namedBy, named, wordsAfter, size}
+use Rattle.hex.specs.Records.{digit, allDigits, pairs, bytes, count, offset, kind, dataOf, isEnd, otherType, upperAfter}
+use Rattle.hex.specs.Records.{wordAfter, recordLines, recordRefusal, refusalFrom, Named, namedFrom, namedBy, named}
+use Rattle.hex.specs.Records.{wordsAfter, size}
 use Rattle.hex.specs.Bytes.{Small, small-none, small-cons, small-take, small-drop}
 use Rattle.hexread.specs.Ends.{records-next}
 use Rattle.hexread.specs.Refusals.{Good, good-if, data-length}

@@ -10,7 +10,8 @@ use lib.Dec.{eqb, ltb, leb, eqb·suc-zero}
 use lib.ListN.{length, getD, drop, length-take, length-drop}
 use borrow.Author.Tests.{eq-eqb, ne-eqb, lt-ltb, le-ltb, le-leb, lt-leb, eqb-true, not-false}
 use Rattle.semantics.specs.Tests.{and-true-l, and-true-r}
-use Rattle.hex.specs.Records.{allDigits, bytes, count, offset, kind, dataOf, framed, shaped, malformed, sumWrong, otherType, namedFrom, namedBy, outside, passes, recordRefusal}
+use Rattle.hex.specs.Records.{allDigits, bytes, count, offset, kind, dataOf, framed, shaped, malformed, sumWrong}
+use Rattle.hex.specs.Records.{otherType, namedFrom, namedBy, outside, passes, recordRefusal}
 use Rattle.hexread.specs.Bytes.{headerOf, scanned, outsideOf, refusalBy, and-true, length-pairs}
 
 -- ---- a malformed record

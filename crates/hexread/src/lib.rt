@@ -1,12 +1,13 @@
-// Reading Intel HEX (document 02, item 3) from borrowed text into a borrowed array. The text is gone over twice: it is judged whole before the first word is written,
-// since a refused file leaves the array as it was.
+// Reading Intel HEX (document 02, item 3) from borrowed text into a borrowed array. The text is gone over twice: it is
+// judged whole before the first word is written, since a refused file leaves the array as it was.
 use geometry::Part;
 use hex::Verdict;
 ghost use mathlib.Core.Path.{_≡_};
 ghost use mathlib.Core.Bool.{true};
 ghost use Prim.Native.Nat.{_+_, _*_, _<_, _≤_, _%_};
 ghost use lib.ListN.{length, getD, take, drop};
-ghost use Rattle.hex.specs.Records.{recordLines, digit, bytes, shaped, namedFrom, recordRefusal, refusalFrom, named, wordsAfter, size, verdict, arrayRead};
+ghost use Rattle.hex.specs.Records.{recordLines, digit, bytes, shaped, namedFrom, recordRefusal, refusalFrom, named};
+ghost use Rattle.hex.specs.Records.{wordsAfter, size, verdict, arrayRead};
 ghost use Rattle.hexread.specs.Ends.{recordEnd};
 ghost use Rattle.hexread.specs.Put.{withByte};
 ghost use Rattle.hexread.specs.Storing.{Storable};
@@ -27,14 +28,16 @@ struct Scanned {
     sum: u8,
 }
 
-// What is seen of a line: its refusal or 0, and, of a good record, whether it ends the file and the upper address that holds after it.
+// What is seen of a line: its refusal or 0, and, of a good record, whether it ends the file and the upper address that
+// holds after it.
 struct LineSeen {
     refusal: u32,
     ends: bool,
     upper: u32,
 }
 
-// The value of a hex digit of either case, and 16 for any other byte. Both answers are worked out and one is chosen: a branch by the digit would be taken wrongly too often.
+// The value of a hex digit of either case, and 16 for any other byte. Both answers are worked out and one is chosen: a
+// branch by the digit would be taken wrongly too often.
 fn digit(b: u8) -> u8
     ensures { λ r. ⌜ r ≡ digit b ⌝ }
 {

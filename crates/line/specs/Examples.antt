@@ -13,7 +13,8 @@ use Rattle.semantics.specs.declared.Step.the-variants.{Read, Write, Work, Suppl
 use Rattle.semantics.specs.declared.Decoded.{Decoded}
 use Rattle.semantics.specs.declared.Decoded.the-variants.{Valid, Invalid}
 use Rattle.semantics.specs.Exactly.{exactly}
-use Rattle.line.specs.Forms.{hexValue, digits, number, begins, isRead, isWrite, isWork, isSupply, isReset, stepOfLine}
+use Rattle.line.specs.Forms.{hexValue, digits, number, begins, isRead, isWrite, isWork, isSupply, isReset}
+use Rattle.line.specs.Forms.{stepOfLine}
 
 infix 20 _⟶_
 -- a line, and its step

@@ -1,4 +1,5 @@
--- The step that one line of a script stands for: document 01, "The script program". A line is the list of its bytes, without the LF that ends it.
+-- The step that one line of a script stands for: document 01, "The script program". A line is the list of its bytes,
+-- without the LF that ends it.
 -- A place past the end of the line reads 0, which stands in no form. Definitions only; the laws are in Laws.
 -- Assumes nothing.
 use Prim.Native.Nat.{ℕ, zero, suc, _+_, _-_, _*_}

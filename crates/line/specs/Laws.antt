@@ -14,7 +14,8 @@ use Rattle.semantics.specs.declared.Step.the-variants.{Read, Write, Work, Suppl
 use Rattle.semantics.specs.declared.Decoded.{Decoded}
 use Rattle.semantics.specs.declared.Decoded.the-variants.{Valid, Invalid}
 use Rattle.semantics.specs.Branches.{by-cond}
-use Rattle.line.specs.Forms.{hexValue, digits, number, hexDigits, hexNumber, decimalDigits, decimalNumber, begins, isRead, isWrite, isWork, isSupply, isReset, stepOfLine}
+use Rattle.line.specs.Forms.{hexValue, digits, number, hexDigits, hexNumber, decimalDigits, decimalNumber, begins}
+use Rattle.line.specs.Forms.{isRead, isWrite, isWork, isSupply, isReset, stepOfLine}
 
 -- ---- tests
 

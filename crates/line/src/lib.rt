@@ -1,11 +1,13 @@
-// The step that one line of a script stands for: document 01, "The script program". A line comes without the LF that ends it.
+// The step that one line of a script stands for: document 01, "The script program". A line comes without the LF that
+// ends it.
 // Each function takes every line and number: a place past the end of the line reads 0, which stands in no form.
 use semantics::Decoded;
 use semantics::Step;
 ghost use mathlib.Core.Path.{_≡_};
 ghost use Prim.Native.Nat.{_%_};
 ghost use lib.ListN.{getD};
-ghost use Rattle.line.specs.Forms.{hexValue, digits, number, begins, isRead, isWrite, isWork, isSupply, isReset, stepOfLine};
+ghost use Rattle.line.specs.Forms.{hexValue, digits, number, begins, isRead, isWrite, isWork, isSupply, isReset};
+ghost use Rattle.line.specs.Forms.{stepOfLine};
 
 // ---- digits
 

@@ -1,4 +1,5 @@
--- Document 01's own output lines, numbers at the ends of their ranges, and texts in a room, as one table under one statement that the checker computes.
+-- Document 01's own output lines, numbers at the ends of their ranges, and texts in a room, as one table under one
+-- statement that the checker computes.
 -- Assumes nothing.
 use Prim.Native.Nat.{ℕ}
 use Prim.Native.String.{String}
@@ -12,8 +13,8 @@ use Rattle.semantics.specs.Tabulate.{tabulate}
 use Rattle.printing.specs.Text.{text, digitOf, digits, decimal, hex4, answerText, lineText, endText}
 use Rattle.printing.specs.Room.{placed, advanced}
 
--- a number in decimal, a word in hex, a line's number and answer, or the count at the end, and its text; or a room, a place and a text, and the room and
--- the place after the text was put there
+-- a number in decimal, a word in hex, a line's number and answer, or the count at the end, and its text; or a room, a
+-- place and a text, and the room and the place after the text was put there
 pub data Case : Type 0 where
   number : ℕ → String → Case
   word : ℕ → String → Case

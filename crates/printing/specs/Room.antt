@@ -1,4 +1,5 @@
--- Writing bytes into borrowed room from a place on: what ends up at every place, and the next place. What is past the room's end is dropped.
+-- Writing bytes into borrowed room from a place on: what ends up at every place, and the next place. What is past the
+-- room's end is dropped.
 -- Assumes nothing.
 use Prim.Native.Nat.{ℕ, _+_, _-_, _<_, _≤_, min, max}
 use mathlib.Core.Bool.{Bool, true, false, cond}
@@ -15,7 +16,8 @@ use Rattle.semantics.specs.Tabulate.{tabulate, length-tabulate, getD-tabulate, 
 abbrev pub placedByte : List ℕ → ℕ → List ℕ → ℕ → ℕ
 placedByte room at bytes i = cond (within at (length bytes) i) (getD bytes (i - at) 0) (getD room i 0)
 
--- "What is written into lent room comes with its length, and places past it stay.": the room after bytes were put at a place
+-- "What is written into lent room comes with its length, and places past it stay.": the room after bytes were put at a
+-- place
 unfoldable pub placed : List ℕ → ℕ → List ℕ → List ℕ
 placed room at bytes = tabulate (length room) (placedByte room at bytes)
 

@@ -38,7 +38,8 @@ decimal n = digits 20 n
 unfoldable pub hex4 : ℕ → List ℕ
 hex4 w = digitOf (w / 4096 % 16) ∷ digitOf (w / 256 % 16) ∷ digitOf (w / 16 % 16) ∷ digitOf (w % 16) ∷ []
 
--- "4 hex digits (R), units in decimal (K), `ok`, or `refused` and the number": the words for each kind of answer, from its value and its refusal number
+-- "4 hex digits (R), units in decimal (K), `ok`, or `refused` and the number": the words for each kind of answer, from
+-- its value and its refusal number
 abbrev pub wording : Answer → ℕ → ℕ → List ℕ
 wording (Word w) value number = hex4 value
 wording (Units n) value number = decimal value

@@ -1,5 +1,6 @@
 // The text that the script program prints (document 01, "The script program"), written into borrowed room.
-// Each function puts its bytes at a place and gives the next place. It takes every number: what does not fit the room is dropped.
+// Each function puts its bytes at a place and gives the next place. It takes every number: what does not fit the room
+// is dropped.
 use semantics::Answer;
 ghost use mathlib.Core.Path.{_≡_};
 ghost use mathlib.Core.List.{[], _∷_};

@@ -7,7 +7,8 @@ use lib.ListN.{length}
 use Rattle.hexread.specs.declared.Header.{Header}
 use Rattle.hexread.specs.Refusals.{long-enough, long-upper}
 use Rattle.hexread.specs.Judging.{placed-line, taken-ends}
-use Rattle.hexread.specs.Filling.{Filling, storable, fill-start, fill-none, good-line, fill-end, fill-data, fill-upper, is-upper}
+use Rattle.hexread.specs.Filling.{Filling, storable, fill-start, fill-none, good-line, fill-end, fill-data}
+use Rattle.hexread.specs.Filling.{fill-upper, is-upper}
 use Rattle.hexread.proofs.fill.Statement.{statement}
 use Rattle.hexread.proofs.fill.Tie as tie
 

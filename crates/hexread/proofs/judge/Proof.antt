@@ -4,7 +4,8 @@ use native.Mathlib.Omega.{arith}
 use borrow.Author.Needs.{needs}
 use denote.Ref.{now}
 use lib.ListN.{length}
-use Rattle.hexread.specs.Judging.{Judging, placed-line, taken-ends, judge-start, judge-none, step-bad, step-end, step-on}
+use Rattle.hexread.specs.Judging.{Judging, placed-line, taken-ends, judge-start, judge-none, step-bad, step-end}
+use Rattle.hexread.specs.Judging.{step-on}
 use Rattle.hexread.proofs.judge.Statement.{statement}
 use Rattle.hexread.proofs.judge.Tie as tie
 

@@ -1,4 +1,4 @@
--- `line::step_of_line` meets its contract: by the form that the line has; its numbers are below 2^24 by the laws. Assumes nothing.
+-- `line::step_of_line`: by the form that the line has; its numbers are below 2^24 by the laws. Assumes nothing.
 use Prim.Native.Nat.{ℕ, _%_, _<_, _≤_}
 use mathlib.Core.Bool.{false}
 use mathlib.Core.Path.{_≡_, sym, _∙_}

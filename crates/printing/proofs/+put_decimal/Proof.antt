@@ -1,4 +1,5 @@
--- `printing::put_decimal`, which calls itself at n / 10, meets its contract: the measure is n, and the laws of the decimal digits give each return.
+-- `printing::put_decimal`, which calls itself at n / 10, meets its contract: the measure is n, and the laws of the
+-- decimal digits give each return.
 -- Assumes nothing.
 use Prim.Native.Nat.{ℕ, _%_, _<_}
 use mathlib.Core.Path.{_≡_}
@@ -25,26 +26,11 @@ given t = and 1 kinds.ps (is 1 kinds.ps μ t) reads.Pre
 abbrev claims : ℕ → lts.Claims
 claims t = (put-digit.Asked, put-digit.Learnt, and 1 kinds.ps (falls 1 kinds.ps _<_ μ t) reads.Pre, reads.Post)
 
-put-digit-requires : (t : ℕ) → lts.Need-put-digit-requires (claims t) (given t) reads.Post
-put-digit-requires t c κs = search needs
-
-same-length : (t : ℕ) → lts.Need-same-length (claims t) (given t) reads.Post
-same-length t c = search needs
-
 returns : (t : ℕ) → lts.Need-returns (claims t) (given t) reads.Post
 returns t c =
     let n : ℕ = c .before .before .before .before .before .before .args .n in
     let e : n % 16 ≡ n = omega arith in
     rw (decimal-one n (omega arith)) (rw e at (c .before .before .put-digit .ensures))
-
-put-decimal-requires : (t : ℕ) → lts.Need-put-decimal-requires (claims t) (given t) reads.Post
-put-decimal-requires t c κs = search needs
-
-put-digit-requires-2 : (t : ℕ) → lts.Need-put-digit-requires-2 (claims t) (given t) reads.Post
-put-digit-requires-2 t c κs = search needs
-
-same-length-2 : (t : ℕ) → lts.Need-same-length-2 (claims t) (given t) reads.Post
-same-length-2 t c = search needs
 
 returns-2 : (t : ℕ) → lts.Need-returns-2 (claims t) (given t) reads.Post
 returns-2 t c =
@@ -55,11 +41,5 @@ returns-2 t c =
 
 pub +put-decimal-spec : {M : Type 1} → statement M
 +put-decimal-spec =
-    close μ λ t. lts.spec (claims t) (given t) reads.Post
-    (put-digit-requires t)
-    (same-length t)
-    (returns t)
-    (put-decimal-requires t)
-    (put-digit-requires-2 t)
-    (same-length-2 t)
-    (returns-2 t)
+    close μ λ t. lts.spec (claims t) (given t) reads.Post (search needs) (search needs) (returns t) (search needs)
+    (search needs) (search needs) (returns-2 t)
