@@ -1,4 +1,5 @@
--- What the calls from C mean: what is answered, and what the words of a saved state are afterwards. Definitions only; the laws are in Laws.
+-- What the calls from C mean: what is answered, and what the words of a saved state are afterwards. Definitions only;
+-- the laws are in Laws.
 -- Assumes nothing.
 use Prim.Native.Nat.{ℕ, _+_, _*_, min}
 use mathlib.Core.Bool.{Bool, true, cond, _&&_}
@@ -19,8 +20,8 @@ use Rattle.hex.specs.Records.{verdict, arrayRead}
 use Rattle.hex.specs.Text.{written, roomAfter}
 use Rattle.saved.specs.Saved.{savedOf, isSaved, stateOf}
 
--- the start of a block in one number: its lowest location from bit 0; 7 "part number above 3" from bit 32; and for a number that is no block 16,777,216, which is no
--- location of any part
+-- the start of a block in one number: its lowest location from bit 0; 7 "part number above 3" from bit 32; and for a
+-- number that is no block 16,777,216, which is no location of any part
 unfoldable pub startCode : ℕ → ℕ → ℕ
 startCode part block =
     cond (leb part 3)
@@ -42,20 +43,23 @@ unworn part room k = cond (powersUp part room) noCounts k
 abbrev pub reportCode : Reported → ℕ
 reportCode r = r .refusal * 4294967296 + r .count * 65536 + r .lowest
 
--- the most worn block in one number likewise: its count from bit 16, the block from bit 0; and the count of a block that is asked for, from bit 0
+-- the most worn block in one number likewise: its count from bit 16, the block from bit 0; and the count of a block
+-- that is asked for, from bit 0
 abbrev pub wornCode : Worn → ℕ
 wornCode r = r .refusal * 4294967296 + r .count * 65536 + r .block
 
 abbrev pub countCode : Worn → ℕ
 countCode r = r .refusal * 4294967296 + r .count
 
--- the state after the numbers `codes` were played on the state of the words, its counts and an array, with a room for the answers
+-- the state after the numbers `codes` were played on the state of the words, its counts and an array, with a room for
+-- the answers
 unfoldable pub stateAfter : List ℕ → Counts → List ℕ → List ℕ → List ℕ → State
 stateAfter ws k codes room xs = afterAllWith (machineOf (holding (stateOf ws)) k xs) (playable codes (length room)) .machine .state
 
 -- what holds after n of the numbers were played
 pub record Ran (ws : List ℕ) (k : Counts) (codes room xs : List ℕ) (n : ℕ) (after : List ℕ) (counts : Counts) (answers array : List ℕ) : Type 0 where
-  -- the steps, the answers, the array and the counts are those of the state of the words, demand 3 and the counts' theorem among it
+  -- the steps, the answers, the array and the counts are those of the state of the words, demand 3 and the counts'
+  -- theorem among it
   pub played : Played (holding (stateOf ws)) k codes room xs (record { played = n; device = holding (stateAfter ws k codes room xs) }) counts answers array
   -- the state after them is saved; words that are no saved state stay
   pub kept : after ≡ cond (isSaved ws) (savedOf (stateAfter ws k codes room xs)) ws

@@ -16,7 +16,8 @@ use Rattle.wear.specs.Counts.{Counts, noCounts}
 use Rattle.hex.specs.Records.{verdict, arrayRead}
 use Rattle.hex.specs.Text.{written, roomAfter}
 use Rattle.saved.specs.Saved.{savedOf}
-use Rattle.m58.specs.Calls.{startCode, powersUp, poweredUp, unworn, reportCode, wornCode, countCode, hexCode, hexVerdict, hexArray, hexWritten, hexRoom}
+use Rattle.m58.specs.Calls.{startCode, powersUp, poweredUp, unworn, reportCode, wornCode, countCode, hexCode}
+use Rattle.m58.specs.Calls.{hexVerdict, hexArray, hexWritten, hexRoom}
 
 -- a part's number, a block's, and the number that is told
 pub data Case : Type 0 where

@@ -47,18 +47,18 @@ report-bits : (ws : List ℕ) (b : ℕ) → bitAt ws b ≤ 1
 unfolding bitAt bit
 report-bits ws b = omega arith
 
-pub report-small : (s : State) (k : Counts) → Small (reportedWith s k)
+pub report-small : (s : State) (k : Counts) {r : Reported} → r ≡ reportedWith s k → Small r
 unfolding reportedWith reportOf unprotectedCount
-report-small s k = go (formedWith s k)
+report-small s k e = subst Small (sym e) (go (formedWith s k))
   where
     go : (t : Bool) → Small (cond t (record { refusal = 0; count = reportOf (s .unprotected) .count; lowest = reportOf (s .unprotected) .lowest }) (record { refusal = 2; count = 0; lowest = 0 }))
     go true = record { count = count-le 259 (bitAt (s .unprotected)) (report-bits (s .unprotected)); lowest = lowest-least (s .unprotected) .within }
     go false = record { count = omega arith; lowest = omega arith }
 
 -- and the refusal of the most worn block is
-pub worn-small : (s : State) (k : Counts) → mostWornWith s k .refusal ≤ 2
+pub worn-small : (s : State) (k : Counts) {r : Worn} → r ≡ mostWornWith s k → r .refusal ≤ 2
 unfolding mostWornWith
-worn-small s k = go (formedWith s k)
+worn-small s k e = subst (λ (w : Worn). w .refusal ≤ 2) (sym e) (go (formedWith s k))
   where
     go : (t : Bool) → cond {A = Worn} t (record { refusal = 0; block = mostWorn k; count = countOf k (mostWorn k) }) (record { refusal = 2; block = 0; count = 0 }) .refusal ≤ 2
     go true = omega arith

@@ -1,4 +1,5 @@
--- Calls in a row: power-up and any number of runs, each on the words and the array that the last one left, are one list of steps (calls-are-one-list).
+-- Calls in a row: power-up and any number of runs, each on the words and the array that the last one left, are one list
+-- of steps (calls-are-one-list).
 -- Assumes nothing.
 use Prim.Native.Nat.{ℕ, _+_}
 use mathlib.Core.Bool.{true}
@@ -27,8 +28,9 @@ use Rattle.saved.specs.Laws.{saved-back}
 use Rattle.m58.specs.Calls.{powersUp, poweredUp, unworn, stateAfter, Ran}
 use Rattle.m58.specs.Laws.{powered-up}
 
--- calls on one device, which began as power-up of the part of a number beside the array xs₀: how many steps they said they played, the answers that they
--- wrote, one call after the other, the words, the counts and the array that stand, and the steps that were played
+-- calls on one device, which began as power-up of the part of a number beside the array xs₀: how many steps they said
+-- they played, the answers that they wrote, one call after the other, the words, the counts and the array that stand,
+-- and the steps that were played
 pub data Sequence (part : ℕ) (xs₀ : List ℕ) : ℕ → List ℕ → List ℕ → Counts → List ℕ → List Step → Type 0 where
   -- m58_power_up
   powered : (room : List ℕ) (k : Counts) → powersUp part room ≡ true → Sequence part xs₀ 0 [] (poweredUp part room) (unworn part room k) xs₀ []

@@ -1,14 +1,17 @@
 // What C programs call. Each function takes every number and every slice, which C hands over as a pointer and a length.
-// A device is kept as the 25 words of the crate saved, and beside them its erase counts, which C hands over as two pointers: sixteen rows of sixteen, and four. A call copies none of
-// them. A step, and an answer, is a number of 64 bits (crate playback).
+// A device is kept as the 25 words of the crate saved, and beside them its erase counts, which C hands over as two
+// pointers: sixteen rows of sixteen, and four. A call copies none of them. A step, and an answer, is a number of 64
+// bits (crate playback).
 use device::Device;
 ghost use mathlib.Core.Path.{_≡_};
 ghost use Rattle.geometry.specs.Blocks.{lookupOf};
 ghost use Rattle.semantics.specs.Reading.{bitIf};
 ghost use Rattle.wear.specs.Counts.{lent};
 ghost use Rattle.wear.specs.Steps.{reportedWith, mostWornWith, eraseCountWith};
+ghost use Rattle.device.specs.Outcomes.{holding};
 ghost use Rattle.saved.specs.Saved.{stateOf};
-ghost use Rattle.m58.specs.Calls.{powersUp, poweredUp, unworn, reportCode, wornCode, countCode, Ran, hexCode, hexVerdict, hexArray, hexWritten, hexRoom, startCode};
+ghost use Rattle.m58.specs.Calls.{startCode, powersUp, poweredUp, unworn, Ran, reportCode, wornCode, countCode};
+ghost use Rattle.m58.specs.Calls.{hexCode, hexVerdict, hexArray, hexWritten, hexRoom};
 
 // ---- the lookup of an address of a part, by the part's number
 
@@ -39,7 +42,8 @@ pub extern "C" fn m58_lookup_bank(part: u32, address: u32) -> u32
     found.bank
 }
 
-// The lowest location of a block of a part, from bit 0, with the refusal 7 from bit 32; 16,777,216, which is no location, for a number that is no block.
+// The lowest location of a block of a part, from bit 0, with the refusal 7 from bit 32; 16,777,216, which is no
+// location, for a number that is no block.
 #[no_mangle]
 pub extern "C" fn m58_block_start(part: u32, block: u32) -> u64
     ensures { λ r. ⌜ r ≡ startCode part block ⌝ }
@@ -56,7 +60,8 @@ pub extern "C" fn m58_block_start(part: u32, block: u32) -> u64
 
 // ---- the device
 
-// Saves power-up of a part, by its number, sets the counts to 0 and answers 1; writes nothing and answers 0 where there is no such part, or not room for just 25 words.
+// Saves power-up of a part, by its number, sets the counts to 0 and answers 1; writes nothing and answers 0 where there
+// is no such part, or not room for just 25 words.
 #[no_mangle]
 pub extern "C" fn m58_power_up(
     part: u32,
@@ -80,8 +85,8 @@ pub extern "C" fn m58_power_up(
     1
 }
 
-// Plays steps on the saved state, its counts and the array, writes the answers, saves the state after them, and answers how many were played. Words that are no
-// saved state are left: each step on them is refused. A few reads alone change
+// Plays steps on the saved state, its counts and the array, writes the answers, saves the state after them, and answers
+// how many were played. Words that are no saved state are left: each step on them is refused. A few reads alone change
 // nothing, and save nothing.
 #[no_mangle]
 pub extern "C" fn m58_run(
@@ -111,14 +116,21 @@ pub extern "C" fn m58_run(
     n
 }
 
+// The device that words hold.
+fn device_in(state: &[u64]) -> Device
+    ensures { λ r. ⌜ r ≡ holding (stateOf (now (state .entry))) ⌝ }
+{
+    let found = saved::found_in(state);
+    let s = found.state;
+    Device { state: s }
+}
+
 // How many blocks are unprotected, and the lowest of them, in one number.
 #[no_mangle]
 pub extern "C" fn m58_report(state: &[u64], main: &[[u16; 16]; 16], small: &[u16; 4]) -> u64
     ensures { λ r. ⌜ r ≡ reportCode (reportedWith (stateOf (now (state .entry))) (lent (now (main .entry)) (now (small .entry)))) ⌝ }
 {
-    let found = saved::found_in(state);
-    let s = found.state;
-    let d = Device { state: s };
+    let d = device_in(state);
     let told = d.report(main, small);
     (told.refusal as u64) * 4294967296 + (told.count as u64) * 65536 + told.lowest as u64
 }
@@ -128,9 +140,7 @@ pub extern "C" fn m58_report(state: &[u64], main: &[[u16; 16]; 16], small: &[u16
 pub extern "C" fn m58_most_worn(state: &[u64], main: &[[u16; 16]; 16], small: &[u16; 4]) -> u64
     ensures { λ r. ⌜ r ≡ wornCode (mostWornWith (stateOf (now (state .entry))) (lent (now (main .entry)) (now (small .entry)))) ⌝ }
 {
-    let found = saved::found_in(state);
-    let s = found.state;
-    let d = Device { state: s };
+    let d = device_in(state);
     let told = d.most_worn(main, small);
     (told.refusal as u64) * 4294967296 + (told.count as u64) * 65536 + told.block as u64
 }
@@ -145,16 +155,15 @@ pub extern "C" fn m58_erase_count(
 ) -> u64
     ensures { λ r. ⌜ r ≡ countCode (eraseCountWith (stateOf (now (state .entry))) (lent (now (main .entry)) (now (small .entry))) block) ⌝ }
 {
-    let found = saved::found_in(state);
-    let s = found.state;
-    let d = Device { state: s };
+    let d = device_in(state);
     let told = d.erase_count(main, small, block);
     (told.refusal as u64) * 4294967296 + told.count as u64
 }
 
 // ---- Intel HEX
 
-// A refusal from bit 32, and a line or a length from bit 0. One of more than 32 bits is told as the greatest of 32 bits.
+// A refusal from bit 32, and a line or a length from bit 0. One of more than 32 bits is told as the greatest of 32
+// bits.
 fn coded(refusal: u32, number: usize) -> u64
     ensures { λ r. ⌜ r ≡ hexCode refusal number ⌝ }
 {

@@ -5,19 +5,6 @@ use Rattle.m58.specs.Calls.{startCode}
 use Rattle.m58.proofs.m58_block_start.Statement.{statement}
 use Rattle.m58.proofs.m58_block_start.Tie as tie
 
-mul-result : tie.Need-mul-result
-mul-result c = search needs
-
-returns : tie.Need-returns
-unfolding startCode
-returns c = rw (lt-leb _ _ (c .if1 .taken))
-
-part-numbered-requires : tie.Need-part-numbered-requires
-part-numbered-requires c κs = search needs
-
-block-count-requires : tie.Need-block-count-requires
-block-count-requires c κs = search needs
-
 returns-2 : tie.Need-returns-2
 unfolding startCode
 returns-2 c =
@@ -25,12 +12,6 @@ returns-2 c =
     let n = c .before .before .part-numbered .ensures in
     let h = rw (c .before .block-count .ensures .0, n) at (c .if2 .taken) in
     rw (le-leb (a .part) 3 (c .before .before .before .if1 .left), le-ltb (a .block) _ h)
-
-start-by-table-requires : tie.Need-start-by-table-requires
-start-by-table-requires c κs = search needs
-
-cast-result : tie.Need-cast-result
-cast-result c = search needs
 
 returns-3 : tie.Need-returns-3
 unfolding startCode
@@ -41,6 +22,8 @@ returns-3 c =
     rw (le-leb (a .part) 3 (c .before .before .before .before .if1 .left), lt-ltb (a .block) _ h, ← n) (c .start-by-table .ensures .0)
 
 pub m58-block-start-spec : {M : Type 1} → statement M
+unfolding startCode
 m58-block-start-spec =
     tie.close
-    (tie.spec mul-result returns part-numbered-requires block-count-requires returns-2 start-by-table-requires cast-result returns-3)
+    (tie.spec (search needs) (λ c. rw (lt-leb _ _ (c .if1 .taken))) (search needs) (search needs) returns-2
+    (search needs) (search needs) returns-3)

@@ -1,28 +1,13 @@
--- `m58::m58_hex_write` meets its contract: by the test, and the contracts of the functions that it calls. Assumes nothing.
+-- `m58::m58_hex_write`: by the test, and the contracts of the functions that it calls. Assumes nothing.
 use borrow.Author.Needs.{needs}
 use borrow.Author.Tests.{le-leb, lt-leb}
 use Rattle.m58.specs.Calls.{hexWritten, hexRoom}
 use Rattle.m58.proofs.m58_hex_write.Statement.{statement}
 use Rattle.m58.proofs.m58_hex_write.Tie as tie
 
-coded-requires : tie.Need-coded-requires
-coded-requires c κs = search needs
-
 returns : tie.Need-returns
 unfolding hexWritten hexRoom
 returns c = let e = lt-leb (c .before .before .before .before .args .part) 3 (c .before .if1 .taken) in (rw e (c .coded .ensures), rw e)
-
-part-numbered-requires : tie.Need-part-numbered-requires
-part-numbered-requires c κs = search needs
-
-write-requires : tie.Need-write-requires
-write-requires c κs = search needs
-
-coded-requires-2 : tie.Need-coded-requires-2
-coded-requires-2 c κs = search needs
-
-same-length : tie.Need-same-length
-same-length c = search needs
 
 returns-2 : tie.Need-returns-2
 unfolding hexWritten hexRoom
@@ -34,11 +19,4 @@ returns-2 c =
 pub m58-hex-write-spec : {M : Type 1} → statement M
 m58-hex-write-spec =
     tie.close
-    (tie.spec
-    coded-requires
-    returns
-    part-numbered-requires
-    write-requires
-    coded-requires-2
-    same-length
-    returns-2)
+    (tie.spec (search needs) returns (search needs) (search needs) (search needs) (search needs) returns-2)

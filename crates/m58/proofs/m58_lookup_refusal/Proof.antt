@@ -5,11 +5,7 @@ use Rattle.geometry.specs.declared.Lookup.{Lookup}
 use Rattle.m58.proofs.m58_lookup_refusal.Statement.{statement}
 use Rattle.m58.proofs.m58_lookup_refusal.Tie as tie
 
-look-up-requires : tie.Need-look-up-requires
-look-up-requires c κs = search needs
-
-returns : tie.Need-returns
-returns c = ap (λ (l : Lookup). l .refusal) (c .look-up .ensures .0)
-
 pub m58-lookup-refusal-spec : {M : Type 1} → statement M
-m58-lookup-refusal-spec = tie.close (tie.spec look-up-requires returns)
+m58-lookup-refusal-spec =
+    tie.close
+    (tie.spec (search needs) (λ c. ap (λ (l : Lookup). l .refusal) (c .look-up .ensures .0)))

@@ -1,4 +1,4 @@
--- `m58::m58_power_up` meets its contract: by the tests, and the contracts of the functions that it calls. Assumes nothing.
+-- `m58::m58_power_up`: by the tests, and the contracts of the functions that it calls. Assumes nothing.
 use mathlib.Core.Path.{ap, _∙_}
 use borrow.Author.Tests.{le-leb, lt-leb, eq-eqb, ne-eqb}
 use borrow.Author.Needs.{needs}
@@ -7,10 +7,6 @@ use Rattle.saved.specs.Saved.{savedOf, putInto}
 use Rattle.m58.specs.Calls.{powersUp, poweredUp, unworn}
 use Rattle.m58.proofs.m58_power_up.Statement.{statement}
 use Rattle.m58.proofs.m58_power_up.Tie as tie
-
-returns : tie.Need-returns
-unfolding powersUp poweredUp unworn
-returns c = let e = lt-leb (c .before .before .args .part) 3 (c .if1 .taken) in (rw e, (rw e, rw e))
 
 returns-2 : tie.Need-returns-2
 unfolding powersUp poweredUp unworn
@@ -28,13 +24,8 @@ returns-3 c =
     )
 
 pub m58-power-up-spec : {M : Type 1} → statement M
+unfolding powersUp poweredUp unworn
 m58-power-up-spec =
     tie.close
-    (tie.spec
-    returns
-    returns-2
-    (λ c κs. search needs)
-    (λ c κs. search needs)
-    (λ c κs. search needs)
-    (λ c. search needs)
-    returns-3)
+    (tie.spec (λ c. let e = lt-leb (c .before .before .args .part) 3 (c .if1 .taken) in (rw e, (rw e, rw e)))
+    returns-2 (search needs) (search needs) (search needs) (search needs) returns-3)
