@@ -197,8 +197,8 @@ pub fn bank_of(part: Part, location: u32) -> u32
 fn turned_bits(part: Part) -> u32
     ensures { λ r. ⌜ r ≡ turned (geometryOf part) ⌝ }
 {
-    let n = length_of(part);
-    if is_top(part) { n - 1 } else { 0 }
+    let words = length_of(part);
+    if is_top(part) { words - 1 } else { 0 }
 }
 
 // The mirror of the location that an address selects. A length is a power of two, so the last location less another is
@@ -206,9 +206,9 @@ fn turned_bits(part: Part) -> u32
 fn mirror_at(part: Part, address: u32) -> u32
     ensures { λ r. ⌜ r ≡ mirror (geometryOf part) (location (geometryOf part) address) ⌝ }
 {
-    let n = length_of(part);
+    let words = length_of(part);
     let x = address ^ turned_bits(part);
-    x % n
+    x % words
 }
 
 // The block of the location that an address selects.
