@@ -1,19 +1,18 @@
 //! Writes the steps of random lists, and random states to begin from. All is
 //! drawn from a seed, with an eye on the second model's device, so that blocks
 //! are unprotected, loads come to their end, and programs and erases are accepted,
-//! suspended, nested and cut, by resets and by the supply, erases finished, and
-//! blocks locked down and held by the pin, far more often than by chance.
+//! suspended, nested and cut, by resets and by the supply, and erases finished, far
+//! more often than by chance.
 
 mod drops;
 mod loads;
-mod locks;
 pub mod states;
 pub mod wear;
 
 use crate::library;
 use crate::second::model::{
-    without_reserved_bits, Device, Mode, Operation, Part, Program, Setup, ADDRESSES, BUFFER_WORDS,
-    RESERVED_BITS,
+    without_reserved_bits, Device, Mode, Operation, Part, Program, Setup, ADDRESSES, BANKS, BLOCKS,
+    BUFFER_WORDS, RESERVED_BITS,
 };
 use crate::second::steps::Step;
 use loads::Order;
@@ -88,8 +87,7 @@ pub struct Author {
     no_steps: u64,
     /// In which order the words of the load come.
     order: Order,
-    /// The steps to come of a scene in which the supply drops, a block is erased or
-    /// locked down.
+    /// The steps to come of a scene in which the supply drops, or a block is erased.
     scene: VecDeque<Step>,
 }
 
@@ -98,11 +96,11 @@ impl Author {
         let mut dice = Dice::new(seed);
         let mut favoured = Vec::new();
         for _ in 0..1 + dice.below(5) {
-            favoured.push(some_block(&mut dice, part));
+            favoured.push(some_block(&mut dice));
         }
         // Neighbours share an edge, and most often a bank.
         if dice.percent(50) {
-            favoured.push((favoured[0] + 1) % part.blocks());
+            favoured.push((favoured[0] + 1) % BLOCKS as u32);
         }
         Author {
             part,
@@ -135,13 +133,11 @@ impl Author {
     pub fn no_step(&mut self) -> u64 {
         loop {
             let step = self.wild_step();
-            let number = match self.dice.below(5) {
+            let number = match self.dice.below(4) {
                 0 => self.dice.next(),
                 1 => library::number(step) ^ 1 << self.dice.below(64),
                 2 => library::number(step) ^ (1 + self.dice.below(0xFFFF)) << 32,
-                // Supply and pin have the numbers 0 and 1 only.
-                3 => self.dice.pick(&[3, 5]) << 48 | (2 + self.dice.below(1 << 20)),
-                _ => (6 + self.dice.below(4)) << 48,
+                _ => (5 + self.dice.below(4)) << 48,
             };
             if library::step(number).is_none() {
                 return number;
@@ -153,23 +149,20 @@ impl Author {
         match self.dice.below(100) {
             0..=29 => Step::Read(self.address()),
             30..=74 => Step::Write(self.address(), self.command()),
-            75..=92 => Step::Work(self.count(1)),
-            93..=96 => Step::Supply(self.dice.percent(70)),
-            97..=98 => Step::Pin(self.dice.percent(50)),
+            75..=93 => Step::Work(self.count(1)),
+            94..=98 => Step::Supply(self.dice.percent(70)),
             _ => Step::Reset,
         }
     }
 
     /// A step for a state that refuses all.
     fn step_of_any_kind(&mut self) -> Step {
-        match self.dice.below(8) {
+        match self.dice.below(6) {
             0 => Step::Read(self.address()),
             1 => Step::Write(self.address(), self.command()),
             2 => Step::Work(self.count(1)),
             3 => Step::Supply(false),
             4 => Step::Supply(true),
-            5 => Step::Pin(false),
-            6 => Step::Pin(true),
             _ => Step::Reset,
         }
     }
@@ -183,8 +176,16 @@ impl Author {
                 return step;
             }
         }
-        if let Some(step) = self.passing_step(device) {
-            return step;
+        match self.dice.below(100) {
+            0..=11 => return Step::Read(self.address()),
+            12..=13 => return Step::Read(self.register_place(device)),
+            14 => return Step::Supply(self.dice.percent(70)),
+            15..=16 => return Step::Work(self.count(lacking(device))),
+            // Not in a load, which few of them would leave standing.
+            17..=18 if device.setup.is_none_or(|setup| !setup.is_load()) => {
+                return Step::Write(self.address(), self.command());
+            }
+            _ => {}
         }
         match device.setup {
             Some(setup) if setup.is_load() => return self.load_cycle(device, setup),
@@ -201,37 +202,18 @@ impl Author {
         if device.running.is_some() && self.dice.percent(60) {
             return Step::Work(self.count(lacking(device)));
         }
-        if idle(device) && self.dice.percent(9) {
+        if idle(device) && self.dice.percent(7) {
             return self.begin_scene();
         }
         self.fitting_command(device)
     }
 
-    /// Now and then a step that does not depend on what is under way.
-    fn passing_step(&mut self, device: &Device) -> Option<Step> {
-        Some(match self.dice.below(100) {
-            0..=11 => Step::Read(self.address()),
-            12..=13 => Step::Read(self.register_place(device)),
-            14 => Step::Supply(self.dice.percent(70)),
-            15..=16 => Step::Work(self.count(lacking(device))),
-            // Not in a load, which few of them would leave standing.
-            17..=18 if device.setup.is_none_or(|setup| !setup.is_load()) => {
-                Step::Write(self.address(), self.command())
-            }
-            19 => Step::Pin(!device.pin),
-            20 => Step::Read(self.protection_place(device)),
-            _ => return None,
-        })
-    }
-
     /// Draws the steps of a scene, which come one after another; gives the first.
     fn begin_scene(&mut self) -> Step {
         self.scene.clear();
-        let locks = if self.part.is_m58lt() { 1 } else { 14 };
-        match self.dice.below(14 + locks) {
-            0..=7 => self.plan_supply_scene(),
-            8..=13 => self.plan_wear_scene(),
-            _ => self.plan_lock_scene(),
+        match self.dice.below(7) {
+            0..=3 => self.plan_supply_scene(),
+            _ => self.plan_wear_scene(),
         }
         Step::Supply(true)
     }
@@ -247,10 +229,12 @@ impl Author {
             if !device.supply && self.dice.percent(50) {
                 return Step::Supply(true);
             }
-            if self.some_favoured(|b| device.held(b)) && self.dice.percent(20) {
-                return Step::Pin(true);
-            }
-            if !self.some_favoured(|b| device.programmable(b)) && self.dice.percent(50) {
+            if !self
+                .favoured
+                .iter()
+                .any(|&b| device.unprotected[b as usize])
+                && self.dice.percent(50)
+            {
                 &[0x60]
             } else {
                 &IDLE_COMMANDS
@@ -268,29 +252,21 @@ impl Author {
         Step::Write(address, self.dressed(command))
     }
 
-    fn some_favoured(&self, is: impl Fn(u32) -> bool) -> bool {
-        self.favoured.iter().any(|&block| is(block))
-    }
-
-    /// An address, more often than not in a programmable block; or in one that is held
-    /// by the pin, or in the block of the suspended erase.
+    /// An address, more often than not in an unprotected block; or in the block
+    /// of the suspended erase.
     fn address_to_change(&mut self, device: &Device) -> u32 {
         let mut address = self.address();
-        let held = self.dice.percent(20);
         let favoured = self.favoured.iter().copied();
-        let wanted: Vec<u32> = favoured
-            .filter(|&b| match held {
-                true => device.held(b),
-                false => device.programmable(b),
-            })
+        let unprotected: Vec<u32> = favoured
+            .filter(|&b| device.unprotected[b as usize])
             .collect();
-        if !wanted.is_empty() && self.dice.percent(70) {
-            let block = self.dice.pick(&wanted);
+        if !unprotected.is_empty() && self.dice.percent(70) {
+            let block = self.dice.pick(&unprotected);
             address = self.address_in(block);
         }
         if let Some(erase) = device.suspended_erase {
             // A damaged state may name no block.
-            if erase.block < self.part.blocks() && self.dice.percent(15) {
+            if erase.block < BLOCKS as u32 && self.dice.percent(15) {
                 address = self.address_in(erase.block);
             }
         }
@@ -311,25 +287,14 @@ impl Author {
         let data = match setup {
             Setup::Program => self.data(),
             Setup::Erase if self.dice.percent(85) => self.dressed(0xD0),
-            Setup::Lock => self.lock_code(),
-            _ => self.command(),
-        };
-        Step::Write(address, data)
-    }
-
-    /// A code after 60h. 2Fh locks a block of the M58WT032KB down, and is wrong on
-    /// other parts.
-    fn lock_code(&mut self) -> u16 {
-        let down = if self.part.is_m58lt() { 3 } else { 20 };
-        match self.dice.below(100 + down) {
-            0..=59 => self.dressed(0xD0),
-            60..=83 => {
+            Setup::Lock if self.dice.percent(60) => self.dressed(0xD0),
+            Setup::Lock if self.dice.percent(60) => {
                 let command = self.dice.pick(&[0x01, 0x03]);
                 self.dressed(command)
             }
-            84..=99 => self.command(),
-            _ => self.dressed(0x2F),
-        }
+            _ => self.command(),
+        };
+        Step::Write(address, data)
     }
 
     /// An address for 03h, which stores its lower 16 bits but for the reserved ones:
@@ -348,40 +313,19 @@ impl Author {
         upper << 16 | u32::from(lower)
     }
 
-    /// The banks in signature mode.
-    fn signature_banks(&self, device: &Device) -> Vec<u32> {
-        let banks = (0..self.part.banks()).zip(&device.modes);
-        banks
-            .filter_map(|(bank, &mode)| (mode == Mode::Signature).then_some(bank))
-            .collect()
-    }
-
     /// Where a bank in signature mode shows the register; any address where no
     /// bank is in that mode.
     fn register_place(&mut self, device: &Device) -> u32 {
-        let banks = self.signature_banks(device);
+        let banks = (0..BANKS as u32).zip(&device.modes);
+        let banks: Vec<u32> = banks
+            .filter_map(|(bank, &mode)| (mode == Mode::Signature).then_some(bank))
+            .collect();
         if banks.is_empty() {
             return self.address();
         }
         let bank = self.dice.pick(&banks);
         let start = self.part.bank_start(bank).expect("a bank of the part");
         self.raised(start + 5)
-    }
-
-    /// Where a bank in signature mode shows the protection of a favoured block; of any
-    /// block where there is none.
-    fn protection_place(&mut self, device: &Device) -> u32 {
-        let banks = self.signature_banks(device);
-        let favoured = self.favoured.iter().copied();
-        let shown: Vec<u32> = favoured
-            .filter(|&block| banks.contains(&self.block(block).bank))
-            .collect();
-        let block = match shown.is_empty() {
-            true => self.usual_block(),
-            false => self.dice.pick(&shown),
-        };
-        let start = self.block(block).start;
-        self.raised(start + 2)
     }
 
     /// A word to program.
@@ -421,11 +365,11 @@ impl Author {
                 self.address_in(block)
             }
             75..=84 => {
-                let block = some_block(&mut self.dice, self.part);
+                let block = some_block(&mut self.dice);
                 self.address_in(block)
             }
             85..=88 => {
-                let bank = self.dice.below(u64::from(self.part.banks())) as u32;
+                let bank = self.dice.below(BANKS as u64) as u32;
                 let start = self.part.bank_start(bank).expect("a bank of the part");
                 let offset = self.dice.pick(&OFFSETS);
                 self.raised(start + offset)
@@ -463,7 +407,7 @@ impl Author {
 
     /// A count of work, with an eye on the units that are lacking.
     fn count(&mut self, lacking: u32) -> u32 {
-        let (unit, small) = (self.part.unit(), self.block(0).size);
+        let unit = self.part.unit();
         match self.dice.below(20) {
             0 => 0,
             1..=3 => 1,
@@ -472,7 +416,7 @@ impl Author {
             8..=9 => lacking,
             10 => lacking + 1,
             11 => lacking / 2,
-            12 => self.dice.pick(&[small, small - 1, unit - 1, unit]),
+            12 => self.dice.pick(&[unit / 4, unit / 4 - 1, unit - 1, unit]),
             13..=14 => 65_535,
             15..=17 => self.dice.below(u64::from(unit)) as u32,
             18 => self.dice.below(65_536) as u32,
@@ -483,21 +427,12 @@ impl Author {
     }
 }
 
-/// A block, often one at an edge.
-fn some_block(dice: &mut Dice, part: Part) -> u32 {
+/// A block, often one at an edge of the small blocks or of a bank.
+fn some_block(dice: &mut Dice) -> u32 {
     if dice.percent(50) {
-        dice.pick(edge_blocks(part))
+        dice.pick(&[0, 1, 2, 3, 4, 5, 18, 19, 34, 35, 63, 64, 255, 256, 257, 258])
     } else {
-        dice.below(u64::from(part.blocks())) as u32
-    }
-}
-
-/// Blocks at an edge of the small blocks, of a bank or, by their bits, of a state word.
-fn edge_blocks(part: Part) -> &'static [u32] {
-    if part.is_m58lt() {
-        &[0, 1, 2, 3, 4, 5, 18, 19, 34, 35, 63, 64, 255, 256, 257, 258]
-    } else {
-        &[0, 1, 6, 7, 8, 9, 14, 15, 22, 23, 56, 57, 63, 64, 69, 70]
+        dice.below(BLOCKS as u64) as u32
     }
 }
 

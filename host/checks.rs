@@ -1,16 +1,17 @@
 //! Checks that need no chance: power-up, states that are not well formed, each
 //! number of the state and each state word changed to many values, every
 //! configuration register, and memory of other counts. Those of the erase counts are
-//! in checks/counts.rs, the states that are not well formed in checks/malformed.rs.
+//! in checks/counts.rs.
 
 mod counts;
-mod malformed;
 
+use crate::author::states::CLAUSES;
+use crate::author::Author;
 use crate::library::{self, Asked, STATE_WORDS};
 use crate::pair::{Difference, Pair, Start};
 use crate::second::model::{
-    lookup, Block, Device, Erase, EraseCounts, Flags, Mode, Operation, Part, Program, Setup,
-    ADDRESSES, BLOCKS,
+    lookup, Device, Erase, EraseCounts, Flags, Mode, Operation, Part, Program, Setup, ADDRESSES,
+    BANKS, BLOCKS,
 };
 use crate::second::steps::Step;
 use crate::state::{self, Field, Words};
@@ -19,6 +20,10 @@ pub use counts::check_counts;
 use std::collections::BTreeSet;
 
 const UNTOUCHED: u64 = 0xDEAD_BEEF_DEAD_BEEF;
+
+/// States for each clause that the author breaks, on a full part, whose array
+/// takes long to compare, and on a bench part.
+const BROKEN: [u64; 2] = [3, 25];
 
 /// A check that failed: which one, and what is not equal.
 pub struct Failure {
@@ -48,53 +53,14 @@ fn same(check: &str, what: &str, expected: u64, got: u64) -> Checked {
     }
 }
 
-/// The blocks that the checks here name: two neighbours, whose bits lie in one state
-/// word or in two, and one far from them; and the last.
-struct Named {
-    low: u32,
-    high: u32,
-    far: u32,
-    last: u32,
-}
-
-fn named(part: Part) -> Named {
-    let last = part.blocks() - 1;
-    match part.is_m58lt() {
-        true => Named {
-            low: 99,
-            high: 100,
-            far: 200,
-            last,
-        },
-        false => Named {
-            low: 63,
-            high: 64,
-            far: 30,
-            last,
-        },
-    }
-}
-
-fn block(part: Part, number: u32) -> Block {
-    part.block(number).expect("a block of the part")
-}
-
-/// How many small blocks the part has.
-fn small_blocks(part: Part) -> u32 {
-    part.unit() / block(part, 0).size
-}
-
-/// Numbers of parts, and some that are none.
-const PARTS: [u32; 9] = [0, 1, 2, 3, 4, 5, 6, 1 << 31, u32::MAX];
-
 /// The lookup at the edges of all blocks, and refused.
 pub fn check_lookup() -> Result<u64, Failure> {
     let mut asked = 0;
-    for part in PARTS {
+    for part in [0, 1, 2, 3, 4, 5, 1 << 31, u32::MAX] {
         let layout = Part::from_number(part).unwrap_or(Part::FullBottom);
         let mut addresses = vec![ADDRESSES - 1, ADDRESSES, ADDRESSES + 1, 1 << 31, u32::MAX];
-        for number in 0..layout.blocks() {
-            let block = block(layout, number);
+        for block in 0..BLOCKS as u32 {
+            let block = layout.block(block).expect("a block of the part");
             addresses.extend([block.start, block.start + 1, block.start + block.size - 1]);
         }
         for address in addresses {
@@ -122,22 +88,14 @@ pub fn check_lookup() -> Result<u64, Failure> {
 pub fn check_block_starts() -> Result<u64, Failure> {
     let mut asked = 0;
     let past = [BLOCKS as u32 + 1, 512, 1 << 16, 1 << 31, u32::MAX];
-    for part in PARTS {
+    for part in [0, 1, 2, 3, 4, 5, 1 << 31, u32::MAX] {
         for block in (0..=BLOCKS as u32).chain(past) {
             let expected = match Part::from_number(part) {
                 None => 7 << 32,
-                Some(part) => part
-                    .block(block)
-                    .map_or(ADDRESSES, |block| block.start)
-                    .into(),
+                Some(part) => part.block(block).map_or(ADDRESSES, |block| block.start).into(),
             };
             let check = format!("start of block {block} of part {part}");
-            same(
-                &check,
-                "refusal and location",
-                expected,
-                library::block_start(part, block),
-            )?;
+            same(&check, "refusal and location", expected, library::block_start(part, block))?;
             asked += 1;
         }
     }
@@ -146,7 +104,7 @@ pub fn check_block_starts() -> Result<u64, Failure> {
 
 /// m58_power_up with good and bad parts and counts.
 pub fn check_power_up() -> Checked {
-    for part in PARTS {
+    for part in [0, 1, 2, 3, 4, 5, 255, 1 << 31, u32::MAX] {
         for count in [0, 1, STATE_WORDS - 1, STATE_WORDS, STATE_WORDS + 1, 64] {
             let check = format!("power-up of part {part} with {count} state words");
             // Room past the count shows a write outside.
@@ -155,7 +113,7 @@ pub fn check_power_up() -> Checked {
             let words = &mut state[8..8 + count];
             let given = library::power_up(part, words, &mut lent.main, &mut lent.small);
             let mut expected = [UNTOUCHED; 80];
-            let good = part < 5 && count == STATE_WORDS;
+            let good = part < 4 && count == STATE_WORDS;
             if good {
                 let words = state::encode(&Device::power_up(part));
                 expected[8..8 + count].copy_from_slice(&words);
@@ -180,7 +138,7 @@ pub fn check_power_up() -> Checked {
 pub fn check_null(pair: &mut Pair) -> Checked {
     let part = pair.part().number();
     let mut device = Device::power_up(part);
-    device.counts = counts::varied(pair.part())[1]();
+    device.counts = counts::numbered();
     let steps = [library::number(Step::Supply(true)); 2];
     let mut array = vec![0x1234; pair.part().array_length()];
     for missing in 0..16 {
@@ -242,7 +200,7 @@ fn reports_of_nothing(counts: &EraseCounts) -> Checked {
     same(check, "erases of block 4", 2 << 32, nothing.erase_count(4))
 }
 
-/// Steps of all six kinds, good and refused; tried on states.
+/// Steps of all five kinds, good and refused; tried on states.
 fn probes(part: Part) -> Vec<u64> {
     let last = part.array_length() as u32 - 1;
     let steps = [
@@ -258,11 +216,8 @@ fn probes(part: Part) -> Vec<u64> {
         Step::Write(part.unit(), 0x00D0),
         Step::Work(3),
         Step::Write(0, 0x00B0),
-        Step::Pin(true),
         Step::Supply(true),
         Step::Read(part.unit()),
-        Step::Read(part.unit() + 2),
-        Step::Pin(false),
         Step::Write(0, 0x0060),
         Step::Write(0, 0x00D0),
         Step::Reset,
@@ -270,8 +225,6 @@ fn probes(part: Part) -> Vec<u64> {
         // Where a lock set-up was refused with all else, 03h would be its second cycle.
         Step::Write(part.unit(), 0x0060),
         Step::Write(0xC035, 0x0003),
-        Step::Write(part.unit(), 0x0060),
-        Step::Write(part.unit(), 0x002F),
     ];
     steps.map(library::number).to_vec()
 }
@@ -343,7 +296,7 @@ fn probe_with(
 pub fn check_malformed(pair: &mut Pair) -> Result<usize, Failure> {
     let part = pair.part();
     let good = part.array_length();
-    let states = malformed::all(part);
+    let states = all_malformed(part);
     for (name, words, counts) in &states {
         let check = format!("{name}, on part {}", part.number());
         let fail = |difference| Failure {
@@ -377,16 +330,333 @@ pub fn check_malformed(pair: &mut Pair) -> Result<usize, Failure> {
     Ok(states.len())
 }
 
+/// Each with erase counts, which are refused with it or are why it is refused.
+fn all_malformed(part: Part) -> Vec<(String, Words, EraseCounts)> {
+    let mut states = Vec::new();
+    for (place, (name, words)) in malformed(part).into_iter().enumerate() {
+        let counts = counts::VARIED[place % counts::VARIED.len()];
+        states.push((name, words, counts()));
+    }
+    states.extend(broken_clauses(part));
+    states.extend(counts::malformed(part));
+    states
+}
+
+fn malformed(part: Part) -> Vec<(String, Words)> {
+    let size = |block: u32| part.block(block).expect("a block of the part").size;
+    let start = |block: u32| part.block(block).expect("a block of the part").start;
+    let words = part.array_length() as u32;
+    let program = Program::Word {
+        location: start(100) + 7,
+        data: 0x1234,
+    };
+    let erase = Erase {
+        block: 200,
+        done: 5,
+    };
+    let base = Device {
+        unprotected: [true; BLOCKS],
+        supply: true,
+        ..Device::power_up(part.number())
+    };
+    let mut states: Vec<(String, Words)> = Vec::new();
+    let mut device = |name: &str, change: &dyn Fn(&mut Device)| {
+        let mut device = base.clone();
+        change(&mut device);
+        states.push((name.to_string(), state::encode(&device)));
+    };
+    for setup in [Setup::Program, Setup::Erase, Setup::Lock] {
+        device(&format!("program runs with {setup:?} set-up"), &|d| {
+            d.running = Some(Operation::Program(program));
+            d.setup = Some(setup);
+        });
+        device(&format!("erase runs with {setup:?} set-up"), &|d| {
+            d.running = Some(Operation::Erase(erase));
+            d.setup = Some(setup);
+        });
+        device(&format!("program suspended with {setup:?} set-up"), &|d| {
+            d.suspended_program = Some(program);
+            d.setup = Some(setup);
+        });
+    }
+    device("program runs with a suspended program", &|d| {
+        d.running = Some(Operation::Program(program));
+        d.suspended_program = Some(Program::Word {
+            location: 3,
+            data: 0,
+        });
+    });
+    device("erase runs with a suspended program", &|d| {
+        d.running = Some(Operation::Erase(erase));
+        d.suspended_program = Some(program);
+    });
+    device("erase runs with a suspended erase", &|d| {
+        d.running = Some(Operation::Erase(erase));
+        d.suspended_erase = Some(Erase { block: 9, done: 0 });
+    });
+    device("erase set-up with a suspended erase", &|d| {
+        d.setup = Some(Setup::Erase);
+        d.suspended_erase = Some(erase);
+    });
+    for block in [0, 3, 4, 200, 258] {
+        for more in [0, 1, 1 << 20] {
+            let done = size(block) + more;
+            let erase = Erase { block, done };
+            device(&format!("erase of {block} runs, {done} done"), &|d| {
+                d.running = Some(Operation::Erase(erase));
+            });
+            device(&format!("erase of {block} suspended, {done} done"), &|d| {
+                d.suspended_erase = Some(erase);
+            });
+        }
+        for offset in [0, size(block) - 1] {
+            let program = Program::Word {
+                location: start(block) + offset,
+                data: 0,
+            };
+            let erase = Erase { block, done: 0 };
+            device(&format!("program runs in suspended erase {block}"), &|d| {
+                d.running = Some(Operation::Program(program));
+                d.suspended_erase = Some(erase);
+            });
+            device(&format!("program suspended in erase {block}"), &|d| {
+                d.suspended_program = Some(program);
+                d.suspended_erase = Some(erase);
+            });
+        }
+    }
+    for block in [259, 260, 320, 1 << 16, u32::MAX] {
+        let erase = Erase { block, done: 0 };
+        device(&format!("erase of block {block} runs"), &|d| {
+            d.running = Some(Operation::Erase(erase));
+        });
+        device(&format!("erase of block {block} suspended"), &|d| {
+            d.suspended_erase = Some(erase);
+        });
+    }
+    for location in [words, words + 1, words * 2, 1 << 31, u32::MAX] {
+        let program = Program::Word { location, data: 0 };
+        device(&format!("program at {location} runs"), &|d| {
+            d.running = Some(Operation::Program(program));
+        });
+        device(&format!("program at {location} suspended"), &|d| {
+            d.suspended_program = Some(program);
+        });
+    }
+
+    // Words of no device, where the part is still known.
+    let mut number = |name: &str, field: Field, value: u64| {
+        let mut words = state::encode(&base);
+        field.put(&mut words, value);
+        states.push((format!("{name}, {} is {value:X}h", place(field)), words));
+    };
+    for value in [4, 5, 8, 16, 128, 255] {
+        for bank in 0..16 {
+            number("mode", state::mode(bank), value);
+        }
+    }
+    let kind = |four| state::number(four, 0);
+    for value in [4, 5, 1 << 8, 1 << 16, 1 << 31, u64::from(u32::MAX)] {
+        number("running", kind(state::RUNNING), value);
+    }
+    // A load or buffer program of no words is one of a device, if not well formed.
+    for value in [5, 6, 7, 8, 1 << 8, 1 << 16, 1 << 31, u64::from(u32::MAX)] {
+        number("set-up", kind(state::SETUP), value);
+    }
+    number("running", kind(state::RUNNING), 3);
+    for value in [2, 3, 1 << 8, 1 << 31, u64::from(u32::MAX)] {
+        number("suspended program", kind(state::SUSPENDED_PROGRAM), value);
+        number("suspended erase", kind(state::SUSPENDED_ERASE), value);
+    }
+    for value in [2, 3, 4, 128, 255] {
+        for flag in 0..4 {
+            number("flag", state::flag(flag), value);
+        }
+    }
+    for value in [2, 3, 1 << 8, 1 << 15, 0xFFFF] {
+        number("supply", state::SUPPLY, value);
+    }
+    for value in [1, 4, 1 << 31, u64::from(u32::MAX)] {
+        for four in state::FOURS {
+            for place in 1..4 {
+                number("unused number", state::number(four, place), value);
+            }
+        }
+    }
+    for bit in 3..64 {
+        let value = 7 | 1 << bit;
+        number("spare protection bit", state::protection(4), value);
+    }
+
+    // Numbers too great for what they say, but right if they were cut short; and
+    // bits beside a number that takes all of its own.
+    let mut long = |name: &str, device: &Device, field: Field, bits: &[u32]| {
+        for bit in bits {
+            let mut words = state::encode(device);
+            words[field.word] |= 1 << (field.low + bit);
+            states.push((format!("{name}, {} with bit {bit}", place(field)), words));
+        }
+    };
+    // The flags lie below the configuration register, the supply above it.
+    long("configuration register", &base, state::flag(3), &[7]);
+    long("configuration register", &base, state::SUPPLY, &[1, 15]);
+    let mut both = base.clone();
+    both.running = Some(Operation::Program(program));
+    both.suspended_erase = Some(erase);
+    let mut suspended = base.clone();
+    suspended.suspended_program = Some(program);
+    let mut erasing = base.clone();
+    erasing.running = Some(Operation::Erase(erase));
+    for (name, device, four) in [
+        ("running program", &both, state::RUNNING),
+        ("suspended erase", &both, state::SUSPENDED_ERASE),
+        ("suspended program", &suspended, state::SUSPENDED_PROGRAM),
+        ("running erase", &erasing, state::RUNNING),
+    ] {
+        // The block or location lies above the kind, the count or data below
+        // what is not used.
+        long(name, device, state::number(four, 0), &[8, 31]);
+        long(name, device, state::number(four, 3), &[0, 31]);
+    }
+    for (name, device, four) in [
+        ("running program's data", &both, state::RUNNING),
+        (
+            "suspended program's data",
+            &suspended,
+            state::SUSPENDED_PROGRAM,
+        ),
+    ] {
+        long(name, device, state::number(four, 2), &[16, 31]);
+    }
+    states.extend(malformed_buffer_words(&base));
+    states.extend(malformed_registers(&base));
+    states.extend(malformed_supply(&base));
+    states
+}
+
+/// "In a well made state something runs only with supply on" (document 02, item 5):
+/// each kind of operation without it, also in an erase suspend, and each in a device
+/// that is else as after power-up.
+fn malformed_supply(base: &Device) -> Vec<(String, Words)> {
+    let fresh = Device::power_up(base.part.number());
+    let start = buffer_start(base.part);
+    let (words, done) = (2, 1);
+    let word = Program::Word {
+        location: start,
+        data: 0x1234,
+    };
+    let programs = [word, Program::Buffer { start, words, done }].map(Operation::Program);
+    let erase = Erase {
+        block: 200,
+        done: 5,
+    };
+    let mut states = Vec::new();
+    for (name, device) in [("power-up", &fresh), ("all unprotected", base)] {
+        let mut add = |running, suspended_erase| {
+            let device = Device {
+                running: Some(running),
+                suspended_erase,
+                supply: false,
+                ..device.clone()
+            };
+            let beside = suspended_erase.is_some();
+            let name = format!("{name}, {running:?} without supply, erase suspended: {beside}");
+            states.push((name, state::encode(&device)));
+        };
+        for running in programs {
+            add(running, None);
+            add(running, Some(erase));
+        }
+        add(Operation::Erase(erase), None);
+    }
+    states
+}
+
+/// "a well made state has them 0" (document 02, item 4): power-up, a device with
+/// supply and unprotected blocks, and one for which 03h would store a good
+/// register, with reserved bits set.
+fn malformed_registers(base: &Device) -> Vec<(String, Words)> {
+    let fresh = Device::power_up(base.part.number());
+    let mut lock = base.clone();
+    lock.setup = Some(Setup::Lock);
+    let mut states = Vec::new();
+    for (name, device) in [
+        ("power-up", &fresh),
+        ("all unprotected", base),
+        ("lock set-up", &lock),
+    ] {
+        for register in [
+            0x4000, 0x0020, 0x0010, 0x4020, 0x4010, 0x0030, 0x4030, 0xFFFF, 0xFFCF, 0xBFEF, 0xBFDF,
+        ] {
+            let mut words = state::encode(device);
+            state::CONFIGURATION.put(&mut words, register);
+            states.push((format!("{name}, register {register:04X}h"), words));
+        }
+    }
+    states
+}
+
+/// What the rule of well-formed states says of the write buffer, of the configuration
+/// register, of the supply and of the erase counts, broken clause by clause.
+fn broken_clauses(part: Part) -> Vec<(String, Words, EraseCounts)> {
+    let mut states = Vec::new();
+    let seeds = BROKEN[usize::from(part.unit() == 64)];
+    for (clause, name) in CLAUSES.iter().enumerate() {
+        for seed in 0..seeds {
+            let device = Author::new(part, seed).broken(clause);
+            let name = format!("{name}, seed {seed}");
+            states.push((name, state::encode(&device), device.counts));
+        }
+    }
+    states
+}
+
+/// Words of no device where there is a load or a buffer program: kinds too great,
+/// but right if they were cut short, and unused numbers that are not 0.
+fn malformed_buffer_words(base: &Device) -> Vec<(String, Words)> {
+    let mut states = Vec::new();
+    for (shape, device) in buffer_shapes(base).iter().enumerate() {
+        let original = state::encode(device);
+        let mut bits = |field: Field, bits: [u32; 2]| {
+            for bit in bits {
+                let mut words = original;
+                words[field.word] |= 1 << (field.low + bit);
+                let name = format!("buffer shape {shape}, {} with bit {bit}", place(field));
+                states.push((name, words));
+            }
+        };
+        for four in state::FOURS {
+            let kind = state::number(four, 0);
+            if kind.of(&original) != 0 {
+                bits(kind, [3, 31]);
+            }
+        }
+        let used = match device.setup {
+            Some(Setup::LoadCount { .. }) => 2,
+            Some(Setup::LoadFirst { .. }) => 3,
+            _ => 4,
+        };
+        for place in used..4 {
+            bits(state::number(state::SETUP, place), [0, 31]);
+        }
+    }
+    states
+}
+
+/// Where a number of the state stands, for messages.
+fn place(field: Field) -> String {
+    format!("word {} from bit {}", field.word, field.low)
+}
+
 /// Where the loads and buffer programs of `buffer_shapes` begin.
 fn buffer_start(part: Part) -> u32 {
-    block(part, named(part).high).start + 7
+    part.block(100).expect("a block of the part").start + 7
 }
 
 /// One of each shape of a load or buffer program, of two words; all else as in a
 /// device in which nothing is pending, running or suspended but an erase.
 fn buffer_shapes(base: &Device) -> Vec<Device> {
-    let (start, words) = (buffer_start(base.part), 2);
-    let block = named(base.part).high;
+    let (block, start, words) = (100, buffer_start(base.part), 2);
     let next = |due| Setup::LoadNext { start, words, due };
     let mut shapes = Vec::new();
     let first = Setup::LoadFirst { block, words };
@@ -413,13 +683,25 @@ fn buffer_shapes(base: &Device) -> Vec<Device> {
     shapes
 }
 
-/// A device with some of everything but for what is under way; of the M58WT032KB, with
-/// locked-down blocks, one of them unprotected.
-fn busy_device(part: Part) -> Device {
-    let Named {
-        low, high, last, ..
-    } = named(part);
+/// States to change words of: one of each shape that a device can have.
+fn shapes(part: Part) -> Vec<Device> {
+    let start = |block: u32| part.block(block).expect("a block of the part").start;
+    let program = Some(Program::Word {
+        location: start(100) + 7,
+        data: 0xF0F1,
+    });
+    let erase = Some(Erase {
+        block: 99,
+        done: 10,
+    });
+    let running_program = program.map(Operation::Program);
+    let running_erase = erase.map(Operation::Erase);
+    let mut unprotected = [false; BLOCKS];
+    for block in [0, 63, 64, 99, 100, 258] {
+        unprotected[block] = true;
+    }
     let mut busy = Device {
+        unprotected,
         supply: true,
         configuration: 0x1204,
         flags: Flags {
@@ -429,62 +711,12 @@ fn busy_device(part: Part) -> Device {
         },
         ..Device::power_up(part.number())
     };
-    for block in [0, 63, 64, low, high, last] {
-        busy.unprotected[block as usize] = true;
-    }
     busy.modes[3] = Mode::Status;
     busy.modes[6] = Mode::Signature;
-    busy.modes[part.banks() as usize - 1] = Mode::Query;
-    if !part.is_m58lt() {
-        for block in [1, 56, 57, high] {
-            busy.locked_down[block as usize] = true;
-        }
-    }
-    busy
-}
+    busy.modes[15] = Mode::Query;
 
-/// States to change words of: one of each shape that a device can have.
-fn shapes(part: Part) -> Vec<Device> {
-    let mut busy = busy_device(part);
     let mut shapes = vec![Device::power_up(part.number())];
-    shapes.extend(word_shapes(&busy));
-    if part.is_m58lt() {
-        shapes.extend(buffer_shapes(&busy));
-        busy.suspended_erase = Some(low_erase(part));
-        shapes.extend(buffer_shapes(&busy));
-    }
-    // The pin goes with every shape.
-    for device in shapes.iter_mut().step_by(2) {
-        device.pin = true;
-    }
-    // What is suspended or set up needs no supply.
-    let mut unsupplied = shapes.clone();
-    unsupplied.retain(|device| device.supply && device.running.is_none());
-    for device in &mut unsupplied {
-        device.supply = false;
-    }
-    shapes.extend(unsupplied);
-    shapes
-}
-
-fn low_erase(part: Part) -> Erase {
-    Erase {
-        block: named(part).low,
-        done: 10,
-    }
-}
-
-/// One of each shape that has no load and no buffer program.
-fn word_shapes(busy: &Device) -> Vec<Device> {
-    let part = busy.part;
-    let program = Some(Program::Word {
-        location: block(part, named(part).high).start + 7,
-        data: 0xF0F1,
-    });
-    let erase = Some(low_erase(part));
-    let running_program = program.map(Operation::Program);
-    let running_erase = erase.map(Operation::Erase);
-    let shapes = [
+    for (setup, running, suspended_program, suspended_erase) in [
         (None, None, None, None),
         (Some(Setup::Program), None, None, None),
         (Some(Setup::Erase), None, None, None),
@@ -497,17 +729,26 @@ fn word_shapes(busy: &Device) -> Vec<Device> {
         (None, None, program, erase),
         (Some(Setup::Program), None, None, erase),
         (Some(Setup::Lock), None, None, erase),
-    ];
-    let shapes = shapes.map(
-        |(setup, running, suspended_program, suspended_erase)| Device {
+    ] {
+        shapes.push(Device {
             setup,
             running,
             suspended_program,
             suspended_erase,
             ..busy.clone()
-        },
-    );
-    shapes.to_vec()
+        });
+    }
+    shapes.extend(buffer_shapes(&busy));
+    busy.suspended_erase = erase;
+    shapes.extend(buffer_shapes(&busy));
+    // What is suspended or set up needs no supply.
+    let mut unsupplied = shapes.clone();
+    unsupplied.retain(|device| device.supply && device.running.is_none());
+    for device in &mut unsupplied {
+        device.supply = false;
+    }
+    shapes.extend(unsupplied);
+    shapes
 }
 
 /// Every number of the state, and every word, changed alone to many values.
@@ -518,7 +759,7 @@ pub fn check_each_number(pair: &mut Pair) -> Result<u64, Failure> {
     let part = pair.part();
     let length = part.array_length();
     let whole = !pair.is_full();
-    let counts = counts::varied(part).map(|counts| counts());
+    let counts = counts::VARIED.map(|counts| counts());
     let mut changed = 0;
     for (shape, device) in shapes(part).into_iter().enumerate() {
         // Else every changed state would be refused.
@@ -559,7 +800,7 @@ pub fn check_registers(pair: &mut Pair) -> Result<u64, Failure> {
         difference,
     };
     let mut shown = Device::power_up(part.number());
-    shown.modes[..part.banks() as usize].fill(Mode::Signature);
+    shown.modes = [Mode::Signature; BANKS];
     for register in 0..=0xFFFF {
         shown.configuration = register;
         let reads = [library::number(Step::Read(5))];
@@ -621,19 +862,16 @@ fn changed_words(part: Part, original: &Words) -> BTreeSet<Words> {
 /// the lower bits.
 fn values(part: Part, old: u64) -> Vec<u64> {
     let words = part.array_length() as u64;
-    let (unit, small) = (u64::from(part.unit()), u64::from(block(part, 0).size));
-    let Named { low, last, .. } = named(part);
-    let Block { start, size, .. } = block(part, low);
-    let (start, size) = (u64::from(start), u64::from(size));
-    let (low, last) = (u64::from(low), u64::from(last));
+    let unit = u64::from(part.unit());
+    let block = part.block(99).expect("a block of the part");
+    let (start, size) = (u64::from(block.start), u64::from(block.size));
     let mut values: Vec<u64> = (0..64).map(|bit| old ^ 1 << bit).collect();
     values.extend(0..8);
     values.extend([old.wrapping_add(1), old.wrapping_sub(1), !old, u64::MAX]);
-    values.extend([small - 1, small, unit - 1, unit, 15, 16, 17]);
+    values.extend([unit / 4 - 1, unit / 4, unit - 1, unit, 15, 16, 17]);
     values.extend([31, 32, 33, 0xFFFF_0000, 0xFFFF << 32, 0xFFFF << 48]);
     values.extend([size - 1, size, start, start + size - 1, start + size]);
-    values.extend([low - 1, low, low + 1, last - 1, last, last + 1, 258, 259]);
-    values.extend([0xFFFF, 0x1_0000]);
+    values.extend([98, 99, 100, 257, 258, 259, 0xFFFF, 0x1_0000]);
     values.extend([words - 1, words, words + 1, 1 << 24, u64::from(u32::MAX)]);
     values
 }
@@ -653,7 +891,7 @@ pub fn check_state_counts(pair: &mut Pair) -> Checked {
     ] {
         let mut words = state::encode(&Device::power_up(part.number())).to_vec();
         words.resize(count, 0);
-        for counts in counts::varied(part) {
+        for counts in counts::VARIED {
             let given = (&words[..], &counts());
             probe(pair, given, part.array_length(), true).map_err(|difference| Failure {
                 check: format!("{count} state words, on part {}", part.number()),

@@ -29,20 +29,13 @@ use second::steps::Step;
 use std::process::ExitCode;
 use std::time::{Duration, Instant, SystemTime, UNIX_EPOCH};
 
-const PART_NAMES: [&str; 5] = [
-    "full bottom",
-    "full top",
-    "bench bottom",
-    "bench top",
-    "M58WT032KB",
-];
+const PART_NAMES: [&str; 4] = ["full bottom", "full top", "bench bottom", "bench top"];
 
 /// The lists of `quick`, for each part.
-const QUICK_LISTS: [u64; 5] = [80, 80, 8_000, 8_000, 1_500];
+const QUICK_LISTS: [u64; 4] = [80, 80, 8_000, 8_000];
 
-/// Lists on a bench part for each one on a full part and some on the M58WT032KB, in a soak.
+/// Lists on a bench part for each one on a full part, in a soak.
 const SOAK_BENCH_LISTS: u64 = 300;
-const SOAK_WT_LISTS: u64 = 15;
 
 const SOAK_SECONDS: u64 = 60;
 const PROGRESS: Duration = Duration::from_secs(5);
@@ -150,9 +143,6 @@ fn soak(seconds: u64, seed: u64) -> Result<String, String> {
         for bench in 0..SOAK_BENCH_LISTS {
             let seed = seed.wrapping_add(round * SOAK_BENCH_LISTS + bench);
             list(&mut pairs[2 + seed as usize % 2], seed)?;
-            if bench < SOAK_WT_LISTS {
-                list(&mut pairs[4], seed)?;
-            }
             if bench == 0 {
                 list(&mut pairs[round as usize % 2], seed)?;
             }
@@ -278,7 +268,6 @@ fn number_text(number: u64) -> String {
         Some(Step::Work(count)) => format!("K {count}"),
         Some(Step::Supply(on)) => format!("V {}", u8::from(on)),
         Some(Step::Reset) => "Z".to_string(),
-        Some(Step::Pin(high)) => format!("L {}", u8::from(high)),
         None => format!("no step: {number:016X}h"),
     }
 }

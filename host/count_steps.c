@@ -1,9 +1,8 @@
 /* Plays one kind of steps on the static library or on the plain C model, for host/count-instructions, which counts the instructions inside `measured`.
  *
- *     count_steps library|plain KIND list|call [wt]
+ *     count_steps library|plain KIND list|call
  *
- * list: all steps in one call; call: a call for each; wt: on an M58WT032KB, else on a full bottom part. Prints how many
- * steps were played, and fails where not all were. */
+ * list: all steps in one call; call: a call for each. Prints how many steps were played, and fails where not all were. */
 #include <stdio.h>
 #include <stdlib.h>
 #include <string.h>
@@ -11,10 +10,7 @@
 #include "m58.h"
 #include "plain/plain.h"
 
-enum { ROUNDS = 500, ROOM = 40 * ROUNDS, LOAD = 32 };
-
-/* The part, its words, its first main block, as many words as each main block has, and how many of these are used. */
-static uint32_t part = M58_FULL_BOTTOM, words = M58_FULL_WORDS, first = 0x010000, blocks = 200;
+enum { ROUNDS = 500, ROOM = 40 * ROUNDS, FIRST = 0x010000, LOAD = 32 };
 
 static uint64_t steps[ROOM], answers[ROOM];
 static size_t count;
@@ -26,8 +22,8 @@ static int with_plain;
 
 static size_t play(size_t at, size_t n) {
     if (with_plain)
-        return plain_run(&plain, steps + at, n, answers + at, array, words);
-    return m58_run(state, M58_STATE_WORDS, counts.main, counts.small, steps + at, n, answers + at, n, array, words);
+        return plain_run(&plain, steps + at, n, answers + at, array, M58_FULL_WORDS);
+    return m58_run(state, M58_STATE_WORDS, counts.main, counts.small, steps + at, n, answers + at, n, array, M58_FULL_WORDS);
 }
 
 /* Not inlined, so that the counter finds its name. */
@@ -67,15 +63,13 @@ static void load(uint32_t address) {
 /* Steps that lead to the kind, played before it is measured. */
 static void prepare(const char *kind) {
     put(M58_SUPPLY(1));
-    write_to(first, 0x60);
-    write_to(first, 0xD0);
-    write_to(first, !strcmp(kind, "status") ? 0x70 : !strcmp(kind, "shown") ? 0x90 : 0xFF);
+    write_to(FIRST, 0x60);
+    write_to(FIRST, 0xD0);
+    write_to(FIRST, strcmp(kind, "status") ? 0xFF : 0x70);
     if (!strcmp(kind, "erase")) {
-        write_to(first, 0x20);
-        write_to(first, 0xD0);
+        write_to(FIRST, 0x20);
+        write_to(FIRST, 0xD0);
     }
-    if (!strcmp(kind, "down"))
-        put(M58_PIN(1));
     if (play(0, count) != count)
         exit(1);
     count = 0;
@@ -84,23 +78,17 @@ static void prepare(const char *kind) {
 static int put_kind(const char *kind, uint32_t i) {
     static const uint16_t modes[] = {0x70, 0x90, 0x98, 0xFF};
     if (!strcmp(kind, "array") || !strcmp(kind, "status"))
-        put(M58_READ(first + i));
-    else if (!strcmp(kind, "shown"))
-        put(M58_READ(first + 2));
+        put(M58_READ(FIRST + i));
     else if (!strcmp(kind, "mode"))
-        write_to(first + i, modes[i % 4]);
+        write_to(FIRST + i, modes[i % 4]);
     else if (!strcmp(kind, "program"))
-        program(first + i);
+        program(FIRST + i);
     else if (!strcmp(kind, "protect"))
-        protect(first * (1 + i % blocks), i % 2 ? 0xD0 : 0x01);
-    else if (!strcmp(kind, "down"))
-        protect(first * (1 + i % blocks), i % 2 ? 0xD0 : 0x2F);
+        protect(FIRST * (1 + i % 200), i % 2 ? 0xD0 : 0x01);
     else if (!strcmp(kind, "load"))
-        load(first + LOAD * i);
+        load(FIRST + LOAD * i);
     else if (!strcmp(kind, "supply"))
         put(M58_SUPPLY(1));
-    else if (!strcmp(kind, "pin"))
-        put(M58_PIN(i % 2));
     else if (!strcmp(kind, "erase"))
         put(M58_WORK(1));
     else
@@ -109,16 +97,14 @@ static int put_kind(const char *kind, uint32_t i) {
 }
 
 int main(int argc, char **argv) {
-    if (argc != 4 && (argc != 5 || strcmp(argv[4], "wt")))
+    if (argc != 4)
         return 2;
-    if (argc == 5)
-        part = M58_WT032KB, words = M58_WT_WORDS, first = 0x008000, blocks = 60;
     with_plain = !strcmp(argv[1], "plain");
-    array = malloc(words * sizeof *array);
-    if (!array || !m58_power_up(part, state, M58_STATE_WORDS, counts.main, counts.small))
+    array = malloc(M58_FULL_WORDS * sizeof *array);
+    if (!array || !m58_power_up(M58_FULL_BOTTOM, state, M58_STATE_WORDS, counts.main, counts.small))
         return 1;
-    memset(array, 0xFF, words * sizeof *array);
-    plain_power_up(&plain, part);
+    memset(array, 0xFF, M58_FULL_WORDS * sizeof *array);
+    plain_power_up(&plain, M58_FULL_BOTTOM);
     prepare(argv[2]);
     for (uint32_t i = 0; i < ROUNDS; i++)
         if (!put_kind(argv[2], i))

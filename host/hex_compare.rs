@@ -44,10 +44,10 @@ const SEED: u64 = 20_081_103;
 /// Arrays of a bench part that are written out, for each of the two.
 const WRITTEN: usize = 150;
 
-/// Lists on a full part or on the M58WT032KB between two comparisons of its whole array.
+/// Lists on a full part between two comparisons of its whole array.
 const WHOLE: usize = 8;
 
-/// Of the texts on such a part, one in so many has the whole array compared.
+/// Of the texts on a full part, one in so many has the whole array compared.
 const WHOLE_TEXTS: usize = 150;
 
 /// A kind of damage has to be given the one answer that is due to it in one list
@@ -99,12 +99,12 @@ fn compare(lists: u64, seed: u64) -> Result<String, String> {
     let mut random = Random::new(seed);
     fixed_texts(&mut pairs, &mut random, &mut tally)?;
     writing::check_calls(&mut tally)?;
-    for pair in pairs.iter_mut().filter(|pair| pair.is_bench()) {
+    for pair in &mut pairs[2..] {
         writing::check_bench(pair, &mut random, WRITTEN)?;
     }
     play(&mut pairs, lists, seed)?;
-    for (number, part) in [(0, 0), (1, 1), (2, 0), (0, 4), (1, 4), (2, 4)] {
-        writing::check_long(&mut pairs[part], &mut random, number)?;
+    for (number, part) in [(0, 0), (1, 1), (2, 0)] {
+        writing::check_full(&mut pairs[part], &mut random, number)?;
     }
     for (pair, name) in pairs.into_iter().zip(PART_NAMES) {
         println!("{name}: {}", pair.tally.summary());
@@ -124,7 +124,11 @@ fn compare(lists: u64, seed: u64) -> Result<String, String> {
     ))
 }
 
-fn fixed_texts(pairs: &mut [Pair], random: &mut Random, tally: &mut Tally) -> Result<(), String> {
+fn fixed_texts(
+    pairs: &mut [Pair; 4],
+    random: &mut Random,
+    tally: &mut Tally,
+) -> Result<(), String> {
     for pair in pairs.iter_mut() {
         pair.begin(random);
         fixed::check(pair)?;
@@ -137,16 +141,16 @@ fn fixed_texts(pairs: &mut [Pair], random: &mut Random, tally: &mut Tally) -> Re
 
 /// The part of a list: most are on a bench part.
 fn part(seed: u64) -> usize {
-    [2, 3, 4, 2, 3, 0, 2, 3, 4, 1][seed as usize % 10]
+    [2, 3, 2, 3, 2, 3, 0, 1][seed as usize % 8]
 }
 
-fn play(pairs: &mut [Pair], lists: u64, seed: u64) -> Result<(), String> {
-    // Seeds on a part with a long array since the whole of it was last compared.
-    let mut since: [Vec<u64>; 5] = Default::default();
+fn play(pairs: &mut [Pair; 4], lists: u64, seed: u64) -> Result<(), String> {
+    // Seeds on a full part since its whole array was last compared.
+    let mut since: [Vec<u64>; 2] = Default::default();
     for seed in (0..lists).map(|place| seed.wrapping_add(place)) {
         let part = part(seed);
         let pair = &mut pairs[part];
-        if pair.is_bench() {
+        if part >= 2 {
             pair.begin(&mut Random::new(!seed));
             list(pair, seed, WHOLE_TEXTS)?;
             continue;
@@ -162,13 +166,16 @@ fn play(pairs: &mut [Pair], lists: u64, seed: u64) -> Result<(), String> {
             since.clear();
         }
     }
-    pairs.iter_mut().zip(since).try_for_each(|(pair, since)| {
-        let restored = pair.all_restored();
-        restored.map_err(|found| located(pair, &since, found))
-    })
+    pairs[..2]
+        .iter_mut()
+        .zip(since)
+        .try_for_each(|(pair, since)| {
+            let restored = pair.all_restored();
+            restored.map_err(|found| located(pair, &since, found))
+        })
 }
 
-/// After a difference on a part with a long array: plays the lists since its whole array was
+/// After a difference on a full part: plays the lists since its whole array was
 /// last compared again, with the whole array after each text, to find the first
 /// text at which it shows.
 fn located(pair: &mut Pair, seeds: &[u64], found: String) -> String {
@@ -200,7 +207,7 @@ fn list(pair: &mut Pair, seed: u64, whole: usize) -> Result<(), String> {
     if random.one_in(40) {
         every_cut(pair, &good.text()).map_err(in_list)?;
     }
-    if pair.is_bench() && random.one_in(12) {
+    if part(seed) >= 2 && random.one_in(12) {
         covering(pair, random).map_err(in_list)?;
     }
     Ok(())

@@ -1,21 +1,19 @@
 //! What the lists reach of the write buffer, of the configuration register, of supply
-//! drops, of the erase counts, of lock-down and the pin, and of the status word: each kind of
-//! step and of state, each block whose erase is finished and each status word that is read, is
-//! counted, by the second model's device before and after the step.
+//! drops, of the erase counts and of the status word: each kind of step and of state, each
+//! block whose erase is finished and each status word that is read, is counted, by the second
+//! model's device before and after the step.
 
 mod drops;
-mod locks;
 mod wear;
 
 use crate::author::states::CLAUSES;
 use crate::second::model::{
-    without_reserved_bits, Answer, Device, Erase, EraseCounts, Flags, Mode, Operation, Part,
-    Program, Setup, BLOCKS, DEFAULT_CONFIGURATION, RESERVED_BITS,
+    without_reserved_bits, Answer, Device, Erase, EraseCounts, Flags, Mode, Operation, Program,
+    Setup, BLOCKS, DEFAULT_CONFIGURATION, RESERVED_BITS,
 };
 use crate::second::steps::Step;
 use drops::Drops;
-pub use locks::note_words;
-use locks::Locks;
+pub use wear::note_reports;
 use wear::Wear;
 
 /// The kinds, each with its text.
@@ -179,7 +177,6 @@ kinds! {
     RefusedOff, "supply off refused, something running without supply";
     RefusedOn, "supply on refused, something running without supply";
     RefusedReset, "reset refused, something running without supply";
-    RefusedPin, "pin refused, something running without supply";
 
     GivenOffProgram, "state without supply, program suspended";
     GivenOffBuffer, "state without supply, buffer program suspended";
@@ -227,7 +224,6 @@ kinds! {
     SharedOff, "supply off refused, shared place not 0";
     SharedOn, "supply on refused, shared place not 0";
     SharedReset, "reset refused, shared place not 0";
-    SharedPin, "pin refused, shared place not 0";
     SharedReports, "the three reports refused, shared place not 0";
     SharedArray, "step refused 1, shared place not 0 too";
 
@@ -235,78 +231,14 @@ kinds! {
     GivenLimit, "state with the running erase's count at 65,534 or 65,535";
     GivenNoDevice, "words of no device with erase counts not all 0";
     GivenNoDeviceShared, "words of no device, shared place not 0";
-
-    LockedDown, "2Fh taken on M58WT032KB";
-    LockedDownHigh, "2Fh taken with the pin high";
-    LockedDownAgain, "2Fh taken of a locked-down block";
-    LockedDownOpen, "2Fh taken with the pin low of a locked-down block whose lock bit is 0";
-    LockedDownErase, "2Fh taken of the block whose erase is suspended";
-    WrongDown, "2Fh wrong on M58LT";
-    WrongDownHigh, "2Fh wrong on M58LT with the pin high";
-    HeldShut, "01h held by a low pin on a locked-down block";
-    HeldShutOpen, "01h held by a low pin on a locked-down block whose lock bit is 0";
-    HeldOpen, "D0h held by a low pin on a locked-down block";
-    FreeShut, "01h sets the lock bit of a locked-down block, pin high";
-    FreeOpen, "D0h clears the lock bit of a locked-down block, pin high";
-
-    PinOpens, "pin raised, a block programmable without a command";
-    PinShuts, "pin lowered, a block no longer programmable";
-    PinSame, "pin step to the level that it has";
-    PinLt, "pin raised or lowered on M58LT";
-    PinSetUp, "pin raised or lowered in a set-up of two cycles";
-    PinLoad, "pin raised or lowered in a load";
-    LowProgram, "pin lowered, program running in the block that it holds";
-    LowErase, "pin lowered, erase running in the block that it holds";
-    LowSuspendedProgram, "pin lowered, program suspended in the block that it holds";
-    LowSuspendedErase, "pin lowered, erase suspended in the block that it holds";
-    HeldProgramFinished, "program finished in a block that the pin holds by then";
-    HeldEraseFinished, "erase finished of a block that the pin holds by then";
-
-    RefusedProgramHeld, "program refused, the pin holds the block, lock bit 0";
-    RefusedProgramDown, "program refused, block locked down, lock bit 1";
-    RefusedEraseHeld, "erase refused, the pin holds the block, lock bit 0";
-    RefusedEraseDown, "erase refused, block locked down, lock bit 1";
-    RunsProgramDown, "program accepted in a locked-down block, pin high";
-    RunsEraseDown, "erase accepted of a locked-down block, pin high";
-
-    Shown0001, "0001h read at block offset 2, M58WT032KB";
-    Shown0000, "0000h read at block offset 2, M58WT032KB";
-    Shown0003, "0003h read at block offset 2, pin high";
-    Shown0003Low, "0003h read at block offset 2, pin low, lock bit 1";
-    Shown0003Open, "0003h read at block offset 2, pin low, lock bit 0";
-    Shown0002, "0002h read at block offset 2";
-    ShownLtHigh, "block offset 2 read on M58LT with the pin high";
-
-    ResetDown, "reset with a block locked down";
-    ResetHigh, "reset with the pin high, M58WT032KB";
-    ResetLtHigh, "reset with the pin high, M58LT";
-    ResetDownHigh, "reset with a block locked down and the pin high";
-    WtIgnored, "E8h ignored on M58WT032KB, where 40h is taken";
-    WtIgnoredBusy, "E8h ignored on M58WT032KB, something running or a program suspended";
-    WtFinishedSmall, "erase finished on M58WT032KB and not counted, small block";
-    WtFinishedMain, "erase finished on M58WT032KB and not counted, main block";
-    ReportNone, "report of no programmable block, M58WT032KB";
-    ReportSome, "report of some programmable blocks, M58WT032KB";
-    ReportHeld, "report with an unprotected block that the pin holds";
-
-    ReportAll, "report of all blocks programmable, M58WT032KB";
-    GivenDown, "state with a locked-down block";
-    GivenHeld, "state with an unprotected block that the pin holds";
-    GivenHigh, "state with the pin high, M58WT032KB";
-    GivenLtHigh, "state with the pin high, M58LT";
-    GivenSpareBit, "words with a protection bit that is no block's, M58LT";
-    GivenWtSpareBit, "words with a protection bit that is no block's, M58WT032KB";
-    GivenPinByte, "words whose pin is neither 0 nor 1";
 }
 
 /// How often the lists of `quick` have to reach each kind, at the least: those of
-/// the register, of the supply, of the erase counts and of lock-down come last, and a list
-/// has one state to begin with.
+/// the register, of the supply and of the erase counts come last, and a list has one state
+/// to begin with.
 fn least(kind: usize) -> u64 {
-    let within = |first: Kind, last: Kind| (first as usize..=last as usize).contains(&kind);
-    let given = within(Kind::GivenOffProgram, Kind::GivenOffLoad)
-        || within(Kind::SharedRead, Kind::GivenNoDeviceShared)
-        || within(Kind::ReportAll, Kind::GivenPinByte);
+    let given = (Kind::GivenOffProgram as usize..=Kind::GivenOffLoad as usize).contains(&kind)
+        || kind >= Kind::SharedRead as usize;
     if kind < Kind::Stored14 as usize {
         1
     } else if given {
@@ -323,8 +255,6 @@ pub struct Reached {
     kinds: [u64; NAMES.len()],
     clauses: [u64; CLAUSES.len()],
     finished: [u64; BLOCKS],
-    /// The same of the M58WT032KB.
-    finished_wt: [u64; BLOCKS],
     status: [u64; 256],
 }
 
@@ -344,7 +274,6 @@ impl Default for Reached {
             kinds: [0; NAMES.len()],
             clauses: [0; CLAUSES.len()],
             finished: [0; BLOCKS],
-            finished_wt: [0; BLOCKS],
             status: [0; 256],
         }
     }
@@ -373,9 +302,6 @@ impl Reached {
         for (all, more) in self.finished.iter_mut().zip(other.finished) {
             *all += more;
         }
-        for (all, more) in self.finished_wt.iter_mut().zip(other.finished_wt) {
-            *all += more;
-        }
         for (all, more) in self.status.iter_mut().zip(other.status) {
             *all += more;
         }
@@ -390,10 +316,6 @@ impl Reached {
         kinds
             .map(|(kind, (&count, name))| (count, least(kind), name.to_string()))
             .chain(wear::named(&self.finished))
-            .chain([locks::named(
-                &self.finished_wt,
-                Part::Wt032kb.blocks() as usize,
-            )])
             .chain(clauses.map(|(&count, name)| (count, 1, format!("malformed state: {name}"))))
             .chain(bits.map(|(bit, value)| {
                 let name = format!("status word read with SR{bit} = {value}");
@@ -450,7 +372,6 @@ pub struct Glance {
     flags: Flags,
     configuration: u16,
     supply: bool,
-    locks: Locks,
     /// The count of the block whose erase runs.
     erases: u16,
 }
@@ -465,7 +386,6 @@ impl Glance {
             flags: device.flags,
             configuration: device.configuration,
             supply: device.supply,
-            locks: Locks::at(device),
             erases: match device.running {
                 Some(Operation::Erase(erase)) => device.counts.of(erase.block),
                 _ => 0,
@@ -537,7 +457,6 @@ impl Watch {
         self.register_step(reached, before, step, after);
         self.drops.step(reached, before, step, after);
         self.wear.step(reached, before, step, after);
-        locks::note(reached, before, step, answer, after);
         match (step, before.load()) {
             (Step::Write(address, data), Some(load)) => {
                 let cycle = Cycle::new(after, address, data);
@@ -552,7 +471,6 @@ impl Watch {
             (Step::Read(_), Some(_)) => reached.add(Kind::LoadRead),
             (Step::Read(address), None) => note_read(reached, before, address, after),
             (Step::Supply(_), load) => reached.add_if(load.is_some(), Kind::LoadSupply),
-            (Step::Pin(_), _) => {}
             (Step::Reset, load) => note_reset(reached, before, load),
         }
     }
@@ -816,12 +734,6 @@ fn note_reset(reached: &mut Reached, before: &Glance, load: Option<Setup>) {
     }
 }
 
-/// Counts the reports that are made after a call.
-pub fn note_reports(reached: &mut Reached, device: &Device) {
-    wear::note_reports(reached, device);
-    locks::note_report(reached, device);
-}
-
 /// Counts what a list begins with; no device where the state words are of none.
 pub fn note_state(reached: &mut Reached, device: Option<&Device>, counts: &EraseCounts) {
     wear::note_state(reached, device, counts);
@@ -829,7 +741,6 @@ pub fn note_state(reached: &mut Reached, device: Option<&Device>, counts: &Erase
         return;
     };
     drops::note_state(reached, device);
-    locks::note_state(reached, device);
     let changed = device.configuration != DEFAULT_CONFIGURATION;
     reached.add_if(changed, Kind::GivenRegister);
     let erased = device.suspended_erase.map(|erase| erase.block);

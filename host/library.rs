@@ -211,7 +211,6 @@ pub fn number(step: Step) -> u64 {
         Step::Work(count) => 2 << 48 | u64::from(count),
         Step::Supply(on) => 3 << 48 | u64::from(on),
         Step::Reset => 4 << 48,
-        Step::Pin(high) => 5 << 48 | u64::from(high),
     }
 }
 
@@ -226,8 +225,6 @@ pub fn step(number: u64) -> Option<Step> {
         (3, 0, 0) => Some(Step::Supply(false)),
         (3, 0, 1) => Some(Step::Supply(true)),
         (4, 0, 0) => Some(Step::Reset),
-        (5, 0, 0) => Some(Step::Pin(false)),
-        (5, 0, 1) => Some(Step::Pin(true)),
         _ => None,
     }
 }
@@ -242,7 +239,7 @@ pub fn refused(refusal: u8) -> u64 {
     u64::from(refusal) << 32
 }
 
-/// The number of a report of programmable blocks.
+/// The number of a report of unprotected blocks.
 pub fn unprotected_report(report: UnprotectedReport) -> u64 {
     refused(report.refusal) | u64::from(report.count) << 16 | u64::from(report.lowest)
 }

@@ -27,16 +27,10 @@ struct answer {
 };
 
 static const char *const part_name[M58_PARTS] = {
-    "full bottom", "full top", "bench bottom", "bench top", "M58WT032KB"
+    "full bottom", "full top", "bench bottom", "bench top"
 };
 static const uint32_t part_words[M58_PARTS] = {
-    M58_FULL_WORDS, M58_FULL_WORDS, M58_BENCH_WORDS, M58_BENCH_WORDS, M58_WT_WORDS
-};
-static const uint32_t part_blocks[M58_PARTS] = {
-    M58_BLOCKS, M58_BLOCKS, M58_BLOCKS, M58_BLOCKS, M58_WT_BLOCKS
-};
-static const uint32_t part_banks[M58_PARTS] = {
-    M58_BANKS, M58_BANKS, M58_BANKS, M58_BANKS, M58_WT_BANKS
+    M58_FULL_WORDS, M58_FULL_WORDS, M58_BENCH_WORDS, M58_BENCH_WORDS
 };
 
 static struct row map[M58_PARTS][M58_BLOCKS];
@@ -85,7 +79,7 @@ static void read_map(void)
     for (uint32_t part = 0; part < M58_PARTS; part++) {
         unsigned char seen[M58_BLOCKS] = {0};
         uint32_t next = 0;
-        for (uint32_t i = 0; i < part_blocks[part]; i++) {
+        for (uint32_t i = 0; i < M58_BLOCKS; i++) {
             struct row *r = &map[part][i];
             const char *text = line;
             uint32_t p;
@@ -95,8 +89,8 @@ static void read_map(void)
             if (!take(&text, 10, M58_PARTS, ' ', &p)
                 || !take(&text, 16, M58_ADDRESS_LIMIT, ' ', &r->first)
                 || !take(&text, 16, M58_ADDRESS_LIMIT, ' ', &r->last)
-                || !take(&text, 10, part_blocks[part], ' ', &r->block)
-                || !take(&text, 10, part_banks[part], '\n', &r->bank)
+                || !take(&text, 10, M58_BLOCKS, ' ', &r->block)
+                || !take(&text, 10, M58_BANKS, '\n', &r->bank)
                 || *text != '\0')
                 bad_map(number, "not a row: part first last block bank");
             if (p != part)
@@ -121,7 +115,7 @@ static void read_map(void)
 
 static void expand(uint32_t part)
 {
-    for (uint32_t i = 0; i < part_blocks[part]; i++) {
+    for (uint32_t i = 0; i < M58_BLOCKS; i++) {
         const struct row *r = &map[part][i];
         for (uint32_t at = r->first; at <= r->last; at++) {
             block_at[at] = (uint16_t)r->block;
@@ -177,35 +171,31 @@ static void compare_start(uint32_t part, uint32_t block, uint32_t refusal, uint3
 static uint64_t compare_starts(uint32_t part)
 {
     enum { COLUMNS = 8 };
-    const uint32_t blocks = part_blocks[part];
     printf("%s, block starts:\n", part_name[part]);
-    for (uint32_t block = 0; block < blocks; block++) {
+    for (uint32_t block = 0; block < M58_BLOCKS; block++) {
         if (block % COLUMNS == 0)
             printf("  %3" PRIu32 ":", block);
         printf(" %06" PRIX32, M58_START_LOCATION(m58_block_start(part, block)));
-        if (block % COLUMNS == COLUMNS - 1 || block == blocks - 1)
+        if (block % COLUMNS == COLUMNS - 1 || block == M58_BLOCKS - 1)
             putchar('\n');
     }
-    for (uint32_t i = 0; i < blocks; i++)
+    for (uint32_t i = 0; i < M58_BLOCKS; i++)
         compare_start(part, map[part][i].block, M58_REFUSED_NOTHING, map[part][i].first);
-    return blocks;
+    return M58_BLOCKS;
 }
 
 static uint64_t compare_no_starts(void)
 {
-    static const uint32_t no_part[] = { 5, 6, 255, 2147483648u, 4294967295u };
+    static const uint32_t no_part[] = { 4, 5, 255, 2147483648u, 4294967295u };
     static const uint32_t no_block[] = { 259, 260, 511, 512, 65536, 2147483648u, 4294967295u };
     enum {
         NO_PART = sizeof no_part / sizeof no_part[0],
         NO_BLOCK = sizeof no_block / sizeof no_block[0]
     };
     uint64_t asked = 0;
-    for (uint32_t part = 0; part < M58_PARTS; part++) {
-        for (uint32_t block = part_blocks[part]; block < M58_BLOCKS; block++, asked++)
-            compare_start(part, block, M58_REFUSED_NOTHING, M58_NO_START);
+    for (uint32_t part = 0; part < M58_PARTS; part++)
         for (int i = 0; i < NO_BLOCK; i++, asked++)
             compare_start(part, no_block[i], M58_REFUSED_NOTHING, M58_NO_START);
-    }
     for (int p = 0; p < NO_PART; p++) {
         for (uint32_t block = 0; block < M58_BLOCKS; block++, asked++)
             compare_start(no_part[p], block, M58_REFUSED_PART, 0);
@@ -233,7 +223,7 @@ static uint64_t compare_part(uint32_t part)
         compare(part, address, expected);
         seen[expected.block] = 1;
         compared++;
-        /* A bench part and the M58WT032KB begin again at their end; a full part just ends. */
+        /* A bench part begins again at its end; a full part just ends. */
         if (++location == words)
             location = 0;
     }
@@ -256,10 +246,10 @@ static uint32_t next_random(void)
 
 static uint64_t compare_refused(void)
 {
-    static const uint32_t bad_parts[] = { 5, 6, 255, 2147483648u, 4294967295u };
+    static const uint32_t bad_parts[] = { 4, 5, 255, 2147483648u, 4294967295u };
     static const uint32_t bad_edges[] = { 16777216, 16777217, 2147483648u, 4294967295u };
     static const uint32_t good_edges[] = {
-        0, 1, 16383, 16384, 65535, 65536, 1048576, 2097151, 2097152, 16777215
+        0, 1, 16383, 16384, 65535, 65536, 1048576, 16777215
     };
     enum {
         PARTS = sizeof bad_parts / sizeof bad_parts[0],

@@ -1,7 +1,7 @@
 /*
- * The flash model of the M58LT256K and the M58WT032KB, for C programs: the lookup
- * of blocks and banks, the table of block starts, lists of steps played on a part,
- * counts of its erases, and arrays read from Intel HEX text and written to it.
+ * The M58LT256K flash model, for C programs: the lookup of blocks and
+ * banks, the table of block starts, lists of steps played on a part, counts of its
+ * erases, and arrays read from Intel HEX text and written to it.
  *
  * THE LOOKUP is three pure functions on plain numbers. Any uint32_t may be passed for
  * either argument. They keep no state, touch no memory of the caller and
@@ -10,18 +10,18 @@
  *   part     which part is asked about, one of the M58_ parts below
  *   address  a word address, good when below M58_ADDRESS_LIMIT
  *
- * A bench part has M58_BENCH_WORDS words, the M58WT032KB M58_WT_WORDS. Both
- * ignore the upper address lines: the address is reduced modulo that length
- * first. A full part has M58_FULL_WORDS words, so no good address is reduced.
+ * A bench part has M58_BENCH_WORDS words and ignores the upper address
+ * lines: the address is reduced modulo that length first. A full part has
+ * M58_FULL_WORDS words, so no good address is reduced.
  *
  * Ask for the refusal first. When it is M58_REFUSED_NOTHING, the block is
- * 0 to 258 and the bank 0 to 15, on the M58WT032KB 0 to 70 and 0 to 7. Beside
- * any refusal both are 0, which by itself cannot be told from block 0 or bank 0.
+ * 0 to 258 and the bank 0 to 15. Beside any refusal both are 0, which by
+ * itself cannot be told from block 0 or bank 0.
  *
  * THE TABLE OF BLOCK STARTS is one more such function, of a part and a block. The lookup
- * goes through the same table, by halving, but for the M58WT032KB. On a bottom part, as
- * that is one, the block of a location (the address, reduced as above) is the last one that
- * does not start above it, on a top part the first.
+ * goes through the same table, by halving. On a bottom part the block of a location (the
+ * address, reduced as above) is the last one that does not start above it, on a top
+ * part the first.
  *
  * To link:  cc prog.c libm58.a      (x86-64 Linux only: rt staticlib writes
  * the library for no other machine)
@@ -41,37 +41,33 @@ extern "C" {
 #define M58_FULL_TOP     UINT32_C(1)
 #define M58_BENCH_BOTTOM UINT32_C(2)
 #define M58_BENCH_TOP    UINT32_C(3)
-#define M58_WT032KB      UINT32_C(4) /* the other four are M58LT parts */
 
 /* Refusals. When both apply, the lower number is given. */
 #define M58_REFUSED_NOTHING UINT32_C(0)
 #define M58_REFUSED_ADDRESS UINT32_C(3) /* address is M58_ADDRESS_LIMIT or more */
-#define M58_REFUSED_PART    UINT32_C(7) /* part is above M58_WT032KB */
+#define M58_REFUSED_PART    UINT32_C(7) /* part is above M58_BENCH_TOP */
 
 /* Ranges. */
 #define M58_ADDRESS_LIMIT UINT32_C(16777216)
 #define M58_FULL_WORDS    UINT32_C(16777216)
 #define M58_BENCH_WORDS   UINT32_C(16384)
-#define M58_WT_WORDS      UINT32_C(2097152)
-#define M58_PARTS         UINT32_C(5)
-#define M58_BLOCKS        UINT32_C(259) /* of an M58LT part */
+#define M58_PARTS         UINT32_C(4)
+#define M58_BLOCKS        UINT32_C(259)
 #define M58_BANKS         UINT32_C(16)
-#define M58_WT_BLOCKS     UINT32_C(71) /* 8 of 4,096 words, then 63 of 32,768 */
-#define M58_WT_BANKS      UINT32_C(8)
 
 /* One of the three refusal numbers above. */
 uint32_t m58_lookup_refusal(uint32_t part, uint32_t address);
 
-/* The block the address lies in; 0 beside a refusal. */
+/* The block the address lies in, 0 to 258; 0 beside a refusal. */
 uint32_t m58_lookup_block(uint32_t part, uint32_t address);
 
-/* The bank the address lies in; 0 beside a refusal. */
+/* The bank the address lies in, 0 to 15; 0 beside a refusal. */
 uint32_t m58_lookup_bank(uint32_t part, uint32_t address);
 
 /*
  * The lowest location of a block: refusal << 32 | location. M58_REFUSED_PART is the
  * only refusal, and the location beside it is 0. A number that is no block, M58_BLOCKS
- * (M58_WT_BLOCKS) or more, is not refused: its location is M58_NO_START, which no part has.
+ * or more, is not refused: its location is M58_NO_START, which no part has.
  *
  * The locations rise with the block from 0 on a bottom part, and fall to 0 on a top part.
  */
@@ -83,8 +79,8 @@ uint64_t m58_block_start(uint32_t part, uint32_t block);
 /*
  * PLAYING. The caller keeps the device as M58_STATE_WORDS words with its erase
  * counts beside them, both of which m58_power_up fills, and the array as words:
- * M58_FULL_WORDS, M58_BENCH_WORDS or M58_WT_WORDS of them, by the part. m58_run plays a
- * list of steps and writes one answer for each. A long list may be played in pieces: the
+ * M58_FULL_WORDS or M58_BENCH_WORDS of them, by the part. m58_run plays a list of
+ * steps and writes one answer for each. A long list may be played in pieces: the
  * next call goes on with the same state words, the same counts and the same array.
  *
  * A step is one uint64_t, made by the macros below. An answer is one
@@ -119,8 +115,7 @@ uint64_t m58_block_start(uint32_t part, uint32_t block);
  * THE WRITE BUFFER. A load is a row of writes: E8h to the block; the number of
  * words less one, at most M58_BUFFER_WORDS - 1, to the same block; so many
  * data, the first at the lowest location; D0h to the block. Then each unit of
- * work puts in one word, from the lowest up. The M58WT032KB has no buffer: it ignores
- * E8h, and refuses state words with a load or a buffer program.
+ * work puts in one word, from the lowest up.
  */
 #define M58_BUFFER_WORDS UINT32_C(32)
 
@@ -146,22 +141,6 @@ uint64_t m58_block_start(uint32_t part, uint32_t block);
  */
 
 /*
- * LOCK-DOWN AND THE WRITE-PROTECT PIN, of the M58WT032KB. The writes 60h and 2Fh lock a
- * block down and protect it. While the pin is low, such a block cannot be changed, and
- * 01h and D0h leave it as it is, without a flag; its bit is kept, and counts again when
- * the pin goes high. Only a reset takes the lock-down away. Offset 2 of a block in
- * signature mode (90h) shows
- *
- *   0001h  protected          0003h  locked down, with the pin low or protected
- *   0000h  unprotected        0002h  locked down and unprotected, with the pin high
- *
- * A block is programmable where this word is even. A program or an erase looks at it when
- * it is accepted: the pin stops nothing that runs or is suspended. The pin is low after
- * power-up, and a reset keeps it. An M58LT part keeps the pin's level too, and it has no
- * effect there; 2Fh is a wrong code on such a part (SR5 and SR4).
- */
-
-/*
  * ERASE COUNTS. The chip keeps no count of its erases; the model does, for each block.
  * The caller keeps the counts beside the state words, as one m58_counts or as rows and
  * words of its own. No call copies them.
@@ -171,7 +150,7 @@ uint64_t m58_block_start(uint32_t part, uint32_t block);
  *
  * A row is a bank. The block's number alone decides, so top and bottom parts are alike.
  * counts.main[0].place[0], the place that the small blocks share, is no block's and
- * stays 0. Erases of the M58WT032KB are not counted: all its counts stay 0.
+ * stays 0.
  *
  * An erase counts once, when it is finished: in the work step that does its last word,
  * however often it was suspended. One that ends before that word does not count, be it
@@ -182,9 +161,9 @@ uint64_t m58_block_start(uint32_t part, uint32_t block);
  *
  * Save and copy the counts together with the state words. Unlike the state words, they
  * may be read and changed by a program: any counts go with any state words, but the
- * shared place, and on the M58WT032KB every count, has to be 0. Where it is not, every step
- * and every report are refused M58_REFUSED_STATE and change nothing; a step on an array of
- * another length is refused M58_REFUSED_ARRAY.
+ * shared place has to be 0. Where it is not, every step and every report are refused
+ * M58_REFUSED_STATE and change nothing; a step on an array of another length is refused
+ * M58_REFUSED_ARRAY.
  *
  * Programs for an older header pass two more arguments to m58_power_up, m58_run and
  * m58_report, main and small, behind the state words:
@@ -212,7 +191,7 @@ typedef struct m58_counts {
  * 0xFFFFFFFF, which is refused as it would be (3 for an address, 4 for a
  * count): it never becomes a small one that is good. So these arguments are
  * evaluated twice. Data are the lower 16 bits of their argument, as a part has
- * 16 data lines. Supply is on, and the pin high, where the argument is not 0.
+ * 16 data lines. Supply is on where its argument is not 0.
  */
 #define M58_CLAMPED(number) \
     ((uint64_t)(number) >> 32 ? UINT64_C(0xFFFFFFFF) : (uint64_t)(number))
@@ -222,20 +201,19 @@ typedef struct m58_counts {
 #define M58_WORK(count)          ((UINT64_C(2) << 48) | M58_CLAMPED(count))
 #define M58_SUPPLY(on)           ((UINT64_C(3) << 48) | ((on) ? 1u : 0u))
 #define M58_RESET                (UINT64_C(4) << 48)
-#define M58_PIN(high)            ((UINT64_C(5) << 48) | ((high) ? 1u : 0u))
 
 #define M58_ANSWER_REFUSAL(answer) ((uint32_t)((answer) >> 32))
 #define M58_ANSWER_VALUE(answer)   ((uint32_t)(answer))
 
 /* More refusals, of steps. The lowest number is given. */
 #define M58_REFUSED_ARRAY UINT32_C(1) /* array length is not the part's */
-#define M58_REFUSED_STATE UINT32_C(2) /* state words are no well-formed device, or a count is not 0 that has to be */
+#define M58_REFUSED_STATE UINT32_C(2) /* state words are no well-formed device, or the shared place is not 0 */
 #define M58_REFUSED_COUNT UINT32_C(4) /* work count above 65,535 */
 
 /*
  * Writes the power-up state of a part into `state`, sets all erase counts to 0 and
  * returns 1. Returns 0, and writes nothing, the counts included, when the part is above
- * M58_WT032KB or state_count is not M58_STATE_WORDS.
+ * M58_BENCH_TOP or state_count is not M58_STATE_WORDS.
  */
 uint32_t m58_power_up(uint32_t part, uint64_t *state, size_t state_count,
                       m58_row *main, uint16_t *small);
@@ -251,7 +229,7 @@ uint32_t m58_power_up(uint32_t part, uint64_t *state, size_t state_count,
  * not M58_STATE_WORDS), every step is refused and the state, the counts and the
  * array stay as they were.
  * The refusal is 1 where array_count is not the length of the part that
- * state[0] names, else 2. A state[0] that names no part, above M58_WT032KB,
+ * state[0] names, else 2. A state[0] that names no part, above M58_BENCH_TOP,
  * counts as M58_BENCH_TOP here; where state_count is 0, the part is
  * M58_FULL_BOTTOM.
  */
@@ -263,14 +241,13 @@ size_t m58_run(uint64_t *state, size_t state_count, m58_row *main, uint16_t *sma
 /*
  * THE REPORTS change nothing. They are refused M58_REFUSED_STATE where a step would be:
  * where the state words are those of no well-formed device (also where state_count is
- * not M58_STATE_WORDS) and where a count is not 0 that has to be. All else is 0 beside
- * that refusal.
+ * not M58_STATE_WORDS) and where the shared place is not 0. All else is 0 beside that
+ * refusal.
  */
 
 /*
- * The report of programmable blocks: refusal << 32 | count << 16 | lowest. On an M58LT part
- * they are the unprotected ones, and lowest is M58_BLOCKS when there is none; on the
- * M58WT032KB the pin decides with it, and lowest is then M58_WT_BLOCKS.
+ * The report of unprotected blocks: refusal << 32 | count << 16 | lowest.
+ * lowest is M58_BLOCKS when none is unprotected.
  */
 uint64_t m58_report(const uint64_t *state, size_t state_count,
                     const m58_row *main, const uint16_t *small);
@@ -287,8 +264,7 @@ uint64_t m58_most_worn(const uint64_t *state, size_t state_count,
 
 /*
  * The finished erases of one block: refusal << 32 | count. The count of a number that
- * is no block, M58_BLOCKS or more, is 0 and not refused; so is that of every block of the
- * M58WT032KB.
+ * is no block, M58_BLOCKS or more, is 0 and not refused.
  */
 uint64_t m58_erase_count(const uint64_t *state, size_t state_count,
                          const m58_row *main, const uint16_t *small, uint32_t block);
@@ -320,7 +296,6 @@ uint64_t m58_erase_count(const uint64_t *state, size_t state_count,
  */
 #define M58_HEX_FULL_BYTES  UINT32_C(92282892) /* text of a full part */
 #define M58_HEX_BENCH_BYTES UINT32_C(90140)    /* text of a bench part */
-#define M58_HEX_WT_BYTES    UINT32_C(11535372) /* text of the M58WT032KB */
 
 /* A result: the refusal's number in the upper half, a line or a length in the lower. */
 #define M58_HEX_REFUSAL(result) ((uint32_t)((result) >> 32))
@@ -343,7 +318,7 @@ uint64_t m58_erase_count(const uint64_t *state, size_t state_count,
  * beside M58_REFUSED_NO_END the number of lines in the text, 0 where it is empty.
  * A line past M58_HEX_LAST_LINE is told as that. Beside M58_REFUSED_ARRAY
  * (array_count is not the part's) and M58_REFUSED_PART (part is above
- * M58_WT032KB; array_count is not looked at) it is 0.
+ * M58_BENCH_TOP; array_count is not looked at) it is 0.
  *
  * Text that is refused leaves every word of the array as it was.
  */
@@ -352,8 +327,8 @@ uint64_t m58_hex_read(uint32_t part, const uint8_t *text, size_t text_count,
 
 /*
  * Writes `array` into `text`. Returns refusal << 32 | length: the bytes that were
- * written, M58_HEX_FULL_BYTES, M58_HEX_BENCH_BYTES or M58_HEX_WT_BYTES by the part;
- * bytes of the text past them stay. Refusals are M58_REFUSED_ARRAY and M58_REFUSED_PART, as
+ * written, M58_HEX_FULL_BYTES or M58_HEX_BENCH_BYTES by the part; bytes of the
+ * text past them stay. Refusals are M58_REFUSED_ARRAY and M58_REFUSED_PART, as
  * above, and M58_REFUSED_TEXT; the length beside them is 0, and the whole text
  * stays.
  */

@@ -432,8 +432,7 @@ impl Pair {
         self.check_recorder(last, &recorder)
     }
 
-    /// The recorder also holds the unprotected and the locked-down blocks, the pin and
-    /// the supply.
+    /// The recorder also holds the unprotected blocks and the supply.
     fn check_recorder(&self, last: usize, recorder: &Recorder) -> Result<(), Difference> {
         if let Some(device) = &self.device {
             let pairs = [
@@ -441,11 +440,6 @@ impl Pair {
                     "unprotected blocks",
                     recorder.unprotected_blocks() == &device.unprotected,
                 ),
-                (
-                    "locked-down blocks",
-                    recorder.locked_down_blocks() == &device.locked_down,
-                ),
-                ("pin", recorder.pin() == device.pin),
                 ("supply", recorder.supply() == device.supply),
                 (
                     "set-up",
@@ -522,7 +516,7 @@ impl Pair {
         self.check_report(step)
     }
 
-    /// The report of programmable blocks.
+    /// The report of unprotected blocks.
     fn check_report(&mut self, step: usize) -> Result<(), Difference> {
         let expected = match &self.device {
             Some(device) => library::unprotected_report(device.unprotected_report()),
@@ -533,7 +527,7 @@ impl Pair {
         if expected != got {
             let text = |report: u64| {
                 format!(
-                    "refusal {}, {} programmable, lowest {}",
+                    "refusal {}, {} unprotected, lowest {}",
                     report >> 32,
                     report >> 16 & 0xFFFF,
                     report & 0xFFFF
@@ -541,7 +535,7 @@ impl Pair {
             };
             return Err(Difference {
                 step,
-                what: "report of programmable blocks after the step".to_string(),
+                what: "report of unprotected blocks after the step".to_string(),
                 expected: text(expected),
                 got: text(got),
             });
@@ -607,14 +601,10 @@ impl Pair {
     }
 
     /// "each count is the lesser of 65,535 and the number of finished erases of that
-    /// block in the journal" (document 02, item 6); on the M58WT032KB "wear is not
-    /// counted" (item 8).
+    /// block in the journal" (document 02, item 6).
     fn check_finished(&self, step: usize, recorder: &Recorder) -> Result<(), Difference> {
         for block in 0..BLOCKS as u32 {
-            let due = match self.part.is_m58lt() {
-                true => recorder.finished_erases(block).min(65_535),
-                false => 0,
-            };
+            let due = recorder.finished_erases(block).min(65_535);
             let got = match author::wear::place(block).expect("a block") {
                 (Some(row), place) => self.lent.main[row][place],
                 (None, place) => self.lent.small[place],

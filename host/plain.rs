@@ -25,7 +25,7 @@ mod c {
 pub struct Plain(Vec<u64>);
 
 impl Plain {
-    /// A device of a part, 0 to 4.
+    /// A device of a part, 0 to 3.
     pub fn power_up(part: u32) -> Plain {
         // SAFETY: no argument, no memory.
         let bytes = unsafe { c::plain_size() };

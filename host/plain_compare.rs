@@ -1,5 +1,5 @@
 //! Compares the plain C model with the independent second model on random lists
-//! of steps, from power-up, on all five parts: every answer, the counts of finished
+//! of steps, from power-up, on all four parts: every answer, the counts of finished
 //! erases and the most worn block after each call, and the whole array after each
 //! list. Counts what became of the steps, and fails too where the lists reach less
 //! than they did.
@@ -13,7 +13,6 @@ mod author;
 mod library;
 mod outcome;
 mod plain;
-mod plain_locks;
 mod plain_wear;
 mod second {
     pub mod geometry;
@@ -25,19 +24,19 @@ use author::{Author, Dice};
 use plain::Plain;
 use plain_wear::Wear;
 use second::model::{
-    Answer, Device, Erase, Flags, Mode, Operation, Part, Place, Program, Setup, ADDRESSES, BLOCKS,
-    BUFFER_WORDS, DEFAULT_CONFIGURATION,
+    Answer, Device, Erase, Flags, Mode, Operation, Part, Place, Program, Setup, ADDRESSES, BANKS,
+    BLOCKS, BUFFER_WORDS, DEFAULT_CONFIGURATION,
 };
 use second::steps::Step;
 use std::collections::{BTreeMap, VecDeque};
 use std::process::ExitCode;
 
 /// Lists for each part.
-const LISTS: [u64; 5] = [30, 30, 4_000, 4_000, 400];
+const LISTS: [u64; 4] = [30, 30, 4_000, 4_000];
 
 /// How many different things become of a step. Fewer would mean that the lists
 /// try less than they seem to.
-const OUTCOMES: usize = 284;
+const OUTCOMES: usize = 218;
 
 /// How often each outcome of a supply step, and each end without supply, has to come.
 const LEAST_DROPS: u64 = 100;
@@ -45,10 +44,6 @@ const LEAST_DROPS: u64 = 100;
 /// How often each kind of erase that is finished, or broken off before its last word,
 /// and each kind of most worn block has to come (document 02, item 6).
 const LEAST_WEAR: u64 = 1_000;
-
-/// How often each fact of lock-down and the pin has to come (document 02, item 8).
-const LEAST_LOCKS: u64 = 200;
-
 const WEAR: [&str; 4] = [
     "finished erase",
     "erase broken off before its last word",
@@ -142,8 +137,8 @@ impl Tally {
         )
     }
 
-    /// What the lists do too seldom with the supply (document 02, item 5), with the counts
-    /// (item 6) and with locks (item 8).
+    /// What the lists do too seldom with the supply (document 02, item 5) and with the
+    /// counts (item 6).
     fn seldom(&self) -> Option<String> {
         let drop = |asked: &str, became: &str| {
             asked.starts_with("supply") || asked == "write, D0h" && became.starts_with("ended")
@@ -151,7 +146,6 @@ impl Tally {
         let least = |asked, became| match (WEAR.contains(&asked), drop(asked, became)) {
             (true, _) => LEAST_WEAR,
             (_, true) => LEAST_DROPS,
-            _ if plain_locks::is_fact(asked) => LEAST_LOCKS,
             _ => 1,
         };
         self.outcomes
@@ -210,7 +204,7 @@ impl Pair {
         let mut dice = Dice::new(seed);
         let mut author = Author::new(self.part, dice.next());
         self.begin(&mut dice);
-        let blocks = plain_wear::blocks(&mut dice, self.part);
+        let blocks = plain_wear::blocks(&mut dice);
         let mut scene = VecDeque::new();
 
         let words = self.array.len();
@@ -350,9 +344,7 @@ impl Pair {
         self.follow_load(&before, step);
         if answer.refusal == 0 {
             self.count_register(&before, step);
-            let wear = self.wear.facts(&before, &self.device, step);
-            let locks = plain_locks::facts(&before, &self.device, step, answer);
-            for (asked, became) in wear.into_iter().chain(locks) {
+            for (asked, became) in self.wear.facts(&before, &self.device, step) {
                 self.tally.count(asked, became, 1);
             }
         }
@@ -482,7 +474,7 @@ impl Pair {
 /// supply, what is suspended ends with its flags alone, and with it by its units.
 fn closing(device: &Device, supply: bool) -> Vec<Step> {
     let part = device.part;
-    let banks = (0..part.banks()).map(|bank| part.bank_start(bank).expect("a bank of the part"));
+    let banks = (0..BANKS as u32).map(|bank| part.bank_start(bank).expect("a bank of the part"));
     let mut steps: Vec<Step> = banks.clone().map(Step::Read).collect();
     if supply {
         steps.push(Step::Supply(true));
@@ -504,13 +496,9 @@ fn closing(device: &Device, supply: bool) -> Vec<Step> {
         steps.push(Step::Write(start, 0x90));
         steps.extend([0, 1, 5].map(|offset| Step::Read(start + offset)));
     }
-    // The bit under a low pin is shown when it is high.
-    for pin in [device.pin, !device.pin] {
-        steps.push(Step::Pin(pin));
-        for block in 0..part.blocks() {
-            let start = part.block(block).expect("a block of the part").start;
-            steps.push(Step::Read(start + 2));
-        }
+    for block in 0..BLOCKS as u32 {
+        let start = part.block(block).expect("a block of the part").start;
+        steps.push(Step::Read(start + 2));
     }
     steps
 }
@@ -531,7 +519,8 @@ fn asked(device: &Device, step: Step) -> &'static str {
         (Step::Read(address), _) => match device.modes[bank(device, address) as usize] {
             Mode::Array => "read, array mode",
             Mode::Status => "read, status mode",
-            Mode::Signature if address < ADDRESSES && bank_offset(device, address) == 5 => {
+            // Banks begin at multiples of their 16u words, so this is bank offset 5.
+            Mode::Signature if address < ADDRESSES && address % (16 * device.part.unit()) == 5 => {
                 "read, configuration register"
             }
             Mode::Signature => "read, signature mode",
@@ -547,7 +536,6 @@ fn asked(device: &Device, step: Step) -> &'static str {
         (Step::Write(_, data), Some(Setup::Lock)) => match data % 256 {
             0x01 => "write, second cycle of a lock, 01h",
             0x03 => "write, second cycle of a lock, 03h",
-            0x2F => "write, second cycle of a lock, 2Fh",
             0xD0 => "write, second cycle of a lock, D0h",
             _ => "write, second cycle of a lock, another",
         },
@@ -555,8 +543,6 @@ fn asked(device: &Device, step: Step) -> &'static str {
         (Step::Supply(true), _) => "supply on",
         (Step::Supply(false), _) => "supply off",
         (Step::Reset, _) => "reset",
-        (Step::Pin(true), _) => "pin high",
-        (Step::Pin(false), _) => "pin low",
     }
 }
 
@@ -584,13 +570,13 @@ fn became(before: &Device, after: &Device, step: Step, answer: Answer) -> &'stat
         Step::Read(address) => became_of_read(before, address),
         Step::Write(..) => became_of_write(before, after),
         Step::Work(_) => became_of_work(before, after, answer),
-        Step::Supply(_) | Step::Pin(_) => became_of_level(before, after),
+        Step::Supply(_) => became_of_supply(before, after),
         Step::Reset => became_of_reset(before),
     }
 }
 
-/// What became of a pin step, or of a supply step that ended nothing.
-fn became_of_level(before: &Device, after: &Device) -> &'static str {
+/// What became of a supply step that ended nothing.
+fn became_of_supply(before: &Device, after: &Device) -> &'static str {
     use Program as P;
     match before.setup {
         Some(Setup::LoadCount { .. }) => return "in a load before its count",
@@ -755,11 +741,6 @@ fn is_load(setup: Option<Setup>) -> bool {
 
 fn place(device: &Device, location: u32) -> Place {
     device.part.place(location).expect("a location of the part")
-}
-
-fn bank_offset(device: &Device, address: u32) -> u32 {
-    let start = device.part.bank_start(bank(device, address));
-    device.part.location(address) - start.expect("a bank of the part")
 }
 
 fn bank(device: &Device, address: u32) -> u32 {

@@ -2,22 +2,18 @@
 //! item 6) are raised often, and what became of them.
 
 use crate::author::Dice;
-use crate::second::model::{Device, Erase, Operation, Part, Setup, WornReport};
+use crate::second::model::{Device, Erase, Operation, Part, Setup, WornReport, BLOCKS};
 use crate::second::steps::Step;
 
 const OFF: Step = Step::Supply(false);
 const ON: Step = Step::Supply(true);
 
 /// A few blocks that a list erases again and again.
-pub fn blocks(dice: &mut Dice, part: Part) -> Vec<u32> {
-    let edges: &[u32] = match part.is_m58lt() {
-        true => &[4, 18, 19, 34, 35, 257, 258],
-        false => &[7, 8, 14, 15, 22, 23, 69, 70],
-    };
+pub fn blocks(dice: &mut Dice) -> Vec<u32> {
     let some = |dice: &mut Dice| match dice.below(3) {
         0 => dice.below(4) as u32,
-        1 => dice.pick(edges),
-        _ => dice.below(u64::from(part.blocks())) as u32,
+        1 => dice.pick(&[4, 18, 19, 34, 35, 257, 258]),
+        _ => dice.below(BLOCKS as u64) as u32,
     };
     (0..1 + dice.below(3)).map(|_| some(dice)).collect()
 }
@@ -121,11 +117,9 @@ impl Wear {
     fn finished(&self, before: &Device, erase: Erase, count: u32) -> Vec<Fact> {
         let counted = before.counts.of(erase.block);
         let size = words(before, erase);
-        let small = size < before.part.unit();
         let facts = [
-            (small, "of a small block"),
-            (!small, "of a main block"),
-            (!before.part.is_m58lt(), "not counted, M58WT032KB"),
+            (erase.block < 4, "of a small block"),
+            (erase.block >= 4, "of a main block"),
             (self.suspended, "after a suspend"),
             (counted > 0, "of a block erased before"),
             (count > size - erase.done, "in a step with units to spare"),
@@ -160,7 +154,7 @@ fn words(device: &Device, erase: Erase) -> u32 {
 /// How the most worn block comes to be that.
 pub fn lead(device: &Device, worn: WornReport) -> Fact {
     let with_as_many =
-        (0..device.part.blocks()).filter(|&block| u32::from(device.counts.of(block)) == worn.count);
+        (0..BLOCKS as u32).filter(|&block| u32::from(device.counts.of(block)) == worn.count);
     let how = match (worn.count, with_as_many.count()) {
         (0, _) => "with no count",
         (_, 1) => "alone",

@@ -1,7 +1,6 @@
 //! Plays scripts through the real program and compares what it prints with the transcript of the independent second model: the stored examples, every form
 //! and its near misses, the bounds of document 01, random scripts and damaged ones, and input that arrives a byte at a time. Fails too where the random scripts
-//! drop the supply too seldom over something that runs or is suspended (document 02, item 5),
-//! or have pin steps and 2Fh, which is wrong here, too seldom (item 8).
+//! drop the supply too seldom over something that runs or is suspended (document 02, item 5).
 //!
 //! usage: script_compare PROGRAM EXAMPLES [COUNT [SEED]]
 
@@ -14,7 +13,7 @@ mod script;
 #[path = "second/steps.rs"]
 mod steps;
 
-use model::{Device, Operation, Program, Setup};
+use model::{Device, Operation, Program};
 use std::io::{Read, Write};
 use std::process::{Command, Stdio};
 use steps::Step;
@@ -121,40 +120,6 @@ struct Compare<'a> {
     refused: u64,
     warned: u64,
     drops: Drops,
-    pins: Pins,
-}
-
-/// How often a pin step and a 2Fh after 60h have to come for a thousand random scripts.
-const LEAST_PINS: u64 = 500;
-
-/// Pin steps, low and high, and 2Fh after 60h, which is wrong on a bench part.
-#[derive(Default)]
-struct Pins {
-    low: u64,
-    high: u64,
-    wrong: u64,
-}
-
-impl Pins {
-    fn note(&mut self, step: Step, setup: Option<Setup>) {
-        match step {
-            Step::Pin(false) => self.low += 1,
-            Step::Pin(true) => self.high += 1,
-            Step::Write(_, data) if data % 256 == 0x2F && setup == Some(Setup::Lock) => {
-                self.wrong += 1;
-            }
-            _ => {}
-        }
-    }
-
-    /// Prints the counts of so many random scripts; fails where one is too low.
-    fn report(&self, scripts: u64) {
-        let Pins { low, high, wrong } = *self;
-        println!("pin low {low} times, high {high} times; 2Fh wrong {wrong} times");
-        if low.min(high).min(wrong) < LEAST_PINS * scripts / 1000 {
-            fail("the random scripts have pin steps or 2Fh too seldom");
-        }
-    }
 }
 
 /// How often each of the counts in `Drops` has to be reached for a thousand random scripts.
@@ -168,8 +133,8 @@ struct Drops {
 }
 
 impl Drops {
-    /// Counts those of a script, by the second model, and its pin steps.
-    fn note(&mut self, input: &[u8], pins: &mut Pins) {
+    /// Counts those of a script, by the second model.
+    fn note(&mut self, input: &[u8]) {
         let mut device = Device::power_up(script::BENCH_BOTTOM);
         let mut array = vec![0xFFFF; script::BENCH_WORDS];
         let place = |operation| match operation {
@@ -182,7 +147,6 @@ impl Drops {
             let program = device.suspended_program.map(Operation::Program);
             let resumed = program.or(device.suspended_erase.map(Operation::Erase));
             let first_cycle = device.setup.is_none();
-            pins.note(step, device.setup);
             device.step(&mut array, step);
             match (step, running, resumed) {
                 (Step::Supply(false), Some(operation), _) => self.running[place(operation)] += 1,
@@ -302,19 +266,6 @@ const NEAR: &[&str] = &[
     "V  1",
     "V1",
     "V\t1",
-    "L 0",
-    "L 1",
-    "L 2",
-    "L",
-    "L ",
-    "L 00",
-    "L 1 ",
-    "l 1",
-    "L  1",
-    "L1",
-    "L\t1",
-    " L 1",
-    "L H",
     "Z",
     "z",
     "Z ",
@@ -339,16 +290,6 @@ const NEAR: &[&str] = &[
     "R 0000000000000000",
 ];
 
-/// A line of each form.
-const FORMS: [&str; 6] = [
-    "R 000041\n",
-    "W 000041 1234\n",
-    "K 65535\n",
-    "V 1\n",
-    "L 1\n",
-    "Z\n",
-];
-
 fn bounds() -> Vec<(String, Vec<u8>)> {
     let mut out: Vec<(String, Vec<u8>)> = vec![
         ("empty input".into(), vec![]),
@@ -368,7 +309,7 @@ fn bounds() -> Vec<(String, Vec<u8>)> {
         ("much more than the script".into(), b"Z\n".repeat(200_000)),
     ];
     // 16,384 bytes exactly, one more, and a cut in each place of each form
-    for form in FORMS {
+    for form in ["R 000041\n", "W 000041 1234\n", "K 65535\n", "V 1\n", "Z\n"] {
         for cut in 0..=form.len() {
             let mut text = b"Z\n".repeat(8192);
             text.truncate(16384 - cut);
@@ -387,98 +328,92 @@ fn bounds() -> Vec<(String, Vec<u8>)> {
 
 /// A script in which things happen, and with `damage` some bytes of it changed, dropped or added.
 fn random_script(r: &mut Random, damage: bool) -> Vec<u8> {
+    const COMMANDS: &[u32] = &[
+        0xFF, 0x70, 0x90, 0x98, 0xB0, 0xD0, 0x50, 0x10, 0x40, 0x60, 0x20, 0xD0, 0x01, 0x03, 0xE8,
+        0x00,
+    ];
+    const PLACES: &[u32] = &[
+        0x00, 0x01, 0x02, 0x05, 0x0F, 0x10, 0x12, 0x3F, 0x40, 0x41, 0x42, 0x7F, 0x80, 0x82, 0xC0,
+        0x3FF, 0x400, 0x402, 0x405, 0x410, 0x3FFF, 0x3F80, 0x4041, 0xFFFFFF,
+    ];
     let mut text = String::new();
     let lines = 1 + r.below(120);
     if r.below(4) > 0 {
         text.push_str("V 1\nW 000040 0060\nW 000040 00D0\nW 000080 0060\nW 000080 00D0\n");
     }
     for _ in 0..lines {
-        text.push_str(&random_lines(r));
+        let address = if r.below(8) == 0 {
+            r.below(1 << 24) as u32
+        } else {
+            *r.pick(PLACES)
+        };
+        match r.below(26) {
+            0..=4 => text.push_str(&format!("R {address:06X}\n")),
+            5..=8 => {
+                // both cycles of a command to one place
+                let (a, b) = *r.pick(&[
+                    (0x60, 0xD0),
+                    (0x60, 0x01),
+                    (0x60, 0x03),
+                    (0x20, 0xD0),
+                    (0x20, 0x00),
+                ]);
+                text.push_str(&format!(
+                    "W {address:06X} {a:04X}\nW {address:06X} {b:04X}\n"
+                ));
+            }
+            9..=11 => {
+                let word = r.below(65536);
+                text.push_str(&format!(
+                    "W {address:06X} 0040\nW {address:06X} {word:04X}\n"
+                ));
+            }
+            12..=14 => {
+                let high = if r.below(4) == 0 {
+                    r.below(256) << 8
+                } else {
+                    0
+                };
+                text.push_str(&format!(
+                    "W {address:06X} {:04X}\n",
+                    u64::from(*r.pick(COMMANDS)) | high
+                ));
+            }
+            15..=17 => {
+                let n = *r.pick(&[0u64, 1, 1, 3, 10, 63, 64, 65535, 65536, 99999]);
+                text.push_str(&format!("K {n}\n"));
+            }
+            18 => text.push_str(if r.below(3) == 0 { "V 0\n" } else { "V 1\n" }),
+            19..=20 => text.push_str(&random_load(r, address)),
+            21 => text.push_str(&random_register(r)),
+            22..=24 => text.push_str(&random_drop(r)),
+            _ => text.push_str(if r.below(3) == 0 { "Z\n" } else { "R 000040\n" }),
+        }
     }
     let mut bytes = text.into_bytes();
     if damage {
-        damage_script(r, &mut bytes);
+        for _ in 0..1 + r.below(6) {
+            let at = r.below(bytes.len() as u64) as usize;
+            match r.below(4) {
+                0 => bytes[at] = r.below(256) as u8,
+                1 => {
+                    bytes.remove(at);
+                }
+                2 => bytes.insert(at, *r.pick(b" \n\r\t\0aZ09")),
+                _ => {
+                    let line = r.pick(NEAR).as_bytes().to_vec();
+                    bytes.splice(at..at, line);
+                }
+            }
+            if bytes.is_empty() {
+                break;
+            }
+        }
     }
     if r.below(3) == 0 && bytes.last() == Some(&b'\n') {
         bytes.pop();
     }
     bytes
-}
-
-/// One line, or some that belong together.
-fn random_lines(r: &mut Random) -> String {
-    const PLACES: &[u32] = &[
-        0x00, 0x01, 0x02, 0x05, 0x0F, 0x10, 0x12, 0x3F, 0x40, 0x41, 0x42, 0x7F, 0x80, 0x82, 0xC0,
-        0x3FF, 0x400, 0x402, 0x405, 0x410, 0x3FFF, 0x3F80, 0x4041, 0xFFFFFF,
-    ];
-    let address = if r.below(8) == 0 {
-        r.below(1 << 24) as u32
-    } else {
-        *r.pick(PLACES)
-    };
-    match r.below(30) {
-        0..=4 => format!("R {address:06X}\n"),
-        5..=14 => random_writes(r, address),
-        15..=17 => {
-            let n = *r.pick(&[0u64, 1, 1, 3, 10, 63, 64, 65535, 65536, 99999]);
-            format!("K {n}\n")
-        }
-        18 => format!("V {}\n", u8::from(r.below(3) > 0)),
-        19..=20 => random_load(r, address),
-        21 => random_register(r),
-        22..=26 => random_drop(r),
-        27 => format!("L {}\n", r.below(2)),
-        28 => random_pin(r),
-        _ if r.below(3) == 0 => "Z\n".to_string(),
-        _ => "R 000040\n".to_string(),
-    }
-}
-
-/// Both cycles of a command to one place, a word programmed, or one cycle.
-fn random_writes(r: &mut Random, address: u32) -> String {
-    const COMMANDS: &[u64] = &[
-        0xFF, 0x70, 0x90, 0x98, 0xB0, 0xD0, 0x50, 0x10, 0x40, 0x60, 0x20, 0xD0, 0x01, 0x03, 0xE8,
-        0x2F, 0x00,
-    ];
-    const PAIRS: &[(u64, u64)] = &[
-        (0x60, 0xD0),
-        (0x60, 0x01),
-        (0x60, 0x03),
-        (0x60, 0x2F),
-        (0x20, 0xD0),
-        (0x20, 0x00),
-    ];
-    let write = |data: u64| format!("W {address:06X} {data:04X}\n");
-    match r.below(10) {
-        0..=3 => {
-            let (first, second) = *r.pick(PAIRS);
-            write(first) + &write(second)
-        }
-        4..=6 => write(0x40) + &write(r.below(65536)),
-        7 => write(*r.pick(COMMANDS) | r.below(256) << 8),
-        _ => write(*r.pick(COMMANDS)),
-    }
-}
-
-/// Some bytes changed, dropped or added, or lines that are nearly forms put in.
-fn damage_script(r: &mut Random, bytes: &mut Vec<u8>) {
-    for _ in 0..1 + r.below(6) {
-        let at = r.below(bytes.len() as u64) as usize;
-        match r.below(4) {
-            0 => bytes[at] = r.below(256) as u8,
-            1 => {
-                bytes.remove(at);
-            }
-            2 => bytes.insert(at, *r.pick(b" \n\r\t\0aZ09")),
-            _ => {
-                let line = r.pick(NEAR).as_bytes().to_vec();
-                bytes.splice(at..at, line);
-            }
-        }
-        if bytes.is_empty() {
-            break;
-        }
-    }
 }
 
 /// A load of the write buffer: most often right, if its words fit their block.
@@ -536,17 +471,6 @@ fn random_drop(r: &mut Random) -> String {
     text + "K 1\n" + &write(0xFF) + &format!("R {address:06X}\nR {:06X}\n", address + 1)
 }
 
-/// A code after 60h with the pin low or high, and what block offset 2 shows then and with
-/// the other pin: the same on this part.
-fn random_pin(r: &mut Random) -> String {
-    let code = *r.pick(&[0x2F, 0x2F, 0xD0, 0x01]);
-    let pin = r.below(2);
-    format!(
-        "L {pin}\nW 000040 0060\nW 000040 {code:04X}\nR 000040\nW 000040 0090\nR 000042\nL {}\nR 000042\n",
-        1 - pin
-    )
-}
-
 fn examples(compare: &mut Compare, folder: &str) -> u64 {
     let mut names: Vec<_> = std::fs::read_dir(folder)
         .unwrap_or_else(|e| fail(&format!("cannot read {folder}: {e}")))
@@ -592,7 +516,6 @@ fn main() {
         refused: 0,
         warned: 0,
         drops: Drops::default(),
-        pins: Pins::default(),
     };
     let stored = examples(&mut compare, &args[2]);
     for near in NEAR {
@@ -610,7 +533,7 @@ fn main() {
     let mut r = Random(seed | 1);
     for i in 0..count {
         let text = random_script(&mut r, i % 2 == 1);
-        compare.drops.note(&text, &mut compare.pins);
+        compare.drops.note(&text);
         compare.one(
             &format!("random script {i} of seed {seed}"),
             &text,
@@ -627,7 +550,6 @@ fn main() {
     }
     compare.one("a slow reader", &[b'\n'; 16384], Pace::SlowOut);
     compare.drops.report(count);
-    compare.pins.report(count);
     println!(
         "scripts: {} compared, {stored} of them stored examples and {count} random of seed {seed}; {} lines printed, {} of them refused; {} scripts warned of",
         compare.scripts, compare.lines, compare.refused, compare.warned

@@ -1,10 +1,9 @@
-// The block map of the five parts, taken from the data sheets' tables.
+// The block map of the four parts, taken from the data sheet's tables.
 //
 // This is the second opinion on the block lookup, so it holds the start
 // addresses as data and knows no formula for block or bank. A block ends
-// where the next one starts; the printed end addresses of the M58LT parts are
-// not used, since Table 32 has two digits too many in some of them. Those of the
-// M58WT032KB are compared.
+// where the next one starts; the printed end addresses are not used, since
+// Table 32 has two digits too many in some of them.
 //
 // Output, one line for each block, by part and then by rising address:
 //     part first last block bank
@@ -16,9 +15,6 @@ use std::process::ExitCode;
 const BLOCKS: usize = 259;
 const BANKS: u32 = 16;
 const FULL_WORDS: u32 = 16_777_216;
-const WT_BLOCKS: usize = 71;
-const WT_BANKS: u32 = 8;
-const WT_WORDS: u32 = 2_097_152;
 // A bench part is a full part with every block 1,024 times smaller.
 const BENCH_SCALE: u32 = 1024;
 
@@ -167,36 +163,6 @@ const BOTTOM: [Listed; BLOCKS] = [
     (255, 15, 0xFC0000), (256, 15, 0xFD0000), (257, 15, 0xFE0000), (258, 15, 0xFF0000),
 ];
 
-// The rows of Table 31 of document 000: block, bank, and both ends of its range.
-// The parameter bank is bank 0.
-#[rustfmt::skip]
-const WT: [(u32, u32, u32, u32); WT_BLOCKS] = [
-    (0, 0, 0x000000, 0x000FFF), (1, 0, 0x001000, 0x001FFF), (2, 0, 0x002000, 0x002FFF),
-    (3, 0, 0x003000, 0x003FFF), (4, 0, 0x004000, 0x004FFF), (5, 0, 0x005000, 0x005FFF),
-    (6, 0, 0x006000, 0x006FFF), (7, 0, 0x007000, 0x007FFF), (8, 0, 0x008000, 0x00FFFF),
-    (9, 0, 0x010000, 0x017FFF), (10, 0, 0x018000, 0x01FFFF), (11, 0, 0x020000, 0x027FFF),
-    (12, 0, 0x028000, 0x02FFFF), (13, 0, 0x030000, 0x037FFF), (14, 0, 0x038000, 0x03FFFF),
-    (15, 1, 0x040000, 0x047FFF), (16, 1, 0x048000, 0x04FFFF), (17, 1, 0x050000, 0x057FFF),
-    (18, 1, 0x058000, 0x05FFFF), (19, 1, 0x060000, 0x067FFF), (20, 1, 0x068000, 0x06FFFF),
-    (21, 1, 0x070000, 0x077FFF), (22, 1, 0x078000, 0x07FFFF), (23, 2, 0x080000, 0x087FFF),
-    (24, 2, 0x088000, 0x08FFFF), (25, 2, 0x090000, 0x097FFF), (26, 2, 0x098000, 0x09FFFF),
-    (27, 2, 0x0A0000, 0x0A7FFF), (28, 2, 0x0A8000, 0x0AFFFF), (29, 2, 0x0B0000, 0x0B7FFF),
-    (30, 2, 0x0B8000, 0x0BFFFF), (31, 3, 0x0C0000, 0x0C7FFF), (32, 3, 0x0C8000, 0x0CFFFF),
-    (33, 3, 0x0D0000, 0x0D7FFF), (34, 3, 0x0D8000, 0x0DFFFF), (35, 3, 0x0E0000, 0x0E7FFF),
-    (36, 3, 0x0E8000, 0x0EFFFF), (37, 3, 0x0F0000, 0x0F7FFF), (38, 3, 0x0F8000, 0x0FFFFF),
-    (39, 4, 0x100000, 0x107FFF), (40, 4, 0x108000, 0x10FFFF), (41, 4, 0x110000, 0x117FFF),
-    (42, 4, 0x118000, 0x11FFFF), (43, 4, 0x120000, 0x127FFF), (44, 4, 0x128000, 0x12FFFF),
-    (45, 4, 0x130000, 0x137FFF), (46, 4, 0x138000, 0x13FFFF), (47, 5, 0x140000, 0x147FFF),
-    (48, 5, 0x148000, 0x14FFFF), (49, 5, 0x150000, 0x157FFF), (50, 5, 0x158000, 0x15FFFF),
-    (51, 5, 0x160000, 0x167FFF), (52, 5, 0x168000, 0x16FFFF), (53, 5, 0x170000, 0x177FFF),
-    (54, 5, 0x178000, 0x17FFFF), (55, 6, 0x180000, 0x187FFF), (56, 6, 0x188000, 0x18FFFF),
-    (57, 6, 0x190000, 0x197FFF), (58, 6, 0x198000, 0x19FFFF), (59, 6, 0x1A0000, 0x1A7FFF),
-    (60, 6, 0x1A8000, 0x1AFFFF), (61, 6, 0x1B0000, 0x1B7FFF), (62, 6, 0x1B8000, 0x1BFFFF),
-    (63, 7, 0x1C0000, 0x1C7FFF), (64, 7, 0x1C8000, 0x1CFFFF), (65, 7, 0x1D0000, 0x1D7FFF),
-    (66, 7, 0x1D8000, 0x1DFFFF), (67, 7, 0x1E0000, 0x1E7FFF), (68, 7, 0x1E8000, 0x1EFFFF),
-    (69, 7, 0x1F0000, 0x1F7FFF), (70, 7, 0x1F8000, 0x1FFFFF),
-];
-
 struct Row {
     first: u32,
     last: u32,
@@ -207,11 +173,9 @@ struct Row {
 struct Part {
     name: &'static str,
     words: u32,
-    banks: u32,
     rows: Vec<Row>,
 }
 
-// An M58LT part.
 fn part(name: &'static str, listed: &[Listed], scale: u32) -> Result<Part, String> {
     let words = FULL_WORDS / scale;
     let mut starts = Vec::new();
@@ -223,33 +187,8 @@ fn part(name: &'static str, listed: &[Listed], scale: u32) -> Result<Part, Strin
         }
         starts.push((start / scale, block, bank));
     }
-    laid_out(name, words, BANKS, starts)
-}
-
-// The M58WT032KB, with the ends that the table prints.
-fn wt(name: &'static str) -> Result<Part, String> {
-    let starts = WT.map(|(block, bank, first, _)| (first, block, bank));
-    let part = laid_out(name, WT_WORDS, WT_BANKS, starts.to_vec())?;
-    for row in &part.rows {
-        let printed = WT.iter().find(|listed| listed.0 == row.block);
-        if printed.is_none_or(|&(_, _, _, last)| last != row.last) {
-            let Row { block, last, .. } = row;
-            return Err(format!(
-                "{name}: block {block} ends at {last:06X}, and not as printed"
-            ));
-        }
-    }
-    Ok(part)
-}
-
-// A part with its rows by rising address, from start, block and bank of each.
-fn laid_out(
-    name: &'static str,
-    words: u32,
-    banks: u32,
-    mut starts: Vec<(u32, u32, u32)>,
-) -> Result<Part, String> {
     starts.sort();
+
     let mut rows = Vec::new();
     for (i, &(first, block, bank)) in starts.iter().enumerate() {
         let next = starts.get(i + 1).map_or(words, |s| s.0);
@@ -266,19 +205,14 @@ fn laid_out(
             bank,
         });
     }
-    Ok(Part {
-        name,
-        words,
-        banks,
-        rows,
-    })
+    Ok(Part { name, words, rows })
 }
 
 // Every word of the part lies in exactly one row, and every block has a row.
 fn check_cover(part: &Part) -> Result<(), String> {
     let name = part.name;
     let mut expected = 0;
-    let mut seen = vec![false; part.rows.len()];
+    let mut seen = [false; BLOCKS];
     for row in &part.rows {
         if row.first != expected {
             return Err(format!(
@@ -291,7 +225,7 @@ fn check_cover(part: &Part) -> Result<(), String> {
             Some(_) => return Err(format!("{name}: block {} is listed twice", row.block)),
             None => return Err(format!("{name}: there is no block {}", row.block)),
         }
-        if row.bank >= part.banks {
+        if row.bank >= BANKS {
             return Err(format!("{name}: there is no bank {}", row.bank));
         }
         expected = row.last + 1;
@@ -329,14 +263,13 @@ fn check_mirror(bottom: &Part, top: &Part) -> Result<(), String> {
     Ok(())
 }
 
-// In the order of the part numbers 0 to 4.
-fn checked_parts() -> Result<[Part; 5], String> {
+// In the order of the part numbers 0 to 3.
+fn checked_parts() -> Result<[Part; 4], String> {
     let parts = [
         part("full bottom", &BOTTOM, 1)?,
         part("full top", &TOP, 1)?,
         part("bench bottom", &BOTTOM, BENCH_SCALE)?,
         part("bench top", &TOP, BENCH_SCALE)?,
-        wt("M58WT032KB")?,
     ];
     for p in &parts {
         check_cover(p)?;

@@ -19,16 +19,13 @@
 //! | 11       | SR5, SR4, SR3, SR1, a byte each from the lowest; from bit   |
 //! |          | 32 the configuration register, whose bits 14, 5 and 4 are 0 |
 //! |          | where the device is well formed; from bit 48 the supply, on |
-//! |          | where it is well formed and something runs; from bit 56 the |
-//! |          | pin; a byte each                                            |
-//! | 12 to 16 | a row of bits, 64 a word: bit b is 1 where block b is       |
-//! |          | unprotected, and on the M58WT032KB bit 128 + b where it is  |
-//! |          | locked down                                                 |
+//! |          | where it is well formed and something runs                  |
+//! | 12 to 16 | bit b % 64 of word b / 64 is 1 where block b is unprotected |
 //! | 17 to 24 | word i of the buffer from bit 16 (i % 4) of word 17 + i / 4 |
 //!
 //! Of words 3 to 10, two hold four numbers: the first in the lower half of the
 //! first word, the second in its upper half, the others so in the second word.
-//! Unused numbers and bits are 0.
+//! Unused numbers are 0.
 
 #![allow(dead_code)] // a program that takes this module in need not use all of it
 
@@ -62,8 +59,7 @@ pub struct Field {
 
 pub const PART: Field = field(0, 0, 64);
 pub const CONFIGURATION: Field = field(CONTROL, 32, 16);
-pub const SUPPLY: Field = field(CONTROL, 48, 8);
-pub const PIN: Field = field(CONTROL, 56, 8);
+pub const SUPPLY: Field = field(CONTROL, 48, 16);
 
 const fn field(word: usize, low: u32, bits: u32) -> Field {
     Field { word, low, bits }
@@ -83,20 +79,9 @@ pub fn flag(place: usize) -> Field {
     field(CONTROL, 8 * place as u32, 8)
 }
 
-/// 64 bits of the protection.
+/// The bits of 64 blocks.
 pub fn protection(place: usize) -> Field {
     field(PROTECTION + place, 0, 64)
-}
-
-/// The bits of the protection, and where those of lock-down begin.
-pub const PROTECTION_BITS: usize = 64 * (BUFFER - PROTECTION);
-const LOCKED_DOWN: usize = 128;
-
-/// Whether a part uses a bit of the protection.
-pub fn uses_bit(part: Part, bit: usize) -> bool {
-    let blocks = part.blocks() as usize;
-    let down = LOCKED_DOWN..LOCKED_DOWN + blocks;
-    bit < blocks || !part.is_m58lt() && down.contains(&bit)
 }
 
 pub fn buffer_word(place: usize) -> Field {
@@ -111,7 +96,7 @@ pub fn fields() -> Vec<Field> {
         fields.extend((0..4).map(|place| number(four, place)));
     }
     fields.extend((0..4).map(flag));
-    fields.extend([CONFIGURATION, SUPPLY, PIN]);
+    fields.extend([CONFIGURATION, SUPPLY]);
     fields.extend((0..BUFFER - PROTECTION).map(protection));
     fields.extend((0..BUFFER_WORDS).map(buffer_word));
     fields
@@ -163,23 +148,13 @@ pub fn encode(device: &Device) -> Words {
     }
     CONFIGURATION.put(&mut words, u64::from(device.configuration));
     SUPPLY.put(&mut words, u64::from(device.supply));
-    PIN.put(&mut words, u64::from(device.pin));
-    put_protection(&mut words, device);
+    for (block, &unprotected) in device.unprotected.iter().enumerate() {
+        words[PROTECTION + block / 64] |= u64::from(unprotected) << (block % 64);
+    }
     for (place, &word) in device.buffer.iter().enumerate() {
         buffer_word(place).put(&mut words, u64::from(word));
     }
     words
-}
-
-/// The bits of the blocks; those that the part does not use cannot be told.
-fn put_protection(words: &mut Words, device: &Device) {
-    let set = |&(_, &bit): &(usize, &bool)| bit;
-    let unprotected = (0..).zip(&device.unprotected).filter(set);
-    let locked_down = (LOCKED_DOWN..).zip(&device.locked_down).filter(set);
-    for (bit, _) in unprotected.chain(locked_down) {
-        assert!(uses_bit(device.part, bit), "no bit of the part: {bit}");
-        words[PROTECTION + bit / 64] |= 1 << (bit % 64);
-    }
 }
 
 fn put(words: &mut Words, four: usize, values: [u32; 4]) {
@@ -215,10 +190,8 @@ fn program_words(buffer: u32, program: Program) -> [u32; 4] {
 pub fn decode(words: &[u64], counts: &EraseCounts) -> Option<Device> {
     let words: &Words = words.try_into().ok()?;
     let is = |place: usize| on(flag(place).of(words));
-    let part = Part::from_number(u32::try_from(PART.of(words)).ok()?)?;
-    let (unprotected, locked_down) = blocks(part, &words[PROTECTION..BUFFER])?;
     Some(Device {
-        part,
+        part: Part::from_number(u32::try_from(PART.of(words)).ok()?)?,
         modes: modes(words)?,
         setup: setup(four(words, SETUP))?,
         running: match four(words, RUNNING) {
@@ -241,9 +214,7 @@ pub fn decode(words: &[u64], counts: &EraseCounts) -> Option<Device> {
             sr3: is(2)?,
             sr1: is(3)?,
         },
-        unprotected,
-        locked_down,
-        pin: on(PIN.of(words))?,
+        unprotected: unprotected(&words[PROTECTION..BUFFER])?,
         configuration: CONFIGURATION.of(words) as u16,
         supply: on(SUPPLY.of(words))?,
         buffer: buffer(words),
@@ -297,21 +268,13 @@ fn program(buffer: u32, numbers: [u32; 4]) -> Option<Program> {
     }
 }
 
-/// The unprotected and the locked-down blocks; none where a bit is set that the part
-/// does not use.
-fn blocks(part: Part, words: &[u64]) -> Option<([bool; BLOCKS], [bool; BLOCKS])> {
-    let (mut unprotected, mut locked_down) = ([false; BLOCKS], [false; BLOCKS]);
-    let set = |&bit: &usize| words[bit / 64] >> (bit % 64) & 1 == 1;
-    for bit in (0..PROTECTION_BITS).filter(set) {
-        if !uses_bit(part, bit) {
-            return None;
-        }
-        match bit < part.blocks() as usize {
-            true => unprotected[bit] = true,
-            false => locked_down[bit - LOCKED_DOWN] = true,
-        }
+/// None where a bit is set for a block that there is not.
+fn unprotected(words: &[u64]) -> Option<[bool; BLOCKS]> {
+    let mut unprotected = [false; BLOCKS];
+    for (block, unprotected) in unprotected.iter_mut().enumerate() {
+        *unprotected = words[block / 64] >> (block % 64) & 1 == 1;
     }
-    Some((unprotected, locked_down))
+    (words[BLOCKS / 64] >> (BLOCKS % 64) == 0).then_some(unprotected)
 }
 
 fn buffer(words: &Words) -> [u16; BUFFER_WORDS] {
@@ -343,14 +306,14 @@ const NAMES: [&str; PROTECTION] = [
     "suspended program's data or words; buffer program's words done",
     "suspended erase, its block",
     "suspended erase's words done",
-    "SR5, SR4, SR3, SR1, configuration register, supply, pin",
+    "SR5, SR4, SR3, SR1, configuration register, supply",
 ];
 
 /// What a state word holds, for messages.
 pub fn name(word: usize) -> String {
     match word {
         0..PROTECTION => NAMES[word].to_string(),
-        PROTECTION..BUFFER => format!("protection bits from {}", 64 * (word - PROTECTION)),
+        PROTECTION..BUFFER => format!("unprotected blocks from {}", 64 * (word - PROTECTION)),
         BUFFER..STATE_WORDS => format!("buffer from place {}", 4 * (word - BUFFER)),
         _ => "past the state".to_string(),
     }

@@ -3,7 +3,7 @@
 //! status and the words are looked at.
 
 use super::Author;
-use crate::second::model::{Block, BUFFER_WORDS};
+use crate::second::model::{Block, BLOCKS, BUFFER_WORDS};
 use crate::second::steps::Step;
 
 const OFF: Step = Step::Supply(false);
@@ -12,7 +12,7 @@ const ON: Step = Step::Supply(true);
 /// Words of a block that a scene changes: so many from the first on, of which its
 /// operation has had so many units.
 #[derive(Clone, Copy)]
-pub(super) struct Words {
+struct Words {
     first: u32,
     count: u32,
     units: u32,
@@ -23,7 +23,8 @@ impl Author {
     /// suspended erase of another.
     pub(super) fn plan_supply_scene(&mut self) {
         let number = self.usual_block();
-        let other = self.other_block(number);
+        let further = 1 + self.dice.below(BLOCKS as u64 - 1) as u32;
+        let other = (number + further) % BLOCKS as u32;
         self.plan_writes(number, &[0x60, 0xD0]);
         let nested = self.dice.percent(50);
         let erased = nested.then(|| {
@@ -44,13 +45,6 @@ impl Author {
         }
     }
 
-    /// Any other block.
-    pub(super) fn other_block(&mut self, block: u32) -> u32 {
-        let blocks = self.part.blocks();
-        let further = 1 + self.dice.below(u64::from(blocks) - 1) as u32;
-        (block + further) % blocks
-    }
-
     pub(super) fn plan_writes(&mut self, block: u32, commands: &[u16]) {
         for &command in commands {
             let step = Step::Write(self.address_in(block), self.dressed(command));
@@ -62,9 +56,8 @@ impl Author {
     fn plan_drop(&mut self, block: u32, nested: bool) -> Words {
         let words = match self.dice.below(4) {
             0 if !nested => self.plan_erase(block),
-            1 | 2 if self.part.is_m58lt() => self.plan_load(block),
-            0 if self.part.is_m58lt() => self.plan_load(block),
-            _ => self.plan_program(block),
+            3 => self.plan_program(block),
+            _ => self.plan_load(block),
         };
         if self.dice.percent(55) {
             self.plan_writes(block, &[0xB0]);
@@ -103,7 +96,7 @@ impl Author {
         self.scene.push_back(status);
     }
 
-    pub(super) fn plan_program(&mut self, block: u32) -> Words {
+    fn plan_program(&mut self, block: u32) -> Words {
         let address = self.address_in(block);
         let (set_up, data) = (self.dice.pick(&[0x10, 0x40]), self.data());
         self.scene.push_back(Step::Write(address, set_up));
@@ -177,9 +170,7 @@ impl Author {
         let mut pair = |first, second| {
             cycles = vec![Step::Write(address, first), Step::Write(address, second)];
         };
-        // The M58WT032KB has no loads.
-        let kinds = if self.part.is_m58lt() { 6 } else { 3 };
-        match self.dice.below(kinds) {
+        match self.dice.below(6) {
             0 => pair(0x40, self.data()),
             1 if !nested => pair(0x20, self.dressed(0xD0)),
             2 | 1 => pair(0x60, self.dice.pick(&[0xD0, 0xD0, 0x01, 0x03])),

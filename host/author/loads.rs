@@ -2,7 +2,7 @@
 //! is.
 
 use super::Author;
-use crate::second::model::{Block, Device, Setup, ADDRESSES, BUFFER_WORDS};
+use crate::second::model::{Block, Device, Setup, ADDRESSES, BLOCKS, BUFFER_WORDS};
 use crate::second::steps::Step;
 
 /// In which order the words of a load come, after the first.
@@ -151,7 +151,7 @@ impl Author {
 
     /// In another block, often the next one.
     fn address_outside(&mut self, block: u32) -> u32 {
-        let blocks = self.part.blocks();
+        let blocks = BLOCKS as u32;
         let further = match self.dice.below(4) {
             0 => 1,
             1 => blocks - 1,

@@ -1,15 +1,15 @@
 //! Random states to begin from: well formed, or with one clause broken of what
 //! the rule of well-formed states says of the write buffer, of the configuration
-//! register, of the supply, of the erase counts and of the M58WT032KB.
+//! register, of the supply and of the erase counts.
 
 use super::{some_block, Author};
 use crate::second::model::{
-    without_reserved_bits, Device, Erase, Flags, Mode, Operation, Part, Program, Setup,
+    without_reserved_bits, Device, Erase, Flags, Mode, Operation, Program, Setup, BLOCKS,
     BUFFER_WORDS, RESERVED_BITS,
 };
 
 /// The clauses that `Author::broken` breaks.
-pub const CLAUSES: [&str; 36] = [
+pub const CLAUSES: [&str; 28] = [
     "a load beside a running operation",
     "a load beside a suspended program",
     "a load of a block that the part has not",
@@ -38,14 +38,6 @@ pub const CLAUSES: [&str; 36] = [
     "a program that runs beside a suspended erase without supply",
     "a buffer program that runs beside a suspended erase without supply",
     "an erase count in the place that the small blocks share",
-    "M58WT032KB: a load, count due",
-    "M58WT032KB: a load, first word due",
-    "M58WT032KB: a load, later word or D0h due",
-    "M58WT032KB: a buffer program that runs",
-    "M58WT032KB: a suspended buffer program",
-    "M58WT032KB: an erase count of a small block",
-    "M58WT032KB: an erase count in a row",
-    "M58WT032KB: a mode of a bank from 8 on",
 ];
 
 /// The first of those that say that something runs without supply.
@@ -53,18 +45,6 @@ pub const SUPPLY_CLAUSES: usize = 22;
 
 /// The one of the erase counts (document 02, item 6).
 pub const SHARED_CLAUSE: usize = 27;
-
-/// The first of those of the M58WT032KB (document 02, item 8).
-pub const WT_CLAUSES: usize = 28;
-
-/// Whether a device of the part can break a clause and be well formed but for it.
-pub fn applies(part: Part, clause: usize) -> bool {
-    match clause {
-        0..=15 | 17 | 23 | 26 => part.is_m58lt(), // of loads and buffer programs
-        WT_CLAUSES.. => !part.is_m58lt(),
-        _ => true,
-    }
-}
 
 /// Numbers of words that the buffer has not.
 const TOO_MANY: [u32; 5] = [33, 34, 64, 1 << 16, u32::MAX];
@@ -88,10 +68,7 @@ impl Author {
         };
         match scene {
             0 | 5 => {
-                let load = match self.part.is_m58lt() {
-                    true => self.load(),
-                    false => Setup::Lock,
-                };
+                let load = self.load();
                 device.setup = Some(self.dice.pick(&[Setup::Program, Setup::Lock, load, load]));
             }
             1 => device.setup = Some(Setup::Erase),
@@ -115,7 +92,6 @@ impl Author {
             16..18 => device = self.break_spare(clause - 16, device),
             18..SUPPLY_CLAUSES => return self.break_register(clause - 18),
             SHARED_CLAUSE => return self.break_counts(),
-            WT_CLAUSES.. => return self.break_wt(clause - WT_CLAUSES),
             _ => return self.break_supply(clause - SUPPLY_CLAUSES),
         }
         if clause < 16 {
@@ -129,42 +105,8 @@ impl Author {
     /// Any device but for the shared place, which is not 0.
     fn break_counts(&mut self) -> Device {
         let mut device = self.device();
-        device.counts.main[0][0] = self.some_count();
-        device
-    }
-
-    /// A count that is not 0.
-    fn some_count(&mut self) -> u16 {
         let other = 1 + self.dice.below(65_535) as u16;
-        self.dice.pick(&[1, 0x0100, 0x8000, 65_535, other])
-    }
-
-    /// "a load, a buffer program or a count not 0 is refused 2" (document 02, item 8),
-    /// and so are modes of banks that the M58WT032KB has not; all else is well formed.
-    fn break_wt(&mut self, clause: usize) -> Device {
-        let mut device = match clause {
-            0..5 => self.idle_device(),
-            _ => self.device(),
-        };
-        let (start, words) = self.range();
-        let (due, block) = (self.dice.below(u64::from(words)) as u32, self.usual_block());
-        match clause {
-            0 => device.setup = Some(Setup::LoadCount { block }),
-            1 => device.setup = Some(Setup::LoadFirst { block, words }),
-            2 => device.setup = Some(load_next(start, words, due)),
-            3 => device.running = Some(Operation::Program(buffer_program(start, words, due))),
-            4 => device.suspended_program = Some(buffer_program(start, words, due)),
-            5 => device.counts.small[self.dice.index(4)] = self.some_count(),
-            6 => device.counts.main[self.dice.index(16)][self.dice.index(16)] = self.some_count(),
-            _ => {
-                let modes = [Mode::Status, Mode::Signature, Mode::Query];
-                device.modes[8 + self.dice.index(8)] = self.dice.pick(&modes);
-            }
-        }
-        if clause < 5 {
-            self.fill_buffer(&mut device);
-        }
-        supply_what_runs(&mut device);
+        device.counts.main[0][0] = self.dice.pick(&[1, 0x0100, 0x8000, 65_535, other]);
         device
     }
 
@@ -205,8 +147,7 @@ impl Author {
 
     fn break_load(&mut self, clause: usize, device: &mut Device) {
         let (start, words) = self.range();
-        let blocks = self.part.blocks();
-        let block = self.dice.pick(&[blocks, blocks + 1, 1 << 16, u32::MAX]);
+        let block = self.dice.pick(&[BLOCKS as u32, 260, 1 << 16, u32::MAX]);
         let (edge, long) = self.range_over_an_edge();
         let past = self.start_past_array(words);
         let many = self.dice.pick(&TOO_MANY);
@@ -216,7 +157,7 @@ impl Author {
             (3, true) => self.load_first_due(0),
             (3, false) => load_next(start, 0, 0),
             (4, true) => self.load_first_due(many),
-            (4, false) => load_next(self.far_start(), many, 0),
+            (4, false) => load_next(self.block(200).start, many, 0),
             (5, _) => load_next(edge, long, 0),
             (6, _) => load_next(past, words, 0),
             (7, true) => load_next(start, words, words),
@@ -237,7 +178,7 @@ impl Author {
         let many = self.dice.pick(&TOO_MANY);
         let program = match (clause, self.dice.percent(50)) {
             (2, _) => buffer_program(start, 0, 0),
-            (3, _) => buffer_program(self.far_start(), many, done),
+            (3, _) => buffer_program(self.block(200).start, many, done),
             (4, _) => buffer_program(edge, long, done % long),
             (5, _) => buffer_program(self.start_past_array(words), words, done),
             (6, true) => buffer_program(start, words, words),
@@ -267,16 +208,15 @@ impl Author {
             0 => 0,
             _ => 1 + self.dice.below(BUFFER_WORDS as u64 - 1) as u32,
         };
-        let start = self.far_start();
+        let start = self.block(200).start;
         let word = Program::Word {
             location: start,
             data: 0,
         };
-        let loads = self.part.is_m58lt();
         match (words, self.dice.below(4)) {
-            (0, 0) if loads => device.setup = Some(self.load_first_due(32)),
+            (0, 0) => device.setup = Some(self.load_first_due(32)),
             (0, 1) => device.running = Some(Operation::Program(word)),
-            (0, 2) if loads => device.setup = Some(Setup::LoadCount { block: 200 }),
+            (0, 2) => device.setup = Some(Setup::LoadCount { block: 200 }),
             (0, _) => {}
             (_, 0) => device.setup = Some(load_next(start, words, 0)),
             (_, 1) => device.setup = Some(load_next(start, words, words - 1)),
@@ -295,7 +235,7 @@ impl Author {
         let mut device = Device::power_up(self.part.number());
         let dice = &mut self.dice;
         let modes = [Mode::Array, Mode::Status, Mode::Signature, Mode::Query];
-        for mode in &mut device.modes[..self.part.banks() as usize] {
+        for mode in &mut device.modes {
             *mode = dice.pick(&modes);
         }
         device.flags = Flags {
@@ -304,18 +244,10 @@ impl Author {
             sr3: dice.percent(50),
             sr1: dice.percent(50),
         };
-        let blocks = self.part.blocks() as usize;
         let density = dice.pick(&[0, 3, 50, 100]);
-        for unprotected in &mut device.unprotected[..blocks] {
+        for unprotected in &mut device.unprotected {
             *unprotected = dice.percent(density);
         }
-        if !self.part.is_m58lt() {
-            let density = dice.pick(&[0, 3, 50, 100]);
-            for down in &mut device.locked_down[..blocks] {
-                *down = dice.percent(density);
-            }
-        }
-        device.pin = dice.percent(50);
         // Else every step would be refused.
         device.configuration = without_reserved_bits(dice.next() as u16);
         device.supply = dice.percent(60);
@@ -349,14 +281,8 @@ impl Author {
         }
     }
 
-    /// Where a main block begins, in which there is room for more words than the buffer
-    /// has.
-    fn far_start(&self) -> u32 {
-        self.block(self.part.blocks() * 3 / 4).start
-    }
-
     fn program(&mut self) -> Program {
-        if self.part.is_m58lt() && self.dice.percent(50) {
+        if self.dice.percent(50) {
             let (start, words) = self.range();
             let done = match self.dice.below(3) {
                 0 => 0,
@@ -450,7 +376,7 @@ impl Author {
         if self.dice.percent(70) {
             self.dice.pick(&self.favoured)
         } else {
-            some_block(&mut self.dice, self.part)
+            some_block(&mut self.dice)
         }
     }
 }

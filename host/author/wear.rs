@@ -37,11 +37,8 @@ pub fn counts_by(mut count: impl FnMut(u32) -> u16) -> EraseCounts {
 
 impl Author {
     /// Counts to begin from, often at the limit or just below it for the blocks that the
-    /// list keeps coming back to and for the erase under way; none for the M58WT032KB.
+    /// list keeps coming back to and for the erase under way.
     pub(super) fn erase_counts(&mut self, device: &Device) -> EraseCounts {
-        if !self.part.is_m58lt() {
-            return EraseCounts::none();
-        }
         let style = self.dice.below(6);
         let same = self.dice.next() as u16;
         let mut counts = counts_by(|_| match style {
@@ -68,11 +65,8 @@ impl Author {
     pub(super) fn plan_wear_scene(&mut self) {
         let number = match self.dice.below(3) {
             0 => self.usual_block(),
-            _ => self.dice.below(u64::from(self.part.blocks())) as u32, // so that each block has its turn
+            _ => self.dice.below(BLOCKS as u64) as u32, // so that each block has its turn
         };
-        if !self.part.is_m58lt() && self.dice.percent(70) {
-            self.scene.push_back(Step::Pin(true)); // else a locked-down block is not erased
-        }
         self.plan_writes(number, &[0x60, 0xD0]);
         for _ in 0..self.dice.pick(&[1, 1, 1, 2, 3]) {
             let left = self.plan_suspends(number);
@@ -97,7 +91,8 @@ impl Author {
             self.plan_work(units);
             self.plan_writes(number, &[0xB0]);
             if self.dice.percent(40) {
-                let other = self.other_block(number);
+                let further = 1 + self.dice.below(BLOCKS as u64 - 1) as u32;
+                let other = (number + further) % BLOCKS as u32;
                 let data = self.data();
                 self.plan_writes(other, &[0x60, 0xD0, 0x40]);
                 let address = self.address_in(other);

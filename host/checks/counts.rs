@@ -14,19 +14,13 @@ use crate::wear::Lent;
 /// Where a count stops.
 const LIMIT: u16 = 65_535;
 
-/// Counts to hand in: none, each another, and all at the limit or just below it; none
-/// alone for the M58WT032KB, where they are not counted.
-pub fn varied(part: Part) -> [fn() -> EraseCounts; 4] {
-    if !part.is_m58lt() {
-        return [EraseCounts::none; 4];
-    }
-    [
-        EraseCounts::none,
-        numbered,
-        || counts_by(|_| LIMIT),
-        || counts_by(|_| LIMIT - 1),
-    ]
-}
+/// Counts to hand in: none, each another, and all at the limit or just below it.
+pub const VARIED: [fn() -> EraseCounts; 4] = [
+    EraseCounts::none,
+    numbered,
+    || counts_by(|_| LIMIT),
+    || counts_by(|_| LIMIT - 1),
+];
 
 /// A count for each block that no other block has.
 pub fn numbered() -> EraseCounts {
@@ -51,13 +45,9 @@ pub fn same_lent(check: &str, due: Option<&EraseCounts>, lent: &Lent) -> Checked
 
 /// Devices of every shape, each with numbers that the shared place may wrongly hold; all
 /// else is well formed. On a full part, whose array takes long to compare, one number for
-/// each shape. On the M58WT032KB "a count not 0 is refused 2" (document 02, item 8),
-/// whichever it is.
+/// each shape.
 pub fn malformed(part: Part) -> Vec<(String, Words, EraseCounts)> {
     let mut states = Vec::new();
-    if !part.is_m58lt() {
-        states.extend(all_places(part));
-    }
     let numbers: Vec<u16> = (0..16)
         .map(|bit| 1 << bit)
         .chain([3, 0x00FF, 0xFF00, LIMIT])
@@ -67,7 +57,7 @@ pub fn malformed(part: Part) -> Vec<(String, Words, EraseCounts)> {
             if part.unit() > 64 && number != shape % numbers.len() {
                 continue;
             }
-            let mut counts = varied(part)[(number + shape) % 4]();
+            let mut counts = VARIED[(number + shape) % VARIED.len()]();
             counts.main[0][0] = shared;
             let name = format!("shared place {shared}, shape {shape}");
             states.push((name, state::encode(&device), counts));
@@ -76,47 +66,8 @@ pub fn malformed(part: Part) -> Vec<(String, Words, EraseCounts)> {
     states
 }
 
-/// Each of the 260 places alone, beside a device of the M58WT032KB that is well formed.
-fn all_places(part: Part) -> Vec<(String, Words, EraseCounts)> {
-    let words = state::encode(&super::busy_device(part));
-    let small = (0..4).map(|place| {
-        let mut counts = EraseCounts::none();
-        counts.small[place] = 1 << place;
-        (format!("count of small block {place}"), words, counts)
-    });
-    let main = (0..256).map(|place| {
-        let mut counts = EraseCounts::none();
-        counts.main[place / 16][place % 16] = 1 << (place % 16);
-        (format!("count in place {place} of the rows"), words, counts)
-    });
-    small.chain(main).collect()
-}
-
 /// All of it; gives how many counts were handed in.
 pub fn check_counts(pair: &mut Pair) -> Result<u64, Failure> {
-    match pair.part().is_m58lt() {
-        true => check_counted(pair),
-        false => check_not_counted(pair),
-    }
-}
-
-/// Erases of the M58WT032KB: their counts stay 0.
-fn check_not_counted(pair: &mut Pair) -> Result<u64, Failure> {
-    let part = pair.part();
-    let mut tried = 0;
-    for block in 0..part.blocks() {
-        for steps in last_word(part, block) {
-            tried += 1;
-            finish(pair, block, EraseCounts::none(), &steps).map_err(|difference| Failure {
-                check: format!("last word of block {block}, not counted"),
-                difference,
-            })?;
-        }
-    }
-    Ok(tried)
-}
-
-fn check_counted(pair: &mut Pair) -> Result<u64, Failure> {
     let mut tried = 0;
     let part = pair.part().number();
     let mut failed = |what: String, tried_one: Result<(), Difference>| {
@@ -128,11 +79,9 @@ fn check_counted(pair: &mut Pair) -> Result<u64, Failure> {
     };
     for block in 0..BLOCKS as u32 {
         for count in [0, 1, 255, 256, LIMIT - 1, LIMIT] {
-            let mut counts = numbered();
-            set_count(&mut counts, block, count);
             for steps in last_word(pair.part(), block) {
                 let what = format!("last word of block {block} with count {count}");
-                failed(what, finish(pair, block, counts, &steps))?;
+                failed(what, finish(pair, block, count, &steps))?;
             }
             failed(format!("count {count} of block {block} alone"), {
                 let mut counts = EraseCounts::none();
@@ -170,13 +119,8 @@ fn last_word(part: Part, block: u32) -> Vec<Vec<u64>> {
         .to_vec()
 }
 
-/// An erase of which the last word is due, from such counts.
-fn finish(
-    pair: &mut Pair,
-    block: u32,
-    counts: EraseCounts,
-    steps: &[u64],
-) -> Result<(), Difference> {
+/// An erase of which the last word is due, from a count of its own among others.
+fn finish(pair: &mut Pair, block: u32, count: u16, steps: &[u64]) -> Result<(), Difference> {
     let size = pair.part().block(block).expect("a block of the part").size;
     let device = Device {
         running: Some(Operation::Erase(Erase {
@@ -186,6 +130,8 @@ fn finish(
         supply: true,
         ..Device::power_up(pair.part().number())
     };
+    let mut counts = numbered();
+    set_count(&mut counts, block, count);
     let words = state::encode(&device);
     let length = pair.part().array_length();
     probe_with(pair, steps, (&words, &counts), length, false)

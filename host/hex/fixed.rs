@@ -40,7 +40,7 @@ const EVERY_PAIR: &str = "fixed: every two characters";
 const LONG_LINES: &str = "fixed: long lines";
 const MANY_LINES: &str = "fixed: many lines";
 const WRONG_ARRAY: &str = "fixed: array of another length";
-const WRONG_PART: &str = "fixed: part above 4";
+const WRONG_PART: &str = "fixed: part above 3";
 const NO_TEXT: &str = "fixed: no text";
 
 type Checked = Result<(), String>;
@@ -56,13 +56,12 @@ const SHORT: &[&[u8]] = &[
 /// Texts for calls that are refused before any of the text.
 const CALLS: [&[u8]; 5] = [b"", b":00000001FF\n", SHORT[0], b"x", b":02FFFF00AABB9B\n"];
 
-/// The words of a bench part's array, of a full part's and of the M58WT032KB's.
+/// The words of a bench part's array, and of a full part's.
 const BENCH: usize = 16_384;
 const FULL: usize = 16_777_216;
-const WT: usize = 2_097_152;
 
-/// Numbers above 4; the lower bits of some are a part's.
-const NO_PARTS: [u32; 9] = [5, 6, 7, 255, 258, 260, 65_538, 1 << 31, u32::MAX];
+/// Numbers above 3; the lower bits of some are a part's.
+const NO_PARTS: [u32; 8] = [4, 5, 7, 255, 258, 65_538, 1 << 31, u32::MAX];
 
 /// All of them on one part.
 pub fn check(pair: &mut Pair) -> Checked {
@@ -292,7 +291,6 @@ pub fn check_calls(tally: &mut Tally) -> Checked {
             2 * words,
             BENCH,
             FULL,
-            WT,
         ];
         for other in others.into_iter().filter(|&other| other != words) {
             // Memory of a full part's length costs more than the call.
@@ -309,7 +307,7 @@ pub fn check_calls(tally: &mut Tally) -> Checked {
             }
         }
     }
-    refused_call(tally, WRONG_PART, (5, FULL), CALLS[1])?;
+    refused_call(tally, WRONG_PART, (4, FULL), CALLS[1])?;
     check_nothing(tally)
 }
 
@@ -317,7 +315,7 @@ pub fn check_calls(tally: &mut Tally) -> Checked {
 fn check_nothing(tally: &mut Tally) -> Checked {
     use super::library;
     use crate::second::hex;
-    for part in 0..7 {
+    for part in 0..6 {
         let due = hex::scan(part, b"", 0).0;
         let given = [
             library::read_borrowed(part, None, None),
@@ -329,7 +327,7 @@ fn check_nothing(tally: &mut Tally) -> Checked {
                 library::text(given[0])
             ));
         }
-        let kind = if part < 5 { WRONG_ARRAY } else { WRONG_PART };
+        let kind = if part < 4 { WRONG_ARRAY } else { WRONG_PART };
         tally.text(kind, due);
     }
     for part in [2, 3] {

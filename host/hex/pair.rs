@@ -8,13 +8,7 @@ use super::texts::Random;
 use crate::second::geometry::Part;
 use crate::second::hex::{self, Answer, Named};
 
-pub const PART_NAMES: [&str; 5] = [
-    "full bottom",
-    "full top",
-    "bench bottom",
-    "bench top",
-    "M58WT032KB",
-];
+pub const PART_NAMES: [&str; 4] = ["full bottom", "full top", "bench bottom", "bench top"];
 
 /// Words kept on both sides of an array, so that a write outside is seen.
 const MARGIN: usize = 16;
@@ -22,8 +16,8 @@ const MARGIN: usize = 16;
 /// The most that is printed of a text.
 const PRINTED: usize = 3_000;
 
-/// How much of the arrays is compared after a text that a full part or the M58WT032KB
-/// reads; on a bench part it is always all.
+/// How much of the arrays is compared after a text that a full part reads; on a
+/// bench part it is always all.
 #[derive(Clone, Copy, PartialEq)]
 pub enum Compare {
     Whole,
@@ -59,10 +53,6 @@ impl Pair {
 
     pub fn part(&self) -> Part {
         self.part
-    }
-
-    pub fn is_bench(&self) -> bool {
-        self.part.unit() == 64
     }
 
     /// New words to begin with: random, or now and then all the same.
@@ -110,7 +100,7 @@ impl Pair {
 
     /// The first word that differs, if any.
     fn difference(&mut self, named: &Named, compare: Compare) -> Option<String> {
-        let place = if compare == Compare::Whole || self.is_bench() {
+        let place = if compare == Compare::Whole || self.bytes() < 65_536 {
             self.tally.words += self.part.array_length() as u64;
             if self.library == self.second {
                 return None;

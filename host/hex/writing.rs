@@ -19,7 +19,6 @@ const DAMAGED: &str = "written: damaged at its end";
 /// The bytes of the text that is written of a part.
 const FULL_TEXT: usize = 92_282_892;
 const BENCH_TEXT: usize = 90_140;
-const WT_TEXT: usize = 11_535_372;
 
 /// Bytes kept on both sides of the text, so that a write outside is seen.
 const MARGIN: usize = 64;
@@ -50,18 +49,14 @@ pub fn check_bench(pair: &mut Pair, random: &mut Random, arrays: usize) -> Check
     Ok(())
 }
 
-/// An array of a full part or of the M58WT032KB, by its number with too little room and
-/// no room, with all that it needs or more, and with one of the damages at the text's end.
-pub fn check_long(pair: &mut Pair, random: &mut Random, number: usize) -> Checked {
+/// An array of a full part, by its number with too little room and no room, with
+/// all that it needs or more, and with one of the damages at the text's end.
+pub fn check_full(pair: &mut Pair, random: &mut Random, number: usize) -> Checked {
     let words = pair.part().array_length();
     let array = array(random, number, words);
-    let needed = match pair.part() {
-        Part::Wt032kb => WT_TEXT,
-        _ => FULL_TEXT,
-    };
-    let (short, enough) = [(1, 0), (needed, 1), (44, 100)][number % 3];
-    write(pair, &array, needed - short)?;
-    let mut text = write(pair, &array, needed + enough)?;
+    let (short, enough) = [(1, 0), (FULL_TEXT, 1), (44, 100)][number % 3];
+    write(pair, &array, FULL_TEXT - short)?;
+    let mut text = write(pair, &array, FULL_TEXT + enough)?;
     read_back(pair, &array, &text)?;
     damaged(pair, &mut text, ENDS[number % 3])
 }
@@ -193,12 +188,12 @@ pub fn check_calls(tally: &mut Tally) -> Checked {
             }
         }
     }
-    for part in [5, 6, 7, 255, 256, 258, 260, 65_538, 1 << 31, u32::MAX] {
+    for part in [4, 5, 6, 255, 256, 258, 65_538, 1 << 31, u32::MAX] {
         for words in [0, 1, bench] {
             refused_call(tally, part, words)?;
         }
     }
-    for part in 0..7 {
+    for part in 0..6 {
         let due = hex::write(part, &[], &mut []);
         let given = library::write_borrowed(part, None, None);
         if given != library::number(due) {

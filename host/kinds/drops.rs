@@ -263,7 +263,6 @@ pub fn note_refused(reached: &mut Reached, step: Step, device: &Device) {
         Step::Supply(false) => Kind::RefusedOff,
         Step::Supply(true) => Kind::RefusedOn,
         Step::Reset => Kind::RefusedReset,
-        Step::Pin(_) => Kind::RefusedPin,
     });
 }
 

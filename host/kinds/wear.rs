@@ -62,10 +62,6 @@ impl Wear {
         count: u32,
         after: &Device,
     ) {
-        // Erases of the M58WT032KB are not counted: locks.rs has them.
-        if !after.part.is_m58lt() {
-            return;
-        }
         let number = erase.block as usize;
         let small = number < 4;
         let lacking = lacking(erase, after);
@@ -144,7 +140,7 @@ pub fn note_reports(reached: &mut Reached, device: &Device) {
         reached.add(Kind::WornNone);
         return;
     }
-    let mut others = worn.block + 1..device.part.blocks();
+    let mut others = worn.block + 1..BLOCKS as u32;
     let tie = others.any(|block| u32::from(device.counts.of(block)) == worn.count);
     reached.add_if(tie, Kind::WornTie);
     reached.add_if(worn.block < 4, Kind::WornSmall);
@@ -175,7 +171,6 @@ pub fn note_refused(reached: &mut Reached, step: Step, refusal: u8, device: &Dev
         Step::Supply(false) => Kind::SharedOff,
         Step::Supply(true) => Kind::SharedOn,
         Step::Reset => Kind::SharedReset,
-        Step::Pin(_) => Kind::SharedPin,
     });
 }
 

@@ -4,94 +4,64 @@
 
 enum { ADDRESSES = 1 << 24, MOST_WORK = 65535, MOST_ERASES = 65535 };
 enum { WRONG_LENGTH = 1, WRONG_ADDRESS = 3, WRONG_COUNT = 4 }; /* the numbers of the refusal card */
-enum { READ, WRITE, WORK, SUPPLY, RESET, PIN };                /* the kind of a step: its number's upper 16 bits */
+enum { READ, WRITE, WORK, SUPPLY, RESET };                     /* the kind of a step: its number's upper 16 bits */
 /* The configuration register: bits 14, 5 and 4 are reserved, and its default has all others set (document 02, item 4). */
 enum { RESERVED_BITS = 1 << 14 | 1 << 5 | 1 << 4, DEFAULT_CONFIGURATION = 0xBFCF };
 enum { SR7 = 0x80, SR6 = 0x40, SR5 = 0x20, SR4 = 0x10, SR3 = 0x08, SR2 = 0x04, SR1 = 0x02, SR0 = 0x01 };
 
 /* Geometry */
 
-/* The parts by their numbers. The last one is that of document 000, Tables 7 (its code) and 31. */
-static const struct plain_part parts[] = {
-    { .top = false, .code = 0x885F, .unit_shift = 16, .bank_shift = 20, .small_shift = 2, .words = 1 << 24 },
-    { .top = true, .code = 0x885E, .unit_shift = 16, .bank_shift = 20, .small_shift = 2, .words = 1 << 24 },
-    { .top = false, .code = 0x885F, .unit_shift = 6, .bank_shift = 10, .small_shift = 2, .words = 1 << 14 },
-    { .top = true, .code = 0x885E, .unit_shift = 6, .bank_shift = 10, .small_shift = 2, .words = 1 << 14 },
-    { .lock_down = true, .code = 0x8867, .unit_shift = 15, .bank_shift = 18, .small_shift = 3, .words = 1 << 21 },
-};
+static uint32_t array_words(const struct plain *device) { return (uint32_t)256 << device->unit_shift; }
 
-static uint32_t array_words(const struct plain *device) { return device->part.words; }
+static uint32_t bank_words(const struct plain *device) { return (uint32_t)16 << device->unit_shift; }
 
-static uint32_t location_of(const struct plain *device, uint32_t address) {
-    return address & (array_words(device) - 1);
-}
+static uint32_t location_of(const struct plain *device, uint32_t address) { return address & (array_words(device) - 1); }
 
-static uint32_t small_blocks(const struct plain *device) { return (uint32_t)1 << device->part.small_shift; }
-
-/* The location counted from the end at which the small blocks lie. */
+/* The location counted from the end at which the four small blocks lie. */
 static uint32_t from_small_end(const struct plain *device, uint32_t location) {
-    return device->part.top ? array_words(device) - 1 - location : location;
+    return device->top ? array_words(device) - 1 - location : location;
 }
 
 static uint32_t block_of(const struct plain *device, uint32_t location) {
     uint32_t place = from_small_end(device, location);
-    uint32_t main_block = place >> device->part.unit_shift;
-    if (main_block == 0)
-        return place >> (device->part.unit_shift - device->part.small_shift);
-    return main_block + small_blocks(device) - 1;
+    uint32_t main_block = place >> device->unit_shift;
+    return main_block == 0 ? place >> (device->unit_shift - 2) : main_block + 3;
 }
 
-static uint32_t bank_of(const struct plain *device, uint32_t location) {
-    return from_small_end(device, location) >> device->part.bank_shift;
-}
+static uint32_t bank_of(const struct plain *device, uint32_t location) { return from_small_end(device, location) >> (device->unit_shift + 4); }
 
-static uint32_t bank_offset(const struct plain *device, uint32_t location) {
-    return location & (((uint32_t)1 << device->part.bank_shift) - 1);
-}
-
-static uint32_t block_words(const struct plain *device, uint32_t block) {
-    unsigned shift = device->part.unit_shift;
-    return (uint32_t)1 << (block < small_blocks(device) ? shift - device->part.small_shift : shift);
-}
+static uint32_t block_words(const struct plain *device, uint32_t block) { return (uint32_t)1 << (device->unit_shift - (block < 4 ? 2 : 0)); }
 
 /* The lowest location of a block. */
 static uint32_t block_start(const struct plain *device, uint32_t block) {
     uint32_t words = block_words(device, block);
-    uint32_t place = (block < small_blocks(device) ? block : block - small_blocks(device) + 1) * words;
-    return device->part.top ? array_words(device) - place - words : place;
+    uint32_t place = (block < 4 ? block : block - 3) * words;
+    return device->top ? array_words(device) - place - words : place;
 }
 
 /* State */
 
 /* All of the power-up state but the counts of erases: "Reset keeps counts; power-up starts them at 0" (document 02, item 6). */
-static void begin(struct plain *device, struct plain_part part) {
+static void begin(struct plain *device, unsigned unit_shift, bool top) {
     memset(device, 0, offsetof(struct plain, erases));
-    device->part = part;
+    device->unit_shift = unit_shift;
+    device->top = top;
     device->configuration = DEFAULT_CONFIGURATION;
     for (size_t block = 0; block < PLAIN_BLOCKS; block++)
         device->protected[block] = true;
 }
 
 void plain_power_up(struct plain *device, uint32_t part) {
-    begin(device, parts[part]);
+    begin(device, part < 2 ? 16 : 6, part % 2 == 1);
     memset(device->erases, 0, sizeof device->erases);
 }
 
 size_t plain_size(void) { return sizeof(struct plain); }
 
-/* "The pin starts low and reset keeps it" (document 02, item 8), as it keeps the supply. */
 static void reset(struct plain *device) {
-    bool supply = device->supply, pin_high = device->pin_high;
-    begin(device, device->part);
+    bool supply = device->supply;
+    begin(device, device->unit_shift, device->top);
     device->supply = supply;
-    device->pin_high = pin_high;
-}
-
-/* Lock-down counts while the pin is low (document 000, Table 16); then 01h and D0h leave the block's bit. */
-static bool held(const struct plain *device, uint32_t block) { return device->locked_down[block] && !device->pin_high; }
-
-static bool programmable(const struct plain *device, uint32_t block) {
-    return !device->protected[block] && !held(device, block);
 }
 
 /* The bank of what runs; something must run. */
@@ -118,25 +88,20 @@ static uint16_t status_word(const struct plain *device, uint32_t bank) {
     return word;
 }
 
-/* DQ1 is lock-down, DQ0 protection (document 000, Table 16); a held block shows both, whatever its bit is. */
-static uint16_t protection_word(const struct plain *device, uint32_t block) {
-    return (uint16_t)((device->locked_down[block] ? 2 : 0) | (programmable(device, block) ? 0 : 1));
-}
-
 static uint16_t signature_word(const struct plain *device, uint32_t location) {
     uint32_t block = block_of(device, location);
     if ((location & (block_words(device, block) - 1)) == 2)
-        return protection_word(device, block);
-    switch (bank_offset(device, location)) {
+        return device->protected[block] ? 1 : 0;
+    switch (location & (bank_words(device) - 1)) {
     case 0: return 0x0020;
-    case 1: return device->part.code;
+    case 1: return device->top ? 0x885E : 0x885F;
     case 5: return device->configuration;
     default: return 0;
     }
 }
 
 static uint16_t query_word(const struct plain *device, uint32_t location) {
-    switch (bank_offset(device, location)) {
+    switch (location & (bank_words(device) - 1)) {
     case 0x10: return 0x51;
     case 0x11: return 0x52;
     case 0x12: return 0x59;
@@ -164,7 +129,7 @@ static uint16_t read_word(const struct plain *device, uint32_t location, const u
 static void accept_program(struct plain *device, enum plain_operation program, uint32_t block) {
     if (!device->supply) {
         device->flags |= SR4 | SR3;
-    } else if (!programmable(device, block)) {
+    } else if (device->protected[block]) {
         device->flags |= SR4 | SR1;
     } else if (device->erase_suspended && device->erase.block == block) {
         device->flags |= SR4;
@@ -185,7 +150,7 @@ static void erase_second(struct plain *device, uint32_t location, uint8_t comman
         device->flags |= SR5 | SR4;
     } else if (!device->supply) {
         device->flags |= SR5 | SR3;
-    } else if (!programmable(device, block)) {
+    } else if (device->protected[block]) {
         device->flags |= SR5 | SR1;
     } else {
         device->running = PLAIN_ERASE;
@@ -194,28 +159,11 @@ static void erase_second(struct plain *device, uint32_t location, uint8_t comman
     }
 }
 
-/* 01h and D0h: "leave a locked-down block's bit while the pin is low" (document 02, item 8), without a flag. */
-static void protect(struct plain *device, uint32_t block, bool protected) {
-    if (!held(device, block))
-        device->protected[block] = protected;
-}
-
-/* "2Fh also sets the lock bit" (document 02, item 8), whatever the pin is; a wrong code on M58LT. */
-static void lock_down(struct plain *device, uint32_t block) {
-    if (!device->part.lock_down) {
-        device->flags |= SR5 | SR4;
-        return;
-    }
-    device->locked_down[block] = true;
-    device->protected[block] = true;
-}
-
 static void lock_second(struct plain *device, uint32_t address, uint8_t command) {
     uint32_t block = block_of(device, location_of(device, address));
     switch (command) {
-    case 0x01: protect(device, block, true); break;
-    case 0xD0: protect(device, block, false); break;
-    case 0x2F: lock_down(device, block); break;
+    case 0x01: device->protected[block] = true; break;
+    case 0xD0: device->protected[block] = false; break;
     /* "03h stores those bits as 0" (document 02, item 4), without a flag: of the address, and not of the location */
     case 0x03: device->configuration = (uint16_t)(address & ~(uint32_t)RESERVED_BITS); break;
     default: device->flags |= SR5 | SR4; break;
@@ -335,10 +283,7 @@ static void first_cycle(struct plain *device, uint32_t bank, uint32_t location, 
     case 0x40: set_up(device, bank, location, PLAIN_PROGRAM_SETUP); break;
     case 0x20: set_up(device, bank, location, PLAIN_ERASE_SETUP); break;
     case 0x60: set_up(device, bank, location, PLAIN_LOCK_SETUP); break;
-    case 0xE8: /* "E8h is ignored there" (document 02, item 8) */
-        if (!device->part.lock_down)
-            set_up(device, bank, location, PLAIN_LOAD_COUNT);
-        break;
+    case 0xE8: set_up(device, bank, location, PLAIN_LOAD_COUNT); break;
     default: break;
     }
 }
@@ -386,10 +331,9 @@ static uint32_t work_buffer(struct plain *device, uint32_t units, uint16_t *arra
     return now;
 }
 
-/* An erase is counted where its last word is done, and nowhere else (document 02, item 6); on the M58WT032KB it is not
- * (item 8). */
+/* An erase is counted where its last word is done, and nowhere else (document 02, item 6). */
 static void count_erase(struct plain *device, uint32_t block) {
-    if (!device->part.lock_down && device->erases[block] < MOST_ERASES)
+    if (device->erases[block] < MOST_ERASES)
         device->erases[block]++;
 }
 
@@ -448,14 +392,13 @@ static bool is_step(uint32_t kind, uint16_t data, uint32_t low) {
     case WRITE: return true;
     case READ:
     case WORK: return data == 0;
-    case SUPPLY:
-    case PIN: return data == 0 && low <= 1;
+    case SUPPLY: return data == 0 && low <= 1;
     case RESET: return data == 0 && low == 0;
     default: return false;
     }
 }
 
-/* The answer of one step; `low` is its address, count, supply or pin. */
+/* The answer of one step; `low` is its address, count or supply. */
 static uint64_t take(struct plain *device, uint32_t kind, uint16_t data, uint32_t low, uint16_t *array, size_t count) {
     if (count != array_words(device))
         return refused(WRONG_LENGTH);
@@ -474,8 +417,6 @@ static uint64_t take(struct plain *device, uint32_t kind, uint16_t data, uint32_
             return refused(WRONG_COUNT);
         return work(device, low, array);
     case SUPPLY: set_supply(device, low == 1); return 0;
-    /* looked at when something is accepted, as protection is: it ends nothing */
-    case PIN: device->pin_high = low == 1; return 0;
     default: reset(device); return 0;
     }
 }

@@ -1,5 +1,4 @@
-/* A model of the M58LT256KST/KSB and the M58WT032KB written by hand in plain C: a yardstick of speed, and one more
- * witness of what the steps answer.
+/* A model of the M58LT256KST/KSB written by hand in plain C: a yardstick of speed, and one more witness of what the steps answer.
  * It is written from documents 01 and 02 and the sheet alone: one struct, behind a pointer, and switches. Steps and answers are handed over as numbers, those of m58.h.
  *
  * A state held in a C struct is trusted: refusal 2 (state not well formed) is not tested, so a device must come from plain_power_up.
@@ -27,20 +26,10 @@ enum plain_setup {
 };
 enum plain_operation { PLAIN_NOTHING, PLAIN_PROGRAM, PLAIN_BUFFER_PROGRAM, PLAIN_ERASE };
 
-/* What a part is, once and for all. A main block has 1 << unit_shift words, a bank 1 << bank_shift; 1 << small_shift
- * small blocks lie in the place of one main block. */
-struct plain_part {
-    bool top;
-    bool lock_down; /* M58WT032KB: it has lock-down, and neither a write buffer nor counts (document 02, item 8) */
-    uint16_t code;
-    unsigned unit_shift, bank_shift, small_shift;
-    uint32_t words;
-};
-
 struct plain {
-    struct plain_part part;
+    bool top;
+    unsigned unit_shift; /* a main block has 1 << unit_shift words */
     bool supply;
-    bool pin_high; /* the write-protect pin */
     enum plain_setup setup;
     enum plain_mode mode[PLAIN_BANKS];
     uint16_t flags; /* SR5, SR4, SR3 and SR1, at their places in the status word */
@@ -66,12 +55,10 @@ struct plain {
         uint32_t done;
     } erase;
     bool protected[PLAIN_BLOCKS];
-    bool locked_down[PLAIN_BLOCKS]; /* never on M58LT */
     uint16_t erases[PLAIN_BLOCKS]; /* finished, by block number, at most 65,535; the last member, since a reset leaves it (document 02, item 6) */
 };
 
-/* Fills `device` with the power-up state of a part, 0 to 4: full bottom, full top, bench bottom, bench top,
- * M58WT032KB. */
+/* Fills `device` with the power-up state of a part, 0 to 3 (full bottom, full top, bench bottom, bench top). */
 void plain_power_up(struct plain *device, uint32_t part);
 
 /* Plays `n` steps in order and writes the answer of step i to answers[i]. Returns how many were played: all of them, or those

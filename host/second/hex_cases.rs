@@ -6,15 +6,12 @@ use super::hex::{read, write, written, Answer};
 /// Parts by document 01's numbers, and their words.
 const FULL: u32 = 0;
 const BENCH: u32 = 2;
-const WT: u32 = 4; // M58WT032KB (document 02, item 8)
 const FULL_WORDS: usize = 16_777_216;
 const BENCH_WORDS: usize = 16_384;
-const WT_WORDS: usize = 2_097_152;
 
 /// The bytes of the text that is written of a part.
 const FULL_TEXT: usize = 92_282_892;
 const BENCH_TEXT: usize = 90_140;
-const WT_TEXT: usize = 11_535_372;
 
 /// A text, the refusal and the line that are due, and the words that are no
 /// longer FFFFh after it.
@@ -27,7 +24,6 @@ pub fn selftest() -> Result<usize, String> {
         (BENCH + 1, BENCH_WORDS, [RECORDS, LINES, FAULTS, ORDER]),
         (FULL, FULL_WORDS, [FULL_RECORDS, LINES, &[], &[]]),
         (FULL + 1, FULL_WORDS, [FULL_RECORDS, &[], &[], &[]]),
-        (WT, WT_WORDS, [WT_RECORDS, &[], &[], &[]]),
     ];
     let mut cases = 0;
     for (part, words, lists) in lists {
@@ -37,7 +33,7 @@ pub fn selftest() -> Result<usize, String> {
             cases += 1;
         }
     }
-    Ok(cases + check_calls()? + check_longest()? + check_bench_text()? + check_long_texts()?)
+    Ok(cases + check_calls()? + check_longest()? + check_bench_text()? + check_full_text()?)
 }
 
 fn check_case(part: u32, array: &mut [u16], case: &Case) -> Result<(), String> {
@@ -265,45 +261,6 @@ const FULL_RECORDS: &[Case] = &[
     (":02000004FFFFFC\n:01FFFF00AA57\n:00000001FF\n", 13, 2, &[]),
 ];
 
-/// An array of 4,194,304 bytes; an address past it is refused, and not taken modulo its length.
-const WT_RECORDS: &[Case] = &[
-    (
-        ":020000040020DA\n:0100000011EE\n:00000001FF\n",
-        0,
-        3,
-        &[(0x10_0000, 0xFF11)],
-    ),
-    // the last byte of the array, and the first past it
-    (
-        ":02000004003FBB\n:01FFFF00AA57\n:00000001FF\n",
-        0,
-        3,
-        &[(0x1F_FFFF, 0xAAFF)],
-    ),
-    (
-        ":02000004003FBB\n:02FFFE00AABB9C\n:00000001FF\n",
-        0,
-        3,
-        &[(0x1F_FFFF, 0xBBAA)],
-    ),
-    (
-        ":02000004003FBB\n:02FFFF00AABB9B\n:00000001FF\n",
-        13,
-        2,
-        &[],
-    ),
-    (":020000040040BA\n:0100000011EE\n:00000001FF\n", 13, 2, &[]),
-    (":020000040040BA\n:0000000000\n:00000001FF\n", 0, 3, &[]),
-    (":020000040041B9\n:0180000011EE\n:00000001FF\n", 11, 2, &[]),
-    (":020000040041B9\n:01800000116E\n:00000001FF\n", 13, 2, &[]),
-    (":0200000401FFFA\n:01FFFF00AA57\n:00000001FF\n", 13, 2, &[]),
-    (":02000004FFFFFC\n:01FFFF00AA57\n:00000001FF\n", 13, 2, &[]),
-    // to offset 65,536, and past it
-    (":02FFFE00AABB9C\n:00000001FF\n", 0, 2, &[(0x7FFF, 0xBBAA)]),
-    (":02FFFF00AABB9B\n:00000001FF\n", 13, 1, &[]),
-    (":01800000AAD5\n:00000001FF\n", 0, 2, &[(0x4000, 0xFFAA)]),
-];
-
 /// Refusals 1 and 7, before any of the text.
 fn check_calls() -> Result<usize, String> {
     let texts = ["", "x", ":00000001FF\n", ":0100000011EE\n:00000001FF\n"];
@@ -313,15 +270,8 @@ fn check_calls() -> Result<usize, String> {
         (2, BENCH_WORDS - 1, 1),
         (3, BENCH_WORDS + 1, 1),
         (3, 0, 1),
-        (4, BENCH_WORDS, 1),
-        (4, 0, 1),
-        (4, WT_WORDS - 1, 1),
-        (4, WT_WORDS + 1, 1),
-        (0, WT_WORDS, 1),
-        (2, WT_WORDS, 1),
-        (5, BENCH_WORDS, 7),
-        (5, WT_WORDS, 7),
-        (5, 0, 7),
+        (4, BENCH_WORDS, 7),
+        (4, 0, 7),
         (u32::MAX, BENCH_WORDS, 7),
     ];
     for (part, words, refusal) in calls {
@@ -385,45 +335,18 @@ fn check_bench_text() -> Result<usize, String> {
     Ok(4)
 }
 
-/// The length of a full part's text and of an M58WT032KB's, the latter with 64 records of type 04, and
-/// the second and the last 04 record of each.
-fn check_long_texts() -> Result<usize, String> {
-    let texts = [
-        (FULL_WORDS, FULL_TEXT, b":0200000401FFFA\n"),
-        (WT_WORDS, WT_TEXT, b":02000004003FBB\n"),
-    ];
-    for (words, bytes, last) in texts {
-        let text = written(&vec![0; words]);
-        same("bytes of a text", text.len(), bytes)?;
-        let part = 16 + 4096 * 44; // a 04 record and 4,096 records of 16 bytes
-        let end = bytes - 12;
-        same("04", &text[part..part + 16], b":020000040001F9\n")?;
-        same("04", &text[end - part..end - part + 16], last)?;
-        same("the end", &text[end..], b":00000001FF\n")?;
-        let records = text.split(|&byte| byte == b'\n');
-        let upper = records.filter(|record| record.starts_with(b":02000004"));
-        same("04 records", upper.count(), words / 32_768)?;
-    }
-    check_wt_text().map(|cases| texts.len() + cases)
-}
-
-/// Words of an M58WT032KB, written and read back, and the room that their text needs.
-fn check_wt_text() -> Result<usize, String> {
-    let array: Vec<u16> = (0..WT_WORDS as u32)
-        .map(|place| (place.wrapping_mul(0x9E37_79B1) >> 16) as u16)
-        .collect();
-    let mut text = vec![b'x'; WT_TEXT + 1];
-    let due = |refusal, number| Answer { refusal, number };
-    let short = write(WT, &array, &mut text[..WT_TEXT - 1]);
-    same("a byte too few", short, due(17, 0))?;
-    same("refused", text.iter().all(|&c| c == b'x'), true)?;
-    let given = write(WT, &array, &mut text);
-    same("a byte more", given, due(0, WT_TEXT as u64))?;
-    same("past the text", &text[WT_TEXT..], b"x")?;
-    let mut back = vec![0x5A5A; WT_WORDS];
-    // 64 records of type 04, 64 times 4,096 of type 00, the end
-    let given = read(WT, &text[..WT_TEXT], &mut back);
-    same("read back", given, due(0, 262_209))?;
-    same("words read back", back == array, true)?;
-    Ok(2)
+/// The length of a full part's text, and its second and last 04 record.
+fn check_full_text() -> Result<usize, String> {
+    let text = written(&vec![0; FULL_WORDS]);
+    same("bytes of a full part's text", text.len(), FULL_TEXT)?;
+    let part = 16 + 4096 * 44; // a 04 record and 4,096 records of 16 bytes
+    let end = FULL_TEXT - 12;
+    same("04", &text[part..part + 16], b":020000040001F9\n")?;
+    same(
+        "04",
+        &text[end - part..end - part + 16],
+        b":0200000401FFFA\n",
+    )?;
+    same("the end", &text[end..], b":00000001FF\n")?;
+    Ok(1)
 }

@@ -1,7 +1,6 @@
 //! The recorder of document 01, "The journal" (there: the clerk), with the entries of document 02,
-//! item 1, its supply drops, item 5, and its lock-down and pin, item 8; it tells the finished erases
-//! of item 6. It is told the part and the steps "but no device, array or answer"; nothing here comes
-//! from the model.
+//! item 1, and its supply drops, item 5; it tells the finished erases of item 6. It is told the part
+//! and the steps "but no device, array or answer"; nothing here comes from the model.
 
 #![allow(dead_code)] // a program that takes this module in need not use all of it
 
@@ -77,17 +76,12 @@ impl Load {
     }
 }
 
-/// "He holds supply, the open blocks, the set-up and the journal", and for "all
-/// protection commands ... and all pin steps" (document 02, item 8) the locked-down
-/// blocks and the pin.
+/// "He holds supply, the open blocks, the set-up and the journal".
 #[derive(Clone, Debug)]
 pub struct Recorder {
     part: Part,
     supply: bool,
-    /// High where true.
-    pin: bool,
     unprotected: [bool; BLOCKS],
-    locked_down: [bool; BLOCKS],
     setup: Option<Setup>,
     entries: Vec<Entry>,
     /// The places in `entries` of what runs or is suspended, at most two; kept
@@ -96,15 +90,13 @@ pub struct Recorder {
 }
 
 impl Recorder {
-    /// "He begins with supply off, no block open, no set-up and no entry", and with
-    /// the pin low. The part is 0 to 4; another number panics.
+    /// "He begins with supply off, no block open, no set-up and no entry." The
+    /// part is 0 to 3; another number panics.
     pub fn new(part: u32) -> Recorder {
         Recorder {
-            part: Part::from_number(part).expect("a part is 0 to 4"),
+            part: Part::from_number(part).expect("a part is 0 to 3"),
             supply: false,
-            pin: false,
             unprotected: [false; BLOCKS],
-            locked_down: [false; BLOCKS],
             setup: None,
             entries: Vec::new(),
             live: Vec::new(),
@@ -128,28 +120,8 @@ impl Recorder {
         self.supply
     }
 
-    /// The blocks whose lock bit is 0.
     pub fn unprotected_blocks(&self) -> &[bool; BLOCKS] {
         &self.unprotected
-    }
-
-    pub fn locked_down_blocks(&self) -> &[bool; BLOCKS] {
-        &self.locked_down
-    }
-
-    pub fn pin(&self) -> bool {
-        self.pin
-    }
-
-    /// What the protection commands and the pin steps, "taken together, had left"
-    /// (document 02, item 8) the block.
-    pub fn programmable(&self, block: u32) -> bool {
-        self.unprotected[block as usize] && !self.held(block)
-    }
-
-    /// Locked down while the pin is low: only 2Fh, a pin step or a reset reaches it.
-    fn held(&self, block: u32) -> bool {
-        self.locked_down[block as usize] && !self.pin
     }
 
     pub fn set_up_pending(&self) -> bool {
@@ -185,14 +157,10 @@ impl Recorder {
             },
             Step::Work(count) => self.work(count),
             Step::Supply(on) => self.supply_step(on),
-            // "all pin steps, those before the reset too" (document 02, item 8): it is
-            // noted for good.
-            Step::Pin(high) => self.pin = high,
             // "Reset: every block is shut, the set-up ends, what runs or is
-            // suspended is broken off." Lock-down ends, the pin stays.
+            // suspended is broken off."
             Step::Reset => {
                 self.unprotected = [false; BLOCKS];
-                self.locked_down = [false; BLOCKS];
                 self.setup = None;
                 for index in self.live.drain(..) {
                     self.entries[index].state = State::BrokenOff;
@@ -305,9 +273,8 @@ impl Recorder {
             0x10 | 0x40 if program.is_none() => self.setup = Some(Setup::Program),
             0x60 if program.is_none() => self.setup = Some(Setup::Lock),
             0x20 if self.live.is_empty() => self.setup = Some(Setup::Erase),
-            // "E8h is taken when 40h is" (document 02, item 1), and ignored on the
-            // M58WT032KB (item 8)
-            0xE8 if program.is_none() && self.part.is_m58lt() => {
+            // "E8h is taken when 40h is" (document 02, item 1)
+            0xE8 if program.is_none() => {
                 self.setup = Some(Setup::Load(Load {
                     block: self.place(address).1,
                     words: None,
@@ -323,13 +290,6 @@ impl Recorder {
     fn second_write(&mut self, setup: Setup, address: u32, data: u16) {
         let (location, block) = self.place(address);
         match (setup, data % 256) {
-            // "01h and D0h leave a locked-down block's bit while the pin is low";
-            // "2Fh also sets the lock bit" (document 02, item 8)
-            (Setup::Lock, 0xD0 | 0x01) if self.held(block) => {}
-            (Setup::Lock, 0x2F) if !self.part.is_m58lt() => {
-                self.locked_down[block as usize] = true;
-                self.unprotected[block as usize] = false;
-            }
             // "Lock: the protection commands D0h and 01h open and shut the
             // block."
             (Setup::Lock, 0xD0) => self.unprotected[block as usize] = true,
@@ -375,13 +335,13 @@ impl Recorder {
     }
 
     /// "if supply is on, the block open and no erase of it suspended, a running
-    /// entry with 0 units is added"; programmable stands for open (document 02, item 8).
+    /// entry with 0 units is added".
     fn accept(&mut self, block: u32, kind: Kind) {
         let own_erase = Kind::Erase { block };
         let erase_suspended = self
             .find(|entry| entry.kind == own_erase && entry.state == State::Suspended)
             .is_some();
-        if self.supply && self.programmable(block) && !erase_suspended {
+        if self.supply && self.unprotected[block as usize] && !erase_suspended {
             self.live.push(self.entries.len());
             self.entries.push(Entry {
                 kind,

@@ -1,7 +1,6 @@
 //! A second model of the flash chip, written from document 01 and document 02, items 1 (the write
-//! buffer), 4 (the reserved bits of the configuration register), 5 (supply drops), 6 (wear
-//! counts) and 8 (the M58WT032KB, its lock-down and the write-protect pin) alone, with sections
-//! 4.9 of source document 004 and 11 of source document 000, which those items name.
+//! buffer), 4 (the reserved bits of the configuration register), 5 (supply drops) and 6 (wear
+//! counts) alone.
 
 #![allow(dead_code)] // a program that takes this module in need not use all of it
 
@@ -106,9 +105,8 @@ pub struct Answer {
     pub refusal: u8,
 }
 
-/// "how many blocks are open and the lowest open one, 259 if none"; it "counts
-/// programmable blocks, 71 if none" (document 02, item 8). Both numbers are 0 when
-/// refused ("its number beside the answer 0").
+/// "how many blocks are open and the lowest open one, 259 if none". Both
+/// numbers are 0 when refused ("its number beside the answer 0").
 #[derive(Clone, Copy, Debug, PartialEq, Eq)]
 pub struct UnprotectedReport {
     pub count: u32,
@@ -176,10 +174,9 @@ pub struct WornReport {
     pub count: u32,
 }
 
-/// The fields of "What a device holds", the buffer, the pin and the locked-down blocks
-/// (document 02, items 1 and 8) and, "Beside the device" (item 6), the counts. Spare
-/// storage is what of the buffer holds no word of a load or of a buffer program, and
-/// the places of banks and blocks that the part has not.
+/// The fields of "What a device holds", the buffer and, "Beside the device"
+/// (document 02, item 6), the counts. Spare storage is what of the buffer holds no
+/// word of a load or of a buffer program.
 #[derive(Clone, Debug, PartialEq, Eq)]
 pub struct Device {
     pub part: Part,
@@ -189,13 +186,7 @@ pub struct Device {
     pub suspended_program: Option<Program>,
     pub suspended_erase: Option<Erase>,
     pub flags: Flags,
-    /// True where the block's lock bit (DQ0) is 0. On an M58WT032KB that alone does not
-    /// make it programmable.
     pub unprotected: [bool; BLOCKS],
-    /// The lock-down bits (DQ1).
-    pub locked_down: [bool; BLOCKS],
-    /// The level of the write-protect pin, true where it is high.
-    pub pin: bool,
     pub configuration: u16,
     pub supply: bool,
     pub buffer: [u16; BUFFER_WORDS],
@@ -219,14 +210,14 @@ pub fn lookup(part: u32, address: u32) -> (u8, u32, u32) {
 
 impl Device {
     /// "Power-up of a part". It refuses nothing, so another part number than
-    /// 0 to 4 is a mistake of the caller and panics.
+    /// 0 to 3 is a mistake of the caller and panics.
     pub fn power_up(part: u32) -> Device {
-        Device::fresh(Part::from_number(part).expect("a part is 0 to 4"))
+        Device::fresh(Part::from_number(part).expect("a part is 0 to 3"))
     }
 
     /// "supply off, every bank in array mode, nothing pending, running or
     /// suspended, flags clear, all blocks protected"; the configuration register
-    /// is no longer FFFFh (document 02, item 4). "The pin starts low" (item 8).
+    /// is no longer FFFFh (document 02, item 4).
     fn fresh(part: Part) -> Device {
         Device {
             part,
@@ -237,8 +228,6 @@ impl Device {
             suspended_erase: None,
             flags: Flags::default(),
             unprotected: [false; BLOCKS],
-            locked_down: [false; BLOCKS],
-            pin: false,
             configuration: DEFAULT_CONFIGURATION,
             supply: false,
             buffer: [0; BUFFER_WORDS],
@@ -282,7 +271,6 @@ impl Device {
             && self.spare_is_zero(program)
             && self.reserved_bits_are_zero()
             && self.shared_place_is_zero()
-            && self.family_well_formed(program)
     }
 
     /// "blocks are of the part, and an erase has done fewer words than its
@@ -351,30 +339,6 @@ impl Device {
         self.counts.main[0][0] == 0
     }
 
-    /// "On M58LT parts a well made state has no block locked down"; on the M58WT032KB
-    /// "a load, a buffer program or a count not 0 is refused 2" (document 02, item 8).
-    fn family_well_formed(&self, program: Option<Program>) -> bool {
-        if self.part.is_m58lt() {
-            return self.locked_down == [false; BLOCKS];
-        }
-        let load = self.setup.is_some_and(Setup::is_load);
-        let buffer_program = matches!(program, Some(Program::Buffer { .. }));
-        !load
-            && !buffer_program
-            && self.counts == EraseCounts::none()
-            && self.absent_places_are_zero()
-    }
-
-    /// "spare storage, if any, is zero": the banks and blocks that only larger parts
-    /// have are as after power-up.
-    fn absent_places_are_zero(&self) -> bool {
-        let (blocks, banks) = (self.part.blocks() as usize, self.part.banks() as usize);
-        let none = |bits: &[bool]| bits.iter().all(|&bit| !bit);
-        self.modes[banks..].iter().all(|&mode| mode == Mode::Array)
-            && none(&self.unprotected[blocks..])
-            && none(&self.locked_down[blocks..])
-    }
-
     /// The block in which so many words from a location on lie; none where they
     /// are no number for the buffer or lie in no block or in two.
     fn common_block(&self, start: u32, words: u32) -> Option<u32> {
@@ -405,19 +369,12 @@ impl Device {
                 self.reset();
                 0
             }
-            // Taken on every part; on M58LT parts "the pin changes nothing", as no
-            // block is locked down (document 02, item 8).
-            Step::Pin(high) => {
-                self.pin = high;
-                0
-            }
         };
         Answer { value, refusal: 0 }
     }
 
     /// "The open report gives how many blocks are open and the lowest open
-    /// one, 259 if none"; it "counts programmable blocks, 71 if none" (document 02,
-    /// item 8).
+    /// one, 259 if none."
     pub fn unprotected_report(&self) -> UnprotectedReport {
         if !self.well_formed() {
             return UnprotectedReport {
@@ -426,11 +383,15 @@ impl Device {
                 refusal: 2,
             };
         }
-        let blocks = self.part.blocks();
-        let programmable = |&block: &u32| self.programmable(block);
+        let count = self
+            .unprotected
+            .iter()
+            .filter(|&&unprotected| unprotected)
+            .count();
+        let lowest = self.unprotected.iter().position(|&unprotected| unprotected);
         UnprotectedReport {
-            count: (0..blocks).filter(programmable).count() as u32,
-            lowest: (0..blocks).find(programmable).unwrap_or(blocks),
+            count: count as u32,
+            lowest: lowest.unwrap_or(BLOCKS) as u32,
             refusal: 0,
         }
     }
@@ -439,7 +400,7 @@ impl Device {
     /// item 6): so block 0 where all counts are 0.
     pub fn most_worn(&self) -> WornReport {
         let mut worn = 0;
-        for block in 1..self.part.blocks() {
+        for block in 1..BLOCKS as u32 {
             if self.counts.of(block) > self.counts.of(worn) {
                 worn = block;
             }
@@ -482,7 +443,7 @@ impl Device {
                 }
             }
             Step::Work(count) if count > 65_535 => 4,
-            Step::Work(_) | Step::Supply(_) | Step::Reset | Step::Pin(_) => 0,
+            Step::Work(_) | Step::Supply(_) | Step::Reset => 0,
         }
     }
 
@@ -532,40 +493,17 @@ impl Device {
 
     /// "signature, 0020h at bank offset 0, 885Eh (top) or 885Fh (bottom) at
     /// bank offset 1, the configuration register at bank offset 5, and at
-    /// block offset 2" the protection; "all other offsets 0000h". "device code 8867h"
-    /// (document 02, item 8).
+    /// block offset 2 0001h protected or 0000h open; all other offsets 0000h".
     fn signature(&self, location: u32, place: Place) -> u16 {
         let block_offset = location - self.block(place.block).start;
         match location - self.bank_start(place.bank) {
             0 => 0x0020,
-            1 if !self.part.is_m58lt() => 0x8867,
             1 if self.part.is_top() => 0x885E,
             1 => 0x885F,
             5 => self.configuration,
-            _ if block_offset == 2 => self.protection(place.block),
+            _ if block_offset == 2 && !self.unprotected[place.block as usize] => 0x0001,
             _ => 0x0000,
         }
-    }
-
-    /// What block offset 2 shows: "0001h protected or 0000h open"; "0001h, 0000h, 0003h
-    /// or 0002h" (document 02, item 8), bit 1 locked down and bit 0 locked (source
-    /// document 000, Table 16). A held block "shows 0003h (H)", whatever its lock bit.
-    pub fn protection(&self, block: u32) -> u16 {
-        let locked = !self.unprotected[block as usize] || self.held(block);
-        let down = self.locked_down[block as usize];
-        2 * u16::from(down) + u16::from(locked)
-    }
-
-    /// Whether lock-down has effect on a block: "The lock-down function is dependent on
-    /// the WP input pin" (source document 000, 11.4).
-    pub fn held(&self, block: u32) -> bool {
-        self.locked_down[block as usize] && !self.pin
-    }
-
-    /// Whether a program or an erase of the block is taken (source document 000, Table
-    /// 16): open, and not held.
-    pub fn programmable(&self, block: u32) -> bool {
-        self.unprotected[block as usize] && !self.held(block)
     }
 
     /// "With a set-up pending, the next write is the second cycle".
@@ -599,9 +537,8 @@ impl Device {
             0x50 if idle => self.flags = Flags::default(),
             0x10 | 0x40 if ready => self.set_up(bank, Setup::Program),
             0x60 if ready => self.set_up(bank, Setup::Lock),
-            // "E8h is taken when 40h is, whatever the flags" (document 02, item 1);
-            // "E8h is ignored there" (item 8)
-            0xE8 if ready && self.part.is_m58lt() => self.set_up(bank, Setup::LoadCount { block }),
+            // "E8h is taken when 40h is, whatever the flags" (document 02, item 1)
+            0xE8 if ready => self.set_up(bank, Setup::LoadCount { block }),
             // "nothing running or suspended"
             0x20 if ready && self.suspended_erase.is_none() => self.set_up(bank, Setup::Erase),
             // "Anything else is ignored without a flag"
@@ -682,12 +619,12 @@ impl Device {
 
     /// A program, at its data or at the D0h of a buffer program: "supply off, set
     /// SR4 and SR3; block protected, SR4 and SR1; block of the suspended erase,
-    /// SR4 (H); else a program runs". A held block counts as protected.
+    /// SR4 (H); else a program runs".
     fn accept(&mut self, block: u32, program: Program) {
         if !self.supply {
             self.flags.sr4 = true;
             self.flags.sr3 = true;
-        } else if !self.programmable(block) {
+        } else if !self.unprotected[block as usize] {
             self.flags.sr4 = true;
             self.flags.sr1 = true;
         } else if self.erase_suspended_in(block) {
@@ -703,7 +640,7 @@ impl Device {
         } else if !self.supply {
             self.flags.sr5 = true;
             self.flags.sr3 = true;
-        } else if !self.programmable(block) {
+        } else if !self.unprotected[block as usize] {
             self.flags.sr5 = true;
             self.flags.sr1 = true;
         } else {
@@ -714,19 +651,9 @@ impl Device {
 
     /// "Supply is not looked at."
     fn lock_cycle(&mut self, block: u32, address: u32, data: u16) {
-        let number = block as usize;
         match data % 256 {
-            // "01h and D0h leave a locked-down block's bit while the pin is low"
-            // (document 02, item 8), and set no flag
-            0x01 | 0xD0 if self.held(block) => {}
-            0x01 => self.unprotected[number] = false,
-            0xD0 => self.unprotected[number] = true,
-            // "2Fh also sets the lock bit" (item 8), with any pin; on M58LT parts it
-            // is a wrong cycle
-            0x2F if !self.part.is_m58lt() => {
-                self.locked_down[number] = true;
-                self.unprotected[number] = false;
-            }
+            0x01 => self.unprotected[block as usize] = false,
+            0xD0 => self.unprotected[block as usize] = true,
             // "the address modulo 65,536": the address, not the location
             0x03 => self.configuration = without_reserved_bits((address % 65_536) as u16),
             _ => self.wrong_cycle(),
@@ -806,8 +733,7 @@ impl Device {
     }
 
     /// "An erase's unit sets the lowest word not yet done to FFFFh." The step that
-    /// does the last word has finished the erase, and counts it (document 02, item 6),
-    /// but for the M58WT032KB: "wear is not counted" (item 8).
+    /// does the last word has finished the erase, and counts it (document 02, item 6).
     fn erase_words(&mut self, array: &mut [u16], erase: Erase, count: u32) -> u16 {
         let Erase { block, done } = erase;
         let Block { start, size, .. } = self.block(block);
@@ -818,7 +744,7 @@ impl Device {
         let done = done + units;
         if done < size {
             self.running = Some(Operation::Erase(Erase { block, done }));
-        } else if self.part.is_m58lt() {
+        } else {
             self.counts.add(block);
         }
         units as u16
@@ -859,12 +785,10 @@ impl Device {
     }
 
     /// "Reset gives the power-up state but keeps the supply; the array stays." "Reset
-    /// keeps counts" (document 02, item 6). "The pin starts low and reset keeps it" (item
-    /// 8); locked-down blocks "revert to the locked state" (source document 000, 11.4).
+    /// keeps counts" (document 02, item 6).
     fn reset(&mut self) {
         *self = Device {
             supply: self.supply,
-            pin: self.pin,
             counts: self.counts,
             ..Device::fresh(self.part)
         };

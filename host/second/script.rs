@@ -55,14 +55,13 @@ fn play(device: &mut Device, array: &mut [u16], line: &[u8]) -> String {
     match step {
         Step::Read(_) => format!("{:04X}", answer.value),
         Step::Work(_) => format!("{}", answer.value),
-        Step::Write(..) | Step::Supply(_) | Step::Reset | Step::Pin(_) => "ok".to_string(),
+        Step::Write(..) | Step::Supply(_) | Step::Reset => "ok".to_string(),
     }
 }
 
 /// The step a line stands for, if it is one of the forms: "`R` and 6 hex
 /// digits; `W`, 6 digits, 4 digits; `K` and 1 to 5 decimal digits without
-/// leading zero (`K 0` is a form); `V 0` or `V 1`; `Z`", and "`L 0` or `L 1`"
-/// (document 02, item 8).
+/// leading zero (`K 0` is a form); `V 0` or `V 1`; `Z`".
 pub fn parse(line: &[u8]) -> Option<Step> {
     if line.is_empty() || line.len() > LINE_BYTES {
         return None;
@@ -71,8 +70,6 @@ pub fn parse(line: &[u8]) -> Option<Step> {
         b"Z" => Some(Step::Reset),
         b"V 0" => Some(Step::Supply(false)),
         b"V 1" => Some(Step::Supply(true)),
-        b"L 0" => Some(Step::Pin(false)),
-        b"L 1" => Some(Step::Pin(true)),
         [b'R', b' ', address @ ..] => Some(Step::Read(hex(address, 6)?)),
         [b'W', b' ', address @ .., b' ', _, _, _, _] => {
             let data = hex(&line[line.len() - 4..], 4)?;

@@ -1,9 +1,9 @@
 //! Self-test of the second model: document 01's twelve proved cases, its
 //! worked script, the refusal card, the cases of the write buffer, of the
-//! configuration register, of supply drops, of wear counts and of lock-down, and
-//! random lists of steps whose array and counts are compared with the recorder's
-//! reading. Prints one line; panics on a difference, and where the lists drop the
-//! supply, finish erases or meet lock-down too seldom.
+//! configuration register, of supply drops and of wear counts, and random lists of
+//! steps whose array and counts are compared with the recorder's reading. Prints one
+//! line; panics on a difference, and where the lists drop the supply or finish erases
+//! too seldom.
 //!
 //!     rustc -O --edition 2021 selftest.rs -o selftest
 //!     ./selftest [seed]
@@ -12,8 +12,6 @@ mod buffer_cases;
 mod configuration_cases;
 mod geometry;
 mod journal;
-mod lock_cases;
-mod lock_sheet;
 mod model;
 mod script;
 mod steps;
@@ -30,10 +28,8 @@ use steps::Step;
 
 const BENCH_LISTS: u32 = 10_000; // for each bench part
 const FULL_LISTS: u32 = 4; // for each full part
-const WT_LISTS: u32 = 80; // for the M58WT032KB
 const LEAST_DROPS: u64 = 200; // of each kind, by the supply
 const LEAST_WEAR: u64 = 200; // finished erases of each kind
-const LEAST_LOCKS: u64 = 200; // of each kind, by lock-down and the pin
 const DEFAULT_SEED: u64 = 0x5EED_F1A5_4C41_9001;
 
 fn main() {
@@ -49,7 +45,6 @@ fn main() {
     let registers = configuration_cases::check();
     let drops = supply_cases::check();
     let worn = wear_cases::check();
-    let locks = lock_cases::check();
     let states = check_malformed_states();
     check_reads();
     check_modes_and_flags();
@@ -59,8 +54,7 @@ fn main() {
     println!(
         "selftest ok: seed {seed}, {cases} proved cases, {errors} errors that look right, \
          {loads} buffer cases, {registers} configuration register cases, {drops} supply cases, \
-         {worn} wear cases, {locks} lock-down cases, {states} malformed states, {scripts} scripts, \
-         {locations} locations, {}",
+         {worn} wear cases, {states} malformed states, {scripts} scripts, {locations} locations, {}",
         tally.text()
     );
 }
@@ -78,15 +72,10 @@ fn check_lists(random: &mut Random) -> Tally {
             check_list(random, part, 100_000, &mut tally);
         }
     }
-    for _ in 0..WT_LISTS {
-        check_list(random, 4, 40_000, &mut tally);
-    }
     let rarest = tally.drops.rarest();
     assert!(rarest >= LEAST_DROPS, "{}", tally.drops.text());
     let rarest = tally.wear.rarest();
     assert!(rarest >= LEAST_WEAR, "{}", tally.wear.text());
-    let rarest = tally.locks.rarest();
-    assert!(rarest >= LEAST_LOCKS, "{}", tally.locks.text());
     tally
 }
 
@@ -180,21 +169,16 @@ impl Bench {
     }
 }
 
-/// The list of blocks against the documents' closed rules, at every location
+/// The list of blocks against the document's closed rules, at every location
 /// of every part. Gives the number of locations.
 fn check_geometry() -> u64 {
     let mut count = 0;
     for part in Part::ALL {
-        // Main-size places, small blocks in the first of them, places of a bank.
-        let (places, small, row) = match part {
-            Part::Wt032kb => (64, 8, 8),
-            _ => (256, 4, 16),
-        };
         let unit = part.unit();
-        let length = places * unit;
+        let length = 256 * unit;
         assert_eq!(part.array_length(), length as usize);
         assert_eq!(Part::from_number(part.number()), Some(part));
-        let mut words = vec![0; (places + small - 1) as usize];
+        let mut words = [0; BLOCKS];
         for location in 0..length {
             let rule = if part.is_top() {
                 length - 1 - location
@@ -202,46 +186,33 @@ fn check_geometry() -> u64 {
                 location
             };
             let block = if rule < unit {
-                rule / (unit / small)
+                rule / (unit / 4)
             } else {
-                rule / unit + small - 1
+                rule / unit + 3
             };
             let place = part.place(location).unwrap();
-            assert_eq!((place.block, place.bank), (block, rule / (row * unit)));
+            assert_eq!((place.block, place.bank), (block, rule / (16 * unit)));
             if words[block as usize] == 0 {
                 assert_eq!(part.block(block).unwrap().start, location);
             }
             words[block as usize] += 1;
         }
-        check_blocks_and_banks(part, &words, places / row, row * unit);
+        for (&size, number) in words.iter().zip(0..) {
+            let block = part.block(number).unwrap();
+            assert_eq!(block.size, size);
+            assert_eq!(part.place(block.start).unwrap().bank, block.bank);
+        }
+        for bank in 0..BANKS as u32 {
+            let row = if part.is_top() { 15 - bank } else { bank };
+            assert_eq!(part.bank_start(bank), Some(row * 16 * unit));
+        }
         assert_eq!(part.place(length), None);
         assert_eq!(part.place(u32::MAX), None);
+        assert_eq!(part.block(BLOCKS as u32), None);
+        assert_eq!(part.bank_start(BANKS as u32), None);
         count += u64::from(length);
     }
     count
-}
-
-/// The part has blocks of so many words and banks of so many words, and no more.
-fn check_blocks_and_banks(part: Part, words: &[u32], banks: u32, bank_words: u32) {
-    for (&size, number) in words.iter().zip(0..) {
-        let block = part.block(number).unwrap();
-        assert_eq!(block.size, size);
-        assert_eq!(part.place(block.start).unwrap().bank, block.bank);
-    }
-    for bank in 0..banks {
-        let row = if part.is_top() {
-            banks - 1 - bank
-        } else {
-            bank
-        };
-        assert_eq!(part.bank_start(bank), Some(row * bank_words));
-    }
-    let blocks = words.len() as u32;
-    assert_eq!((part.blocks(), part.banks()), (blocks, banks));
-    assert_eq!(part.block(blocks), None);
-    assert_eq!(part.bank_start(banks), None);
-    assert_eq!(part.block(BLOCKS as u32), None);
-    assert_eq!(part.bank_start(BANKS as u32), None);
 }
 
 /// "Table of proved cases", all twelve.
@@ -423,7 +394,6 @@ fn check_malformed_states() -> u32 {
         + configuration_cases::check_states()
         + supply_cases::check_states()
         + wear_cases::check_states()
-        + lock_cases::check_states()
 }
 
 /// All five steps and the reports refuse 2 in the first states, with supply on and
@@ -471,8 +441,6 @@ fn check_malformed(device: &Device) {
         Step::Supply(false),
         Step::Supply(true),
         Step::Reset,
-        Step::Pin(false),
-        Step::Pin(true),
     ] {
         refused(device, words, step, 2);
         refused(device, words - 1, step, 1);
@@ -602,11 +570,8 @@ fn check_refusals() {
     refused(&device, 0, Step::Supply(true), 1);
     refused(&device, 16_777_216, Step::Reset, 1);
     refused(&Device::power_up(0), 16_384, Step::Reset, 1);
-    for part in [5, 6, 255, u32::MAX] {
-        assert_eq!(lookup(part, 0), (7, 0, 0));
-        assert_eq!(lookup(part, ADDRESSES - 1), (7, 0, 0));
-        assert_eq!(lookup(part, ADDRESSES), (3, 0, 0));
-    }
+    assert_eq!(lookup(4, 0), (7, 0, 0));
+    assert_eq!(lookup(4, ADDRESSES), (3, 0, 0));
     assert_eq!(lookup(0, ADDRESSES), (3, 0, 0));
     assert_eq!(lookup(2, 0xFFFFFF), (0, 258, 15));
     assert_eq!(lookup(3, 0xFFFFFF), (0, 0, 0));
@@ -731,7 +696,6 @@ struct Tally {
     changed_words: u64,
     drops: Drops,
     wear: Wear,
-    locks: Locks,
 }
 
 /// What the supply ended in the random lists (document 02, item 5): programs,
@@ -821,7 +785,7 @@ impl Wear {
         }
         self.suspended |= after.suspended_erase.is_some();
         match (step, before.running, after.running) {
-            (Step::Work(count), Some(Operation::Erase(erase)), None) if before.part.is_m58lt() => {
+            (Step::Work(count), Some(Operation::Erase(erase)), None) => {
                 self.finished(before, after, erase, count);
             }
             _ => assert_eq!(before.counts, after.counts, "{step:?}"),
@@ -859,114 +823,11 @@ impl Wear {
     }
 }
 
-/// What the random lists came to by lock-down and the pin (document 02, item 8).
-#[derive(Default)]
-struct Locks {
-    /// 2Fh of a block that was not locked down, and of one that was.
-    down: [u64; 2],
-    /// 01h and D0h that a low pin held.
-    held: u64,
-    /// Programs and erases of a locked-down block, taken under a high pin.
-    taken: [u64; 2],
-    /// Set-ups of programs and erases that a low pin alone kept from a block.
-    kept: u64,
-    /// Pin steps that moved the open report, and those while something ran in a block
-    /// that is locked down.
-    moved: u64,
-    running: u64,
-    /// Resets with a block locked down, by the pin.
-    resets: [u64; 2],
-    /// Pin steps on M58LT parts, and 2Fh there.
-    elsewhere: [u64; 2],
-}
-
-impl Locks {
-    fn note(&mut self, before: &Device, after: &Device, step: Step) {
-        let older = !before.part.is_m58lt();
-        match step {
-            Step::Pin(_) if !older => self.elsewhere[0] += 1,
-            Step::Pin(_) => {
-                let moved = before.unprotected_report() != after.unprotected_report();
-                self.moved += u64::from(moved);
-                let runs = before.running.is_some_and(|operation| {
-                    let block = block_of(before, operation);
-                    before.locked_down[block as usize]
-                });
-                self.running += u64::from(runs);
-            }
-            Step::Reset if before.locked_down.contains(&true) => {
-                self.resets[usize::from(before.pin)] += 1;
-            }
-            Step::Write(address, data) if address < ADDRESSES => {
-                let location = before.part.location(address);
-                let block = before.part.place(location).unwrap().block;
-                self.note_second(before, after, block, data % 256);
-            }
-            _ => {}
-        }
-    }
-
-    fn note_second(&mut self, before: &Device, after: &Device, block: u32, command: u16) {
-        let down = before.locked_down[block as usize];
-        let Some(setup) = before.setup else {
-            return;
-        };
-        match (setup, command) {
-            (Setup::Lock, 0x2F) if before.part.is_m58lt() => self.elsewhere[1] += 1,
-            (Setup::Lock, 0x2F) => self.down[usize::from(down)] += 1,
-            (Setup::Lock, 0x01 | 0xD0) if down && !before.pin => self.held += 1,
-            (Setup::Program | Setup::Erase, _) if down => {
-                let taken = after.running.is_some();
-                assert!(!taken || before.pin && before.unprotected[block as usize]);
-                self.taken[usize::from(setup == Setup::Erase)] += u64::from(taken);
-                self.kept += u64::from(before.unprotected[block as usize] && !before.pin);
-            }
-            _ => {}
-        }
-    }
-
-    fn rarest(&self) -> u64 {
-        let pairs = [self.down, self.taken, self.resets, self.elsewhere].concat();
-        let others = [self.held, self.kept, self.moved, self.running];
-        pairs.into_iter().chain(others).min().unwrap_or(0)
-    }
-
-    fn text(&self) -> String {
-        format!(
-            "lock-downs: {} of other blocks, {} again, {} held commands, programs {} and erases \
-             {} taken by the pin, {} kept out by it, {} pin steps that moved the report, {} while \
-             a locked-down block was worked, {} resets under a low pin and {} under a high one; \
-             on M58LT {} pin steps and {} 2Fh",
-            self.down[0],
-            self.down[1],
-            self.held,
-            self.taken[0],
-            self.taken[1],
-            self.kept,
-            self.moved,
-            self.running,
-            self.resets[0],
-            self.resets[1],
-            self.elsewhere[0],
-            self.elsewhere[1]
-        )
-    }
-}
-
-/// The block in which an operation works.
-fn block_of(device: &Device, operation: Operation) -> u32 {
-    match operation {
-        Operation::Program(program) => device.part.place(program.start()).unwrap().block,
-        Operation::Erase(erase) => erase.block,
-    }
-}
-
 impl Tally {
     /// Counts a step by what it found and what became of it.
     fn note_step(&mut self, before: &Device, after: &Device, step: Step) {
         self.drops.note(before, after, step);
         self.wear.note(before, after, step);
-        self.locks.note(before, after, step);
         if before.suspended_program.is_some() && before.suspended_erase.is_some() {
             self.both_suspended += 1;
         }
@@ -998,7 +859,7 @@ impl Tally {
         format!(
             "{} random lists of {} steps ({} refused, {} with both suspended), {} units, \
              programs {} finished {} not, buffer programs {} finished {} not ({} loads came to \
-             none), erases {} finished {} not, {} words changed; {}; {}; {}",
+             none), erases {} finished {} not, {} words changed; {}; {}",
             self.lists,
             self.steps,
             self.refusals,
@@ -1013,8 +874,7 @@ impl Tally {
             self.unfinished_erases,
             self.changed_words,
             self.drops.text(),
-            self.wear.text(),
-            self.locks.text()
+            self.wear.text()
         )
     }
 }
@@ -1050,7 +910,6 @@ fn check_list(random: &mut Random, part: u32, longest: u32, tally: &mut Tally) {
         "the array is not the journal"
     );
     check_counts(&recorder, &device);
-    check_report(&recorder, &device);
 
     // The answers of the work steps are the journal's units.
     let noted: u64 = recorder.entries().iter().map(|e| u64::from(e.units)).sum();
@@ -1065,8 +924,6 @@ fn check_list(random: &mut Random, part: u32, longest: u32, tally: &mut Tally) {
 /// under way.
 fn check_recorder(recorder: &Recorder, device: &Device) {
     assert_eq!(device.unprotected, *recorder.unprotected_blocks());
-    assert_eq!(device.locked_down, *recorder.locked_down_blocks());
-    assert_eq!(device.pin, recorder.pin());
     assert_eq!(device.supply, recorder.supply());
     assert_eq!(device.setup.is_some(), recorder.set_up_pending());
     assert_eq!(device.running.is_some(), recorder.running().is_some());
@@ -1078,28 +935,11 @@ fn check_recorder(recorder: &Recorder, device: &Device) {
     assert_eq!(suspended, recorder.suspended());
 }
 
-/// The open report is that of the blocks that the recorder has as programmable.
-fn check_report(recorder: &Recorder, device: &Device) {
-    let blocks = device.part.blocks();
-    let programmable = |&block: &u32| recorder.programmable(block);
-    let due = UnprotectedReport {
-        count: (0..blocks).filter(programmable).count() as u32,
-        lowest: (0..blocks).find(programmable).unwrap_or(blocks),
-        refusal: 0,
-    };
-    assert_eq!(device.unprotected_report(), due);
-}
-
 /// "each count is the lesser of 65,535 and the number of finished erases of that block
-/// in the journal" (document 02, item 6); on an M58WT032KB "wear is not counted" (item 8).
+/// in the journal" (document 02, item 6).
 fn check_counts(recorder: &Recorder, device: &Device) {
-    let counted = device.part.is_m58lt();
     for block in 0..BLOCKS as u32 {
-        let due = if counted {
-            recorder.finished_erases(block).min(65_535)
-        } else {
-            0
-        };
+        let due = recorder.finished_erases(block).min(65_535);
         let report = device.erase_count(block);
         assert_eq!((report.refusal, report.block), (0, block));
         assert_eq!(u64::from(report.count), due, "block {block}");
@@ -1123,11 +963,11 @@ fn random_list(random: &mut Random, part: Part, longest: u32) -> Vec<Step> {
         .map(|_| match random.below(3) {
             0 => random.below(6),
             1 => 15 + random.below(8),
-            _ => random.below(part.blocks()),
+            _ => random.below(BLOCKS as u32),
         })
         .collect();
     let commands = [
-        0x01, 0x03, 0x10, 0x20, 0x2F, 0x40, 0x50, 0x60, 0x70, 0x90, 0x98, 0xB0, 0xD0, 0xFF,
+        0x01, 0x03, 0x10, 0x20, 0x40, 0x50, 0x60, 0x70, 0x90, 0x98, 0xB0, 0xD0, 0xFF,
     ];
     let mut list = Vec::new();
     if !random.one_in(8) {
@@ -1148,7 +988,7 @@ fn random_list(random: &mut Random, part: Part, longest: u32) -> Vec<Step> {
             0
         };
         let mut write = |command: u16| list.push(Step::Write(address, upper | command));
-        match random.below(52) {
+        match random.below(48) {
             0..=6 => {
                 write(random.pick(&[0x10, 0x40]));
                 let second = address_in(random, part, block);
@@ -1189,7 +1029,6 @@ fn random_list(random: &mut Random, part: Part, longest: u32) -> Vec<Step> {
                 list.push(Step::Supply(on));
             }
             46 | 47 => random_drop(random, address, &mut list),
-            48..=51 => random_lock(random, address, &mut list),
             39 => {
                 if random.one_in(4) {
                     list.push(Step::Reset);
@@ -1199,25 +1038,6 @@ fn random_list(random: &mut Random, part: Part, longest: u32) -> Vec<Step> {
         }
     }
     list
-}
-
-/// Lock-down and the pin: on M58LT parts a wrong cycle, and a level without effect.
-fn random_lock(random: &mut Random, address: u32, list: &mut Vec<Step>) {
-    let mut lock = |second| list.extend([0x60, second].map(|word| Step::Write(address, word)));
-    match random.below(8) {
-        0 => lock(0x2F),
-        1 => lock(random.pick(&[0x01, 0xD0, 0xAB2F])),
-        2 | 3 => {
-            list.push(Step::Pin(true));
-            list.extend([0x60, 0xD0].map(|word| Step::Write(address, word)));
-        }
-        4 => {
-            list.push(Step::Pin(true));
-            let cycles = [0x60, 0x2F, 0x60, 0xD0];
-            list.extend(cycles.map(|word| Step::Write(address, word)));
-        }
-        _ => list.push(Step::Pin(random.one_in(2))),
-    }
 }
 
 /// Supply off, whatever is pending, runs or is suspended, most often soon on again;
@@ -1284,8 +1104,8 @@ fn random_load(random: &mut Random, part: Part, block: u32, list: &mut Vec<Step>
     }
 }
 
-/// An address in a block: its lowest, its highest or any; on a part that is not a full
-/// one with any upper lines.
+/// An address in a block: its lowest, its highest or any; on a bench part with
+/// any upper lines.
 fn address_in(random: &mut Random, part: Part, number: u32) -> u32 {
     let block = part.block(number).unwrap();
     let offset = match random.below(4) {

@@ -1,10 +1,9 @@
-//! The five steps of document 01 and the sixth of document 02, item 8, shared by the
-//! device and the recorder.
+//! The five steps of document 01, shared by the device and the recorder.
 
 #![allow(dead_code)] // a program that takes this module in need not use all of it
 
 /// "Read, address", "Write, address, data", "Work, n", "Supply (VPP) on or
-/// off", "Reset"; "a write-protect pin as a sixth step", high where true.
+/// off", "Reset".
 #[derive(Clone, Copy, Debug, PartialEq, Eq)]
 pub enum Step {
     Read(u32),
@@ -12,5 +11,4 @@ pub enum Step {
     Work(u32),
     Supply(bool),
     Reset,
-    Pin(bool),
 }

@@ -554,7 +554,7 @@ fn refused_steps_cut_nothing() {
 
 /// An erase and a buffer program cut after some units, at both ends of each part.
 fn every_part() {
-    for part in Part::M58LT {
+    for part in Part::ALL {
         let mut bench = Bench::new(part.number(), 0x0F0F);
         bench.step(ON);
         for block in [0, 4, 258] {
@@ -752,7 +752,7 @@ pub fn check_states() -> u32 {
         check_malformed(&device);
         count += 1;
     }
-    for part in Part::M58LT {
+    for part in Part::ALL {
         for shape in RUNNING {
             let mut device = Device::power_up(part.number());
             shape(&mut device);

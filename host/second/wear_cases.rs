@@ -186,7 +186,7 @@ fn rows_are_banks() {
     assert_eq!(counts.main[0][0], 0);
     for block in 0..BLOCKS as u32 {
         assert_eq!(u32::from(counts.of(block)), 1000 + block);
-        for part in Part::M58LT {
+        for part in Part::ALL {
             let bank = part.block(block).unwrap().bank as usize;
             let found = counts.main[bank].contains(&(1000 + block as u16));
             assert_eq!(found, block >= 4);
@@ -241,7 +241,7 @@ fn every_block_whole() {
 /// The same of every part, the full ones too, by the last word of an erase alone, and
 /// with another count for each block.
 fn every_block_by_its_last_word() {
-    for part in Part::M58LT {
+    for part in Part::ALL {
         let mut array = vec![0x0F0F; part.array_length()];
         for block in 0..BLOCKS as u32 {
             let mut device = lacking(part, block, 1);
@@ -277,7 +277,7 @@ fn full_parts_whole() {
 
 /// Nothing is counted before the step that does the last word, and nothing after it.
 fn counted_in_the_step_of_the_last_word() {
-    for part in Part::M58LT {
+    for part in Part::ALL {
         let mut bench = Bench::new(part.number(), 0x0F0F);
         bench.step(ON);
         for block in [2, 4, 258] {
@@ -420,7 +420,7 @@ fn break_off(bench: &mut Bench, way: u32) {
 /// One word before the end, on every part: not counted, and no later step brings it
 /// back.
 fn broken_off_before_the_last_word() {
-    for part in Part::M58LT {
+    for part in Part::ALL {
         let mut bench = Bench::new(part.number(), 0x0F0F);
         for block in [0, 3, 4, 19, 258] {
             for way in 0..4 {
@@ -459,7 +459,7 @@ fn broken_off_and_erased_again() {
 
 /// "the lesser of 65,535 and the number": from 65,534 on.
 fn stops_at_the_most() {
-    for part in Part::M58LT {
+    for part in Part::ALL {
         let mut bench = Bench::new(part.number(), 0x0F0F);
         for block in [0, 3, 4, 258] {
             let mut counts = EraseCounts::none();
@@ -708,7 +708,7 @@ pub fn check_states() -> u32 {
         &|d| d.setup = Some(Setup::Erase),
     ];
     let mut count = 0;
-    for part in Part::M58LT {
+    for part in Part::ALL {
         for (other, shared) in others.iter().zip([1, 65_535, 0x100, 0x8000, 2, 1]) {
             let mut device = Device::power_up(part.number());
             other(&mut device);

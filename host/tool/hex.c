@@ -135,7 +135,7 @@ static int write_text(const struct job *job, const uint16_t *words, uint8_t *tex
 
 static int write_hex(const struct job *job)
 {
-    size_t room = job->part->text;
+    size_t room = job->part->words == M58_FULL_WORDS ? M58_HEX_FULL_BYTES : M58_HEX_BENCH_BYTES;
     if (replaceable(job->to) != DONE)
         return FAILED;
     uint16_t *words = read_image(job->from, job->part);
@@ -173,7 +173,7 @@ static int run_form(const struct form *form, char **arguments, const char *onto)
 {
     struct job job = { part_named(arguments[1]), arguments[2], NULL, onto };
     if (job.part == NULL)
-        return misused("hex", "no part (bottom, top, bench-bottom, bench-top, wt032kb): ", arguments[1]);
+        return misused("hex", "no part (bottom, top, bench-bottom, bench-top): ", arguments[1]);
     if (form->arguments == 4)
         job.to = arguments[3];
     if (*job.from == '\0' || (job.to != NULL && *job.to == '\0') || (onto != NULL && *onto == '\0'))

@@ -8,11 +8,10 @@
 #include "tool.h"
 
 static const struct part parts[M58_PARTS] = {
-    { "bottom", M58_FULL_BOTTOM, M58_FULL_WORDS, M58_HEX_FULL_BYTES },
-    { "top", M58_FULL_TOP, M58_FULL_WORDS, M58_HEX_FULL_BYTES },
-    { "bench-bottom", M58_BENCH_BOTTOM, M58_BENCH_WORDS, M58_HEX_BENCH_BYTES },
-    { "bench-top", M58_BENCH_TOP, M58_BENCH_WORDS, M58_HEX_BENCH_BYTES },
-    { "wt032kb", M58_WT032KB, M58_WT_WORDS, M58_HEX_WT_BYTES },
+    { "bottom", M58_FULL_BOTTOM, M58_FULL_WORDS },
+    { "top", M58_FULL_TOP, M58_FULL_WORDS },
+    { "bench-bottom", M58_BENCH_BOTTOM, M58_BENCH_WORDS },
+    { "bench-top", M58_BENCH_TOP, M58_BENCH_WORDS },
 };
 
 const struct part *part_named(const char *name)

@@ -1,5 +1,5 @@
 /*
- * The m58 program: works on files of the flash model by commands. ./m58
+ * The m58 program: works on files of the M58LT256K model by commands. ./m58
  * builds and runs it, and shows the help that its messages point to.
  *
  * Exit status: 0 done, 1 refused or not read or written, 2 wrong usage.

@@ -73,7 +73,6 @@ struct part {
     const char *name;
     uint32_t number;
     size_t words;
-    size_t text; /* bytes of its words as Intel HEX */
 };
 
 /* NULL where no part has that name. */

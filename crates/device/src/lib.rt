@@ -1,7 +1,7 @@
-// The device: one method for each of the six steps, each of which takes the device by value, with the borrowed array and the borrowed erase counts (crate wear), and gives back
+// The device: one method for each of the five steps, each of which takes the device by value, with the borrowed array and the borrowed erase counts (crate wear), and gives back
 // the next device with its answer. No method asks anything of its caller: what document 01's card refuses is refused with its number, the device given back, and the array and the
 // counts left.
-ghost use Rattle.std.specs.Prelude.{◌≡◌};
+ghost use Rattle.std.specs.Prelude.{List, ◌≡◌, ℕ};
 ghost use Rattle.semantics.specs.State.{power_up};
 ghost use Rattle.wear.specs.Counts.{lent, no_counts};
 ghost use Rattle.wear.specs.Steps.{formed_with, refusal_with, reported_with, most_worn_with, erase_count_with};
@@ -24,21 +24,20 @@ pub struct Outcome {
     pub answer: Answer,
 }
 
-// Whether a state and its counts are well formed.
-fn formed_with(s: State, main: &[[u16; 16]; 16], small: &[u16; 4]) -> bool
-    ensures { result ≡ formed_with s (lent main.now small.now) }
+// Whether a state and its counts are well formed, whatever the small blocks' counts are.
+fn formed_with(s: State, main: &[[u16; 16]; 16]) -> bool
+    ensures { (small : List ℕ) → result ≡ formed_with s (lent main.now small) }
 {
-    let part = s.part;
-    state::well_formed(s) & wear::counts_formed(part, main, small)
+    state::well_formed(s) & wear::shared_zero(main)
 }
 
 // What every step on them is refused for, and a reset for nothing else, beside an array of n words, 0 where for
 // nothing: 1, then 2.
-pub fn refusal_of(s: State, main: &[[u16; 16]; 16], small: &[u16; 4], n: usize) -> u32
-    ensures { result ≡ refusal_with s (lent main.now small.now) n Step.Reset }
+pub fn refusal_of(s: State, main: &[[u16; 16]; 16], n: usize) -> u32
+    ensures { (small : List ℕ) → result ≡ refusal_with s (lent main.now small) n Step.Reset }
 {
     let part = s.part;
-    state::refusal_beside(part, formed_with(s, main, small), n)
+    state::refusal_beside(part, formed_with(s, main), n)
 }
 
 // A step that is refused: nothing changes.
@@ -76,7 +75,7 @@ impl Device {
         let s = self.state;
         let part = s.part;
         let e = state::first_refusal(
-            refusal_of(s, main, small, array.len()),
+            refusal_of(s, main, array.len()),
             state::address_refusal(part, address),
         );
         if e == 0 {
@@ -103,7 +102,7 @@ impl Device {
         let s = self.state;
         let part = s.part;
         let e = state::first_refusal(
-            refusal_of(s, main, small, array.len()),
+            refusal_of(s, main, array.len()),
             state::address_refusal(part, address),
         );
         if e == 0 {
@@ -132,7 +131,7 @@ impl Device {
         let part = s.part;
         let c = s.control;
         let e = state::first_refusal(
-            refusal_of(s, main, small, array.len()),
+            refusal_of(s, main, array.len()),
             state::count_refusal(count),
         );
         if e == 0 {
@@ -144,7 +143,7 @@ impl Device {
             let b = after.activity;
             let was = a.running;
             let left = b.running;
-            wear::count_finished(part, main, small, was, left);
+            wear::count_finished(main, small, was, left);
             return Outcome {
                 device: Device { state: next },
                 answer: Answer::Units(o.units),
@@ -164,7 +163,7 @@ impl Device {
         ensures { result ≡ outcome self (lent main.now small.now) array.now (Step.Supply on) }
     {
         let s = self.state;
-        let e = state::first_refusal(refusal_of(s, main, small, array.len()), 0);
+        let e = state::first_refusal(refusal_of(s, main, array.len()), 0);
         if e == 0 {
             let c = s.control;
             let mut next = s;
@@ -178,12 +177,12 @@ impl Device {
         refused(self, e)
     }
 
-    // Reset: the power-up state, but for the supply and the pin.
+    // Reset: the power-up state, but for the supply.
     pub fn reset(self, main: &[[u16; 16]; 16], small: &[u16; 4], array: &[u16]) -> Outcome
         ensures { result ≡ outcome self (lent main.now small.now) array.now Step.Reset }
     {
         let s = self.state;
-        let e = state::first_refusal(refusal_of(s, main, small, array.len()), 0);
+        let e = state::first_refusal(refusal_of(s, main, array.len()), 0);
         if e == 0 {
             let next = state::reset(s);
             return Outcome {
@@ -194,23 +193,7 @@ impl Device {
         refused(self, e)
     }
 
-    // The write-protect pin set high or low.
-    pub fn pin(self, main: &[[u16; 16]; 16], small: &[u16; 4], array: &[u16], high: bool) -> Outcome
-        ensures { result ≡ outcome self (lent main.now small.now) array.now (Step.Pin high) }
-    {
-        let s = self.state;
-        let e = state::first_refusal(refusal_of(s, main, small, array.len()), 0);
-        if e == 0 {
-            let next = state::with_pin(s, high);
-            return Outcome {
-                device: Device { state: next },
-                answer: Answer::Done,
-            };
-        }
-        refused(self, e)
-    }
-
-    // Any of the six.
+    // Any of the five.
     pub fn step(
         self,
         main: &mut [[u16; 16]; 16],
@@ -228,20 +211,17 @@ impl Device {
             Step::Work(count) => self.work(main, small, array, count),
             Step::Supply(on) => self.supply(main, small, array, on),
             Step::Reset => self.reset(main, small, array),
-            Step::Pin(high) => self.pin(main, small, array, high),
         }
     }
 
-    // How many blocks can be programmed, and the lowest of them, or the number of blocks; refused 2 where the state or the
-    // counts are not well formed.
+    // How many blocks are unprotected, and the lowest of them, or 259; refused 2 where the state or the counts are not well formed.
     pub fn report(self, main: &[[u16; 16]; 16], small: &[u16; 4]) -> Reported
         ensures { result ≡ reported_with self.state (lent main.now small.now) }
     {
         let s = self.state;
-        if formed_with(s, main, small) {
-            let part = s.part;
-            let locks = s.locks;
-            let found = protection::report_of(part, locks, s.control.pin);
+        if formed_with(s, main) {
+            let words = s.unprotected;
+            let found = protection::report_of(words);
             return Reported {
                 refusal: 0,
                 count: found.count,
@@ -260,7 +240,7 @@ impl Device {
         ensures { result ≡ most_worn_with self.state (lent main.now small.now) }
     {
         let s = self.state;
-        if formed_with(s, main, small) {
+        if formed_with(s, main) {
             let block = wear::most_worn(main, small);
             let count = wear::count_of(main, small, block);
             return Worn {
@@ -281,7 +261,7 @@ impl Device {
         ensures { result ≡ erase_count_with self.state (lent main.now small.now) block }
     {
         let s = self.state;
-        if formed_with(s, main, small) {
+        if formed_with(s, main) {
             let count = wear::count_of(main, small, block);
             return Worn {
                 refusal: 0,

@@ -7,7 +7,7 @@ use Rattle.std.specs.Int.Bits.{bit_xor, xor_add_and, xor_zero_r}
 use Rattle.std.proofs.lemmas.Nat.{xor_mod, and_mask}
 use Rattle.geometry.specs.declared.Geometry.{Geometry}
 use Rattle.geometry.specs.declared.Part.{Part}
-use Rattle.geometry.specs.declared.Part.TheVariants.{FullBottom, FullTop, BenchBottom, BenchTop, Wt032kb}
+use Rattle.geometry.specs.declared.Part.TheVariants.{FullBottom, FullTop, BenchBottom, BenchTop}
 use Rattle.geometry.specs.Blocks.{geometry_of, small, bank_words, words, location, mirror, block_from}
 use Rattle.geometry.specs.Laws.{order, sound, quot_main, block_small, block_main}
 
@@ -22,7 +22,6 @@ bits_of FullBottom = record { unit = 16; small = 14; bank = 20; array = 24 }
 bits_of FullTop = record { unit = 16; small = 14; bank = 20; array = 24 }
 bits_of BenchBottom = record { unit = 6; small = 4; bank = 10; array = 14 }
 bits_of BenchTop = record { unit = 6; small = 4; bank = 10; array = 14 }
-bits_of Wt032kb = record { unit = 15; small = 12; bank = 18; array = 21 }
 
 abbrev pub unit_bits : Part → ℕ
 unit_bits p = (bits_of p).unit
@@ -45,7 +44,6 @@ powers FullBottom = record { unit_is = refl; small_is = refl; bank_is = refl; ar
 powers FullTop = record { unit_is = refl; small_is = refl; bank_is = refl; array_is = refl }
 powers BenchBottom = record { unit_is = refl; small_is = refl; bank_is = refl; array_is = refl }
 powers BenchTop = record { unit_is = refl; small_is = refl; bank_is = refl; array_is = refl }
-powers Wt032kb = record { unit_is = refl; small_is = refl; bank_is = refl; array_is = refl }
 
 -- ---- the blocks and the banks by shifts
 

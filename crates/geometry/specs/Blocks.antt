@@ -1,21 +1,19 @@
 -- Words, blocks and banks of a part: document 01, "Words, blocks, banks". Definitions only; the laws are in Laws.
 -- Everything is said once over a Geometry. The document's unit u is `unit`; its rules are the case of 4 small blocks that share the first of
--- 256 main-size places, 16 of which make a bank. Document 02, item 8: "71 blocks, 8 of 4 K words then 63 of 32 K words,
--- 8 banks" is that of 8 small blocks, 64 places, and 8 of these a bank (source document 000, Table 31).
+-- 256 main-size places, 16 of which make a bank.
 -- Assumes nothing.
 use Rattle.std.specs.Prelude.{ℕ, ◌+◌, ◌-◌, ◌*◌, ◌/◌, ◌%◌, ◌<◌, ◌≤◌, true, false, cond, ◌≡◌, ltb, leb, eqb}
 use Rattle.geometry.specs.declared.Part.{Part}
-use Rattle.geometry.specs.declared.Part.TheVariants.{FullBottom, FullTop, BenchBottom, BenchTop, Wt032kb}
+use Rattle.geometry.specs.declared.Part.TheVariants.{FullBottom, FullTop, BenchBottom, BenchTop}
 use Rattle.geometry.specs.declared.Geometry.{Geometry}
 use Rattle.geometry.specs.declared.Lookup.{Lookup}
 
 -- "The full parts have u = 65,536. Two bench parts (H), top and bottom, have u = 64, so that a program can hold one."
 abbrev pub geometry_of : Part → Geometry
-geometry_of FullBottom = record { unit = 65536; smalls = 4; places = 256; group = 16; top = false; lockdown = false }
-geometry_of FullTop = record { unit = 65536; smalls = 4; places = 256; group = 16; top = true; lockdown = false }
-geometry_of BenchBottom = record { unit = 64; smalls = 4; places = 256; group = 16; top = false; lockdown = false }
-geometry_of BenchTop = record { unit = 64; smalls = 4; places = 256; group = 16; top = true; lockdown = false }
-geometry_of Wt032kb = record { unit = 32768; smalls = 8; places = 64; group = 8; top = false; lockdown = true }
+geometry_of FullBottom = record { unit = 65536; smalls = 4; places = 256; group = 16; top = false }
+geometry_of FullTop = record { unit = 65536; smalls = 4; places = 256; group = 16; top = true }
+geometry_of BenchBottom = record { unit = 64; smalls = 4; places = 256; group = 16; top = false }
+geometry_of BenchTop = record { unit = 64; smalls = 4; places = 256; group = 16; top = true }
 
 -- the words of a small block: "0 to 3 of u/4 words"
 abbrev pub small : Geometry → ℕ
@@ -103,10 +101,9 @@ pub record Sound (g : Geometry) : Type 0 where
 
 -- ---- the lookup of the host bench
 
--- "the part as 0 to 3 (full bottom, full top, bench bottom, bench top)"; document 02, item 8: "7 begins above 4"
+-- "the part as 0 to 3 (full bottom, full top, bench bottom, bench top)"
 abbrev pub part_numbered : ℕ → Part
-part_numbered n =
-    cond (eqb n 0) FullBottom (cond (eqb n 1) FullTop (cond (eqb n 2) BenchBottom (cond (eqb n 4) Wt032kb BenchTop)))
+part_numbered n = cond (eqb n 0) FullBottom (cond (eqb n 1) FullTop (cond (eqb n 2) BenchBottom BenchTop))
 
 -- "A refusal gives its number beside the answer 0"
 abbrev pub refused : ℕ → Lookup
@@ -119,5 +116,5 @@ found g l = record { refusal = 0; block = block_of g l; bank = bank_of g l }
 unfoldable pub lookup_of : ℕ → ℕ → Lookup
 lookup_of part address =
     cond (leb 16777216 address) (refused 3)
-    (cond (ltb 4 part) (refused 7)
+    (cond (ltb 3 part) (refused 7)
     (found (geometry_of (part_numbered part)) (location (geometry_of (part_numbered part)) address)))

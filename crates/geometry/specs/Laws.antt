@@ -3,13 +3,13 @@
 -- Assumes nothing.
 use Rattle.std.specs.Prelude.{ℕ, suc, ◌+◌, ◌-◌, ◌*◌, ◌/◌, ◌<◌, ◌≤◌, Bool, ◌≡◌, refl, ◌⊎◌, ◌↔◌}
 use Rattle.std.proofs.Math.Bool.{true, false, cond}
-use Rattle.std.proofs.Common.{true≢false, sym, ap, ◌∙◌, subst, inl, inr, suc-mul, mul_comm, mul-le-mul_right, mul-le-mul_left, div-mul-le_self, div-lt_iff_lt-mul, le-div_iff_mul-le, one-mul, mod-lt, mul_assoc, add-one}
+use Rattle.std.proofs.Common.{sym, ap, ◌∙◌, subst, inl, inr, suc-mul, mul_comm, mul-le-mul_right, mul-le-mul_left, div-mul-le_self, div-lt_iff_lt-mul, le-div_iff_mul-le, one-mul, mod-lt, mul_assoc, add-one}
 use Rattle.std.proofs.Math.Nat.{lt-div-mul-add, div-eq_of_lt-le, div-eq_of_lt, div-div-eq-div-mul}
 use Rattle.std.proofs.Math.Decide.{dec_lt}
 use native.Mathlib.Omega.{arith}
 use borrow.Author.Tests.{lt-ltb, le-ltb}
 use Rattle.geometry.specs.declared.Part.{Part}
-use Rattle.geometry.specs.declared.Part.TheVariants.{FullBottom, FullTop, BenchBottom, BenchTop, Wt032kb}
+use Rattle.geometry.specs.declared.Part.TheVariants.{FullBottom, FullTop, BenchBottom, BenchTop}
 use Rattle.geometry.specs.declared.Geometry.{Geometry}
 use Rattle.geometry.specs.Blocks.{geometry_of, small, bank_words, words, blocks, banks, location, mirror, block_from, block_of, bank_of, size_of, start_from, start_of, bank_start, block_offset, bank_offset, Sound}
 
@@ -449,35 +449,25 @@ sound FullBottom = omega arith
 sound FullTop = omega arith
 sound BenchBottom = omega arith
 sound BenchTop = omega arith
-sound Wt032kb = omega arith
 
--- "There are 259 blocks", and no part has more
-pub part_blocks : (p : Part) → (geometry_of p).lockdown ≡ false → blocks (geometry_of p) ≡ 259
-part_blocks FullBottom h = refl
-part_blocks FullTop h = refl
-part_blocks BenchBottom h = refl
-part_blocks BenchTop h = refl
-part_blocks Wt032kb h = absurd (true≢false h)
+-- "There are 259 blocks"
+pub part_blocks : (p : Part) → blocks (geometry_of p) ≡ 259
+part_blocks FullBottom = refl
+part_blocks FullTop = refl
+part_blocks BenchBottom = refl
+part_blocks BenchTop = refl
 
-pub part_blocks_le : (p : Part) → blocks (geometry_of p) ≤ 259
-part_blocks_le FullBottom = omega arith
-part_blocks_le FullTop = omega arith
-part_blocks_le BenchBottom = omega arith
-part_blocks_le BenchTop = omega arith
-part_blocks_le Wt032kb = omega arith
-
--- "The bank is ..., 0 to 15", and no part has more
-pub part_banks_le : (p : Part) → banks (geometry_of p) ≤ 16
-part_banks_le FullBottom = omega arith
-part_banks_le FullTop = omega arith
-part_banks_le BenchBottom = omega arith
-part_banks_le BenchTop = omega arith
-part_banks_le Wt032kb = omega arith
+-- "The bank is ..., 0 to 15"
+pub part_banks : (p : Part) → banks (geometry_of p) ≡ 16
+part_banks FullBottom = refl
+part_banks FullTop = refl
+part_banks BenchBottom = refl
+part_banks BenchTop = refl
 
 -- the number of the block of a part's location
 pub part_block_lt : (p : Part) (l : ℕ) → l < words (geometry_of p) → block_of (geometry_of p) l < 259
-part_block_lt p l h = omega (arith, block_lt (geometry_of p) (sound p) l h, part_blocks_le p)
+part_block_lt p l h = rw (part_blocks p) at (block_lt (geometry_of p) (sound p) l h)
 
 -- the number of the bank of a part's location
 pub part_bank_lt : (p : Part) (l : ℕ) → l < words (geometry_of p) → bank_of (geometry_of p) l < 16
-part_bank_lt p l h = omega (arith, bank_lt (geometry_of p) (sound p) l h, part_banks_le p)
+part_bank_lt p l h = rw (part_banks p) at (bank_lt (geometry_of p) (sound p) l h)

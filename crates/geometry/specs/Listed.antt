@@ -8,7 +8,7 @@ use mathlib.Core.List.{List, [], ◌∷◌}
 use Rattle.std.proofs.Math.Nat.{mul-div-mul_right}
 use borrow.Author.Tests.{leb-true, eqb-true, not-true, le-leb, lt-leb, eq-eqb}
 use Rattle.geometry.specs.declared.Part.{Part}
-use Rattle.geometry.specs.declared.Part.TheVariants.{FullBottom, FullTop, BenchBottom, BenchTop, Wt032kb}
+use Rattle.geometry.specs.declared.Part.TheVariants.{FullBottom, FullTop, BenchBottom, BenchTop}
 use Rattle.geometry.specs.declared.Geometry.{Geometry}
 use Rattle.geometry.specs.Blocks.{geometry_of, small, words, blocks, mirror, block_from, block_of, start_from, size_of, Sound}
 use Rattle.geometry.specs.Laws.{In, order, block_small, block_main, start_small, start_main, in_from, only_from, start_next, block_lt_from, mirror_lt, sound, run_end}
@@ -216,46 +216,30 @@ module _ (k : ℕ) (g h : Geometry) (s : Scaled k g h) where
   pub start_scaled : (b : ℕ) → start_from h b / k ≡ start_from g b
   start_scaled b = ap (λ (x : ℕ). x / k) (start_times b) ∙ mul-div_cancel (start_from g b) s.factor
 
--- every M58LT part is the full bottom part, scaled
-pub scaled : (p : Part) → (geometry_of p).lockdown ≡ false → Scaled (scale (geometry_of p)) (geometry_of p) (geometry_of FullBottom)
-scaled FullBottom h = omega arith
-scaled FullTop h = omega arith
-scaled BenchBottom h = omega arith
-scaled BenchTop h = omega arith
-scaled Wt032kb h = absurd (true≢false h)
+-- every part is the full bottom part, scaled
+pub scaled : (p : Part) → Scaled (scale (geometry_of p)) (geometry_of p) (geometry_of FullBottom)
+scaled FullBottom = omega arith
+scaled FullTop = omega arith
+scaled BenchBottom = omega arith
+scaled BenchTop = omega arith
 
--- a word of a part stands for one at least
-pub scale_pos : (p : Part) → 0 < scale (geometry_of p)
-scale_pos FullBottom = omega arith
-scale_pos FullTop = omega arith
-scale_pos BenchBottom = omega arith
-scale_pos BenchTop = omega arith
-scale_pos Wt032kb = omega arith
-
-pub scaled_lt : (p : Part) → (geometry_of p).lockdown ≡ false → (m : ℕ) → m < words (geometry_of p)
-    → m * scale (geometry_of p) < words (geometry_of FullBottom)
-scaled_lt FullBottom k m h = omega arith
-scaled_lt FullTop k m h = omega arith
-scaled_lt BenchBottom k m h = omega arith
-scaled_lt BenchTop k m h = omega arith
-scaled_lt Wt032kb k m h = absurd (true≢false k)
+pub scaled_lt : (p : Part) (m : ℕ) → m < words (geometry_of p) → m * scale (geometry_of p) < words (geometry_of FullBottom)
+scaled_lt FullBottom m h = omega arith
+scaled_lt FullTop m h = omega arith
+scaled_lt BenchBottom m h = omega arith
+scaled_lt BenchTop m h = omega arith
 
 -- "Prove it gives the old formula's block for every location of every part"
-pub table_is_formula : (xs : List ℕ) → tied (geometry_of FullBottom) 0 0 xs ≡ true
-    → (p : Part) → (geometry_of p).lockdown ≡ false → (l : ℕ) → l < words (geometry_of p)
-    → not_above xs (mirror (geometry_of p) l * scale (geometry_of p)) ≡ suc (block_of (geometry_of p) l)
+pub table_is_formula : (xs : List ℕ) → tied (geometry_of FullBottom) 0 0 xs ≡ true → (p : Part) (l : ℕ) → l < words (geometry_of p) → not_above xs (mirror (geometry_of p) l * scale (geometry_of p)) ≡ suc (block_of (geometry_of p) l)
 unfolding block_of
-table_is_formula xs e p t l h =
+table_is_formula xs e p l h =
     let m : ℕ = mirror (geometry_of p) l in
     let k : ℕ = scale (geometry_of p) in
-    last_block (geometry_of FullBottom) (sound FullBottom) xs e (m * k)
-    (scaled_lt p t m (mirror_lt (geometry_of p) (sound p) l h))
-    ∙ ap suc (block_scaled k (geometry_of p) (geometry_of FullBottom) (scaled p t) m)
+    last_block (geometry_of FullBottom) (sound FullBottom) xs e (m * k) (scaled_lt p m (mirror_lt (geometry_of p) (sound p) l h))
+    ∙ ap suc (block_scaled k (geometry_of p) (geometry_of FullBottom) (scaled p) m)
 
--- and each block's start of every such part, counted from the end that has the small blocks
-pub table_is_start : (xs : List ℕ) → tied (geometry_of FullBottom) 0 0 xs ≡ true
-    → (p : Part) → (geometry_of p).lockdown ≡ false → (b : ℕ) → b < 259
-    → get_or xs b 0 / scale (geometry_of p) ≡ start_from (geometry_of p) b
-table_is_start xs e p t b h =
+-- and each block's start of every part, counted from the end that has the small blocks
+pub table_is_start : (xs : List ℕ) → tied (geometry_of FullBottom) 0 0 xs ≡ true → (p : Part) (b : ℕ) → b < 259 → get_or xs b 0 / scale (geometry_of p) ≡ start_from (geometry_of p) b
+table_is_start xs e p b h =
     ap (λ (x : ℕ). x / scale (geometry_of p)) (entry (geometry_of FullBottom) (sound FullBottom) xs e b h)
-    ∙ start_scaled (scale (geometry_of p)) (geometry_of p) (geometry_of FullBottom) (scaled p t) b
+    ∙ start_scaled (scale (geometry_of p)) (geometry_of p) (geometry_of FullBottom) (scaled p) b

@@ -1,4 +1,4 @@
--- The lookup and the block starts of the five parts at locations that are written out, and what the test of a table says of right and wrong ones, as one table under
+-- The lookup and the block starts of the four parts at locations that are written out, and what the test of a table says of right and wrong ones, as one table under
 -- one statement that the checker computes. The addresses are on both sides of where blocks meet, from the starts in the sheet's Tables 29 to 34.
 -- Assumes nothing.
 use Rattle.std.specs.Prelude.{ℕ, Bool, true, false, not, ◌&&◌, List, [], ◌∷◌, T, eqb}
@@ -8,15 +8,15 @@ use Rattle.geometry.specs.Table.{begins, tied, not_above, scale}
 
 -- six blocks: four of 4 words, then two of 16
 abbrev pub few : Geometry
-few = record { unit = 16; smalls = 4; places = 3; group = 1; top = false; lockdown = false }
+few = record { unit = 16; smalls = 4; places = 3; group = 1; top = false }
 
 -- the same with a fourth of the words, and the small blocks at the top
 abbrev pub tight : Geometry
-tight = record { unit = 4; smalls = 4; places = 3; group = 1; top = true; lockdown = false }
+tight = record { unit = 4; smalls = 4; places = 3; group = 1; top = true }
 
 -- one that is not sound: after block 6, at location 6, its formula goes back to block 4
 abbrev pub odd : Geometry
-odd = record { unit = 7; smalls = 4; places = 4; group = 1; top = false; lockdown = false }
+odd = record { unit = 7; smalls = 4; places = 4; group = 1; top = false }
 
 -- an address of a part, by its number, lies in a block and a bank, or is refused; a block of a part begins at a location, and has so many words; a word of a part stands for
 -- so many words of the full bottom part; the formula begins a block of `few` at a location, or does not; a table passes the test of a geometry from a block and a least entry
@@ -46,8 +46,7 @@ abbrev pub every : List Case → Bool
 every [] = true
 every (c ∷ l) = holds c && every l
 
--- full bottom, full top, bench bottom, bench top, of which the last two ignore the upper address lines; 3 and 7, the lowest
--- first; M58WT032KB at the edges of Table 31 of source document 000, which ignores three upper lines
+-- full bottom, full top, bench bottom, bench top, of which the last two ignore the upper address lines; 3 and 7, the lowest first
 abbrev pub lookups : List Case
 lookups =
     lies 0 0x000000 0 0 ∷ lies 0 0x003FFF 0 0 ∷ lies 0 0x004000 1 0 ∷ lies 0 0x007FFF 1 0 ∷ lies 0 0x008000 2 0 ∷ lies 0 0x00BFFF 2 0 ∷ lies 0 0x00C000 3 0 ∷ lies 0 0x00FFFF 3 0
@@ -58,16 +57,10 @@ lookups =
     ∷ lies 2 0x0003FF 18 0 ∷ lies 2 0x000400 19 1 ∷ lies 2 0x003FBF 257 15 ∷ lies 2 0x003FC0 258 15 ∷ lies 2 0x003FFF 258 15 ∷ lies 2 0x004000 0 0 ∷ lies 2 0x004041 4 0
     ∷ lies 3 0x003FFF 0 0 ∷ lies 3 0x003FF0 0 0 ∷ lies 3 0x003FEF 1 0 ∷ lies 3 0x003FD0 2 0 ∷ lies 3 0x003FCF 3 0 ∷ lies 3 0x003FC0 3 0 ∷ lies 3 0x003FBF 4 0 ∷ lies 3 0x003F80 4 0
     ∷ lies 3 0x003C00 18 0 ∷ lies 3 0x003BFF 19 1 ∷ lies 3 0x000040 257 15 ∷ lies 3 0x00003F 258 15 ∷ lies 3 0x000000 258 15 ∷ lies 3 0x004000 258 15
-    ∷ lies 3 0xFFFFFF 0 0 ∷ refuses 0 0x1000000 3 ∷ refuses 3 0x1000000 3 ∷ refuses 3 0xFFFFFFFF 3 ∷ refuses 4 0x1000000 3
-    ∷ refuses 5 0x1000000 3 ∷ refuses 5 0xFFFFFF 7 ∷ refuses 5 0 7
-    ∷ lies 4 0x000000 0 0 ∷ lies 4 0x000FFF 0 0 ∷ lies 4 0x001000 1 0 ∷ lies 4 0x003FFF 3 0 ∷ lies 4 0x004000 4 0
-    ∷ lies 4 0x006FFF 6 0 ∷ lies 4 0x007000 7 0 ∷ lies 4 0x007FFF 7 0 ∷ lies 4 0x008000 8 0 ∷ lies 4 0x00FFFF 8 0
-    ∷ lies 4 0x010000 9 0 ∷ lies 4 0x03FFFF 14 0 ∷ lies 4 0x040000 15 1 ∷ lies 4 0x1BFFFF 62 6 ∷ lies 4 0x1C0000 63 7
-    ∷ lies 4 0x1F7FFF 69 7 ∷ lies 4 0x1F8000 70 7 ∷ lies 4 0x1FFFFF 70 7 ∷ lies 4 0x200000 0 0 ∷ lies 4 0x208000 8 0
-    ∷ lies 4 0xFFFFFF 70 7
+    ∷ lies 3 0xFFFFFF 0 0 ∷ refuses 0 0x1000000 3 ∷ refuses 3 0x1000000 3 ∷ refuses 3 0xFFFFFFFF 3 ∷ refuses 4 0x1000000 3 ∷ refuses 4 0xFFFFFF 7 ∷ refuses 4 0 7
     ∷ []
 
--- 259 is no block's number, nor 71 on M58WT032KB
+-- 259 is no block's number
 abbrev pub firsts : List Case
 firsts =
     starts 0 0 0x000000 ∷ starts 0 1 0x004000 ∷ starts 0 2 0x008000 ∷ starts 0 3 0x00C000 ∷ starts 0 4 0x010000 ∷ starts 0 5 0x020000 ∷ starts 0 18 0x0F0000 ∷ starts 0 19 0x100000
@@ -76,9 +69,6 @@ firsts =
     ∷ starts 2 0 0x0000 ∷ starts 2 1 0x0010 ∷ starts 2 3 0x0030 ∷ starts 2 4 0x0040 ∷ starts 2 5 0x0080 ∷ starts 2 258 0x3FC0 ∷ starts 2 259 0
     ∷ starts 3 0 0x3FF0 ∷ starts 3 1 0x3FE0 ∷ starts 3 3 0x3FC0 ∷ starts 3 4 0x3F80 ∷ starts 3 257 0x0040 ∷ starts 3 258 0 ∷ starts 3 259 0
     ∷ spans 0 0 16384 ∷ spans 1 3 16384 ∷ spans 0 4 65536 ∷ spans 1 258 65536 ∷ spans 2 3 16 ∷ spans 3 4 64 ∷ spans 2 258 64 ∷ spans 0 259 0 ∷ spans 3 259 0
-    ∷ starts 4 0 0 ∷ starts 4 1 0x001000 ∷ starts 4 7 0x007000 ∷ starts 4 8 0x008000 ∷ starts 4 9 0x010000
-    ∷ starts 4 70 0x1F8000 ∷ starts 4 71 0 ∷ spans 4 0 4096 ∷ spans 4 7 4096 ∷ spans 4 8 32768 ∷ spans 4 70 32768
-    ∷ spans 4 71 0
     ∷ stands 0 1 ∷ stands 1 1 ∷ stands 2 1024 ∷ stands 3 1024
     ∷ []
 

@@ -1,19 +1,17 @@
 // The words, blocks and banks of a part: document 01, "Words, blocks, banks".
 // Each public function takes every number: one that is no block, bank or location has the answer that its definition gives it.
-ghost use Rattle.std.specs.Prelude.{◌≡◌, true, false, cond, ◌+◌, ◌-◌, ◌<◌, ◌≤◌};
+ghost use Rattle.std.specs.Prelude.{◌≡◌, true, cond, ◌+◌, ◌-◌, ◌<◌, ◌≤◌};
 ghost use Rattle.geometry.specs.Blocks.{geometry_of, words, blocks, location, mirror, block_from, block_of, bank_of, size_of, start_of, bank_start, block_offset, bank_offset, bank_of_block, Sound, part_numbered, lookup_of};
 ghost use Rattle.geometry.specs.Bits.{unit_bits, small_bits, bank_bits, turned};
 ghost use Rattle.geometry.specs.Table.{tied, not_above, Rises, scale};
 
-// The five parts: M58LT256K of full or bench size, with the small blocks at the bottom or at the top; and M58WT032KB
-// (document 02, item 8).
+// The four parts: full or bench size, with the small blocks at the bottom or at the top.
 #[derive(Drop)]
 pub enum Part {
     FullBottom,
     FullTop,
     BenchBottom,
     BenchTop,
-    Wt032kb,
 }
 
 // What a part's rules depend on.
@@ -29,8 +27,6 @@ pub struct Geometry {
     pub group: u32,
     // Whether the small blocks are at the top.
     pub top: bool,
-    // Whether a block can be locked down, which M58WT032KB alone has.
-    pub lockdown: bool,
 }
 
 // The answer of a lookup: a refusal's number or 0, and beside it the block and the bank, each 0 where it is refused.
@@ -53,7 +49,6 @@ pub fn geometry_of(part: Part) -> Geometry
             places: 256,
             group: 16,
             top: false,
-            lockdown: false,
         },
         Part::FullTop => Geometry {
             unit: 65536,
@@ -61,7 +56,6 @@ pub fn geometry_of(part: Part) -> Geometry
             places: 256,
             group: 16,
             top: true,
-            lockdown: false,
         },
         Part::BenchBottom => Geometry {
             unit: 64,
@@ -69,7 +63,6 @@ pub fn geometry_of(part: Part) -> Geometry
             places: 256,
             group: 16,
             top: false,
-            lockdown: false,
         },
         Part::BenchTop => Geometry {
             unit: 64,
@@ -77,15 +70,6 @@ pub fn geometry_of(part: Part) -> Geometry
             places: 256,
             group: 16,
             top: true,
-            lockdown: false,
-        },
-        Part::Wt032kb => Geometry {
-            unit: 32768,
-            smalls: 8,
-            places: 64,
-            group: 8,
-            top: false,
-            lockdown: true,
         },
     }
 }
@@ -103,7 +87,7 @@ pub fn length_of(part: Part) -> u32
 // The number of the part's blocks.
 pub fn block_count(part: Part) -> u32
     ensures value { result ≡ blocks (geometry_of part) }
-    ensures limit { result ≤ 259 }
+    ensures number { result ≡ 259 }
 {
     let g = geometry_of(part);
     g.places + (g.smalls - 1)
@@ -119,19 +103,6 @@ pub fn location_of(part: Part, address: u32) -> u32
     address % n
 }
 
-// Whether a block of the part can be locked down.
-pub fn has_lockdown(part: Part) -> bool
-    ensures { result ≡ (geometry_of part).lockdown }
-{
-    match part {
-        Part::FullBottom => false,
-        Part::FullTop => false,
-        Part::BenchBottom => false,
-        Part::BenchTop => false,
-        Part::Wt032kb => true,
-    }
-}
-
 // Whether the small blocks are at the top.
 fn is_top(part: Part) -> bool
     ensures { result ≡ (geometry_of part).top }
@@ -141,7 +112,6 @@ fn is_top(part: Part) -> bool
         Part::FullTop => true,
         Part::BenchBottom => false,
         Part::BenchTop => true,
-        Part::Wt032kb => false,
     }
 }
 
@@ -167,7 +137,6 @@ fn unit_bits(part: Part) -> u32
         Part::FullTop => 16,
         Part::BenchBottom => 6,
         Part::BenchTop => 6,
-        Part::Wt032kb => 15,
     }
 }
 
@@ -180,7 +149,6 @@ fn small_bits(part: Part) -> u32
         Part::FullTop => 14,
         Part::BenchBottom => 4,
         Part::BenchTop => 4,
-        Part::Wt032kb => 12,
     }
 }
 
@@ -193,7 +161,6 @@ fn bank_bits(part: Part) -> u32
         Part::FullTop => 20,
         Part::BenchBottom => 10,
         Part::BenchTop => 10,
-        Part::Wt032kb => 18,
     }
 }
 
@@ -423,10 +390,9 @@ fn scale_of(part: Part) -> u32
     65536 / g.unit
 }
 
-// The block that a location of an M58LT part lies in, through the table: by mirror and scale, and then the last entry
-// that is not above.
+// The block that a location lies in, through the table: by mirror and scale, and then the last entry that is not above.
 fn block_by_table(part: Part, location: u32) -> u32
-    requires { (location < words (geometry_of part)) × ((geometry_of part).lockdown ≡ false) }
+    requires { location < words (geometry_of part) }
     ensures value { result ≡ block_of (geometry_of part) location }
     ensures inside { result < 259 }
 {
@@ -437,26 +403,11 @@ fn block_by_table(part: Part, location: u32) -> u32
     (n - 1) as u32
 }
 
-// The block that a location lies in. M58WT032KB is no scaled M58LT: its blocks are found by the rule.
-fn block_found(part: Part, location: u32) -> u32
-    requires { location < words (geometry_of part) }
-    ensures value { result ≡ block_of (geometry_of part) location }
-    ensures inside { result < 259 }
-{
-    if has_lockdown(part) {
-        return block_of(part, location);
-    }
-    block_by_table(part, location)
-}
-
-// The lowest location of a block, of an M58LT part through the table; 0 for a number that is no block.
+// The lowest location of a block, through the table; 0 for a number that is no block.
 pub fn start_by_table(part: Part, block: u32) -> u32
     ensures value { result ≡ start_of (geometry_of part) block }
     ensures limit { result < 16777216 }
 {
-    if has_lockdown(part) {
-        return block_start(part, block);
-    }
     if block >= block_count(part) {
         return 0;
     }
@@ -469,7 +420,7 @@ pub fn start_by_table(part: Part, block: u32) -> u32
 
 // ---- the lookup of the host bench
 
-// The part that a number names: 0 full bottom, 1 full top, 2 bench bottom, 4 M58WT032KB, any other bench top.
+// The part that a number names: 0 full bottom, 1 full top, 2 bench bottom, any other bench top.
 pub fn part_numbered(n: u32) -> Part
     ensures { result ≡ part_numbered n }
 {
@@ -481,9 +432,6 @@ pub fn part_numbered(n: u32) -> Part
     }
     if n == 2 {
         return Part::BenchBottom;
-    }
-    if n == 4 {
-        return Part::Wt032kb;
     }
     Part::BenchTop
 }
@@ -502,7 +450,7 @@ pub fn look_up(part: u32, address: u32) -> Lookup
             bank: 0,
         };
     }
-    if part > 4 {
+    if part > 3 {
         return Lookup {
             refusal: 7,
             block: 0,
@@ -511,7 +459,7 @@ pub fn look_up(part: u32, address: u32) -> Lookup
     }
     let p = part_numbered(part);
     let l = location_of(p, address);
-    let block = block_found(p, l);
+    let block = block_by_table(p, l);
     let bank = bank_of(p, l);
     Lookup {
         refusal: 0,

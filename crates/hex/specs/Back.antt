@@ -8,7 +8,7 @@ use Rattle.std.proofs.Common.{sym, ◌∙◌, zero-add, arith, length-drop, take
 use Rattle.std.proofs.Math.Nat.{div-div-eq-div-mul}
 use Rattle.std.proofs.lemmas.Bool.{eqb-false}
 use Rattle.geometry.specs.declared.Part.{Part}
-use Rattle.geometry.specs.declared.Part.TheVariants.{FullBottom, FullTop, BenchBottom, BenchTop, Wt032kb}
+use Rattle.geometry.specs.declared.Part.TheVariants.{FullBottom, FullTop, BenchBottom, BenchTop}
 use Rattle.geometry.specs.Blocks.{geometry_of, words}
 use Rattle.semantics.specs.Tabulate.{tabulate_is}
 use Rattle.hex.specs.Records.{named_from, byte_after, word_after, words_after, size, verdict, array_read}
@@ -92,7 +92,6 @@ text_lines FullBottom = 2097665
 text_lines FullTop = 2097665
 text_lines BenchBottom = 2050
 text_lines BenchTop = 2050
-text_lines Wt032kb = 262209
 
 -- an array is whole sixteens, 32 bits of address reach all of it, and its sixteens, the spans that begin and the end record have a line each
 numbers : (part : Part) → let n : ℕ = words (geometry_of part) in
@@ -101,7 +100,6 @@ numbers FullBottom = (refl, omega arith, refl)
 numbers FullTop = (refl, omega arith, refl)
 numbers BenchBottom = (refl, omega arith, refl)
 numbers BenchTop = (refl, omega arith, refl)
-numbers Wt032kb = (refl, omega arith, refl)
 
 -- it names every byte of the array
 text_whole : (part : Part) (ws : List ℕ) (n : ℕ) → length ws ≡ words (geometry_of part) → n ≡ 2 * words (geometry_of part) → ((i : ℕ) → get_or ws i 0 < 65536)

@@ -1,10 +1,9 @@
 -- Records, texts and arrays, as one table under one statement: the checker computes each through the definitions. The document's end record, the worked examples,
 -- and each rule at its edges. Assumes nothing.
-use Rattle.std.specs.Prelude.{ℕ, ◌+◌, ◌*◌, Bool, true, false, ◌&&◌, List, [], ◌∷◌, ◌++◌, map, T, eqb, length, replicate, take, drop}
+use Rattle.std.specs.Prelude.{ℕ, ◌+◌, Bool, true, false, ◌&&◌, List, [], ◌∷◌, ◌++◌, map, T, eqb, length, replicate, take, drop}
 use Prim.Native.String.{String}
 use Rattle.geometry.specs.declared.Part.{Part}
-use Rattle.geometry.specs.declared.Part.TheVariants.{FullBottom, FullTop, BenchBottom, BenchTop, Wt032kb}
-use Rattle.geometry.specs.Blocks.{geometry_of, words}
+use Rattle.geometry.specs.declared.Part.TheVariants.{FullBottom, FullTop, BenchBottom, BenchTop}
 use Rattle.printing.specs.Text.{text, digit_of}
 use Rattle.printing.specs.Room.{placed}
 use Rattle.semantics.specs.Tabulate.{tabulate}
@@ -185,9 +184,6 @@ cases =
     ∷ reads_in 16777216 ":020000040100F9\n:0100000011EE\n:00000001FF" 13 2
     ∷ reads_in 65538 ":020000040001F9\n:0100000011EE\n:0100010011ED\n:00000001FF" 0 4
     ∷ reads_in 65537 ":020000040001F9\n:0100000011EE\n:0100010011ED\n:00000001FF" 13 3
-    -- document 02, item 8: bytes 4,194,303 and 4,194,304 of M58WT032KB
-    ∷ reads_in (2 * words (geometry_of Wt032kb)) ":02000004003FBB\n:01FFFF00AA57\n:00000001FF" 0 3
-    ∷ reads_in (2 * words (geometry_of Wt032kb)) ":020000040040BA\n:01000000AA55\n:00000001FF" 13 2
     -- "the first bad record deciding"
     ∷ reads ":01800000AAD5\nx\n:00000001FF" 13 1
     ∷ reads ":01000000AA55\n:02000002F0000C\n:00000001FE\n" 12 2
@@ -219,7 +215,6 @@ cases =
     ∷ judges BenchTop 16385 ":00000001FF" 1 0
     ∷ judges FullBottom 16384 ":00000001FF" 1 0
     ∷ judges FullTop 0 "" 1 0
-    ∷ judges Wt032kb 16384 ":00000001FF" 1 0
     -- an accepted file; byte addresses follow the locations of a top part too
     ∷ leaves BenchBottom 16384 ":01000000AA55\n:00000001FF" 0 (0xFFAA ∷ 0xFFFF ∷ [])
     ∷ leaves BenchTop 16384 ":01000000AA55\n:017FFF00AAD7\n:00000001FF" 0 (0xFFAA ∷ 0xFFFF ∷ [])
@@ -231,31 +226,25 @@ cases =
     ∷ leaves BenchBottom 16384 ":01000000AA55\n:01800000AAD5\n:00000001FF" 0 (0xFFFF ∷ [])
     ∷ leaves BenchBottom 16384 ":01000000AA55\n" 0 (0xFFFF ∷ [])
     ∷ leaves BenchTop 8 ":01000000AA55\n:00000001FF" 0 blank
-    ∷ leaves Wt032kb 8 ":01000000AA55\n:00000001FF" 0 blank
     -- "upper case, LF after each record, 16 data bytes a record, lowest first, a 04 record before each .. the end record last"
     ∷ prints BenchBottom (0x0000 ∷ 0x0101 ∷ 0x0202 ∷ 0x0303 ∷ 0x0404 ∷ 0x0505 ∷ 0x0606 ∷ 0x0707 ∷ 0x0808 ∷ 0x0909 ∷ 0x0A0A ∷ 0x0B0B ∷ 0x0C0C ∷ 0x0D0D ∷ 0x0E0E ∷ 0x0F0F ∷ [])
     ":020000040000FA\n:1000000000000101020203030404050506060707B8\n:10001000080809090A0A0B0B0C0C0D0D0E0E0F0F28\n:00000001FF\n"
     ∷ prints FullTop (0x1234 ∷ 0xABCD ∷ replicate 6 0xFFFF) ":020000040000FA\n:100000003412CDABFFFFFFFFFFFFFFFFFFFFFFFF3E\n:00000001FF\n"
-    ∷ prints Wt032kb (0x1234 ∷ 0xABCD ∷ replicate 6 0xFFFF) ":020000040000FA\n:100000003412CDABFFFFFFFFFFFFFFFFFFFFFFFF3E\n:00000001FF\n"
     -- "a 04 record before each 65,536 bytes or a bench part's 32,768"
     ∷ sixteen FullBottom 32768 ":10800000FFFFFFFFFFFFFFFFFFFFFFFFFFFFFFFF80\n"
     ∷ sixteen FullBottom 65520 ":10FFF000FFFFFFFFFFFFFFFFFFFFFFFFFFFFFFFF11\n"
     ∷ sixteen FullBottom 65536 ":020000040001F9\n:10000000FFFFFFFFFFFFFFFFFFFFFFFFFFFFFFFF00\n"
     ∷ sixteen FullTop 32768 ":10800000FFFFFFFFFFFFFFFFFFFFFFFFFFFFFFFF80\n"
     ∷ sixteen FullTop 65536 ":020000040001F9\n:10000000FFFFFFFFFFFFFFFFFFFFFFFFFFFFFFFF00\n"
-    ∷ sixteen Wt032kb 32768 ":10800000FFFFFFFFFFFFFFFFFFFFFFFFFFFFFFFF80\n"
-    ∷ sixteen Wt032kb 65536 ":020000040001F9\n:10000000FFFFFFFFFFFFFFFFFFFFFFFFFFFFFFFF00\n"
     ∷ sixteen BenchBottom 16384 ":10400000FFFFFFFFFFFFFFFFFFFFFFFFFFFFFFFFC0\n"
     ∷ sixteen BenchTop 16384 ":10400000FFFFFFFFFFFFFFFFFFFFFFFFFFFFFFFFC0\n"
     ∷ sixteen BenchTop 32752 ":107FF000FFFFFFFFFFFFFFFFFFFFFFFFFFFFFFFF91\n"
     ∷ upper 1 ":020000040001F9\n"
-    ∷ upper 0x003F ":02000004003FBB\n"
     ∷ upper 0x01FF ":0200000401FFFA\n"
     -- 1 comes before 17, whose edges are `room_edges` (Laws)
     ∷ writes BenchBottom 16383 90140 1 0
     ∷ writes BenchTop 8 0 1 0
     ∷ writes FullTop 16384 0 1 0
-    ∷ writes Wt032kb 16384 0 1 0
     ∷ keeps BenchBottom 8 80
     ∷ keeps FullTop 8 72
     ∷ []

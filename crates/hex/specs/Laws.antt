@@ -63,9 +63,8 @@ array_read_length part text ws = go (eqb (verdict part text ws).refusal 0)
 
 -- ---- the room
 
--- "17 text too short", at its edges: a full part's text has 92,282,892 bytes, a bench part's 90,140, that of M58WT032KB
--- 11,535,372. A room that is shorter, by one byte too, is refused and stays; one of just so many bytes, or of more, is
--- not refused
+-- "17 text too short", at its edges: a full part's text has 92,282,892 bytes, a bench part's 90,140. A room that is shorter, by one byte too, is refused and stays;
+-- one of just so many bytes, or of more, is not refused
 pub room_edges : (part : Part) (ws room : List ℕ) → length ws ≡ words (geometry_of part)
     → (length room < text_length part → (written part ws room ≡ record { refusal = 17; length = 0 }) × (room_after part ws room ≡ room))
     × (text_length part ≤ length room → written part ws room ≡ record { refusal = 0; length = text_length part })

@@ -5,7 +5,7 @@ use Rattle.std.proofs.Common.{◌∙◌, arith, length-append, length-drop, leng
 use Rattle.std.proofs.Math.Decide.{dec_lt}
 use Rattle.std.proofs.lemmas.Bool.{eqb-false}
 use Rattle.geometry.specs.declared.Part.{Part}
-use Rattle.geometry.specs.declared.Part.TheVariants.{FullBottom, FullTop, BenchBottom, BenchTop, Wt032kb}
+use Rattle.geometry.specs.declared.Part.TheVariants.{FullBottom, FullTop, BenchBottom, BenchTop}
 use Rattle.geometry.specs.Blocks.{geometry_of, words}
 use Rattle.hex.specs.Text.{digits_of, check_of, record_text, data_record, upper_record, end_record, bytes_of, span, sixteen_at, sixteens, text_of}
 
@@ -35,7 +35,6 @@ every_span P full bench FullBottom = full
 every_span P full bench FullTop = full
 every_span P full bench BenchBottom = bench
 every_span P full bench BenchTop = bench
-every_span P full bench Wt032kb = full
 
 -- how many spans begin in the first k sixteens: so many 04 records stand there
 abbrev pub begun : ℕ → ℕ → ℕ
@@ -108,7 +107,6 @@ text_length FullBottom = 92282892
 text_length FullTop = 92282892
 text_length BenchBottom = 90140
 text_length BenchTop = 90140
-text_length Wt032kb = 11535372
 
 pub length_end_record : length end_record ≡ 12
 length_end_record = length_record_text (0 ∷ 0 ∷ 0 ∷ 1 ∷ [])
@@ -119,7 +117,6 @@ counted FullBottom = refl
 counted FullTop = refl
 counted BenchBottom = refl
 counted BenchTop = refl
-counted Wt032kb = refl
 
 pub length_text_of : (part : Part) (ws : List ℕ) → length ws ≡ words (geometry_of part) → length (text_of part ws) ≡ text_length part
 unfolding text_of

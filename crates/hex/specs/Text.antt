@@ -2,7 +2,7 @@
 -- Assumes nothing.
 use Rattle.std.specs.Prelude.{ℕ, zero, suc, ◌+◌, ◌-◌, ◌*◌, ◌/◌, ◌%◌, cond, List, [], ◌∷◌, ◌++◌, eqb, ltb, length, take, drop}
 use Rattle.geometry.specs.declared.Part.{Part}
-use Rattle.geometry.specs.declared.Part.TheVariants.{FullBottom, FullTop, BenchBottom, BenchTop, Wt032kb}
+use Rattle.geometry.specs.declared.Part.TheVariants.{FullBottom, FullTop, BenchBottom, BenchTop}
 use Rattle.geometry.specs.Blocks.{geometry_of, words}
 use Rattle.printing.specs.Text.{digit_of}
 use Rattle.printing.specs.Room.{placed}
@@ -49,7 +49,6 @@ span FullBottom = 65536
 span FullTop = 65536
 span BenchBottom = 32768
 span BenchTop = 32768
-span Wt032kb = 65536
 
 -- the text of the "16 data bytes" from address a on: their record, and before it a 04 record where a span begins there
 unfoldable pub sixteen_at : ℕ → List ℕ → ℕ → List ℕ

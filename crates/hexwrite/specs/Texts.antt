@@ -4,7 +4,7 @@ use Rattle.std.proofs.Common.{sym, ap, ◌∙◌, add-one, arith, length-append,
 use Rattle.std.proofs.Math.Seq.{take-nil, drop-nil}
 use borrow.Author.Tests.{eq-eqb, ne_eqb, lt-ltb, le-ltb}
 use Rattle.geometry.specs.declared.Part.{Part}
-use Rattle.geometry.specs.declared.Part.TheVariants.{FullBottom, FullTop, BenchBottom, BenchTop, Wt032kb}
+use Rattle.geometry.specs.declared.Part.TheVariants.{FullBottom, FullTop, BenchBottom, BenchTop}
 use Rattle.geometry.specs.Blocks.{geometry_of, words}
 use Rattle.printing.specs.Room.{placed}
 use Rattle.hex.specs.declared.Written.{Written}
@@ -132,7 +132,6 @@ same_span FullBottom a h = refl
 same_span FullTop a h = refl
 same_span BenchBottom a h = omega arith
 same_span BenchTop a h = omega arith
-same_span Wt032kb a h = refl
 
 sixteens_span : (part : Part) (bs : List ℕ) (k : ℕ) → 16 * k ≤ 2 * words (geometry_of part) → sixteens (span part) bs k ≡ sixteens 65536 bs k
 unfolding sixteens sixteen_at

@@ -154,7 +154,6 @@ pub fn text_length(part: Part) -> usize
         Part::FullTop => 92282892,
         Part::BenchBottom => 90140,
         Part::BenchTop => 90140,
-        Part::Wt032kb => 11535372,
     }
 }
 

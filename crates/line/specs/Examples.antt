@@ -4,11 +4,11 @@
 use Rattle.std.specs.Prelude.{ℕ, Bool, true, false, ◌&&◌, List, [], ◌∷◌, ◌≡◌, refl, T, set}
 use Prim.Native.Char.{code}
 use Prim.Native.String.{String, [] as none, ◌∷◌ as first}
-use Rattle.semantics.specs.declared.Step.TheVariants.{Read, Write, Work, Supply, Reset, Pin}
+use Rattle.semantics.specs.declared.Step.TheVariants.{Read, Write, Work, Supply, Reset}
 use Rattle.semantics.specs.declared.Decoded.{Decoded}
 use Rattle.semantics.specs.declared.Decoded.TheVariants.{Valid, Invalid}
 use Rattle.semantics.specs.Exactly.{exactly}
-use Rattle.line.specs.Forms.{hex_value, digits, number, begins, is_read, is_write, is_work, is_level, is_reset}
+use Rattle.line.specs.Forms.{hex_value, digits, number, begins, is_read, is_write, is_work, is_supply, is_reset}
 use Rattle.line.specs.Forms.{step_of_line}
 
 infix 20 ◌⟶◌
@@ -45,8 +45,6 @@ examples =
     -- the other forms
     ∷ ("V 0" ⟶ Valid (Supply false))
     ∷ ("Z" ⟶ Valid Reset)
-    ∷ ("L 0" ⟶ Valid (Pin false))
-    ∷ ("L 1" ⟶ Valid (Pin true))
     ∷ ("K 0" ⟶ Valid (Work 0))
     ∷ ("W FFFFFF ABCD" ⟶ Valid (Write 0xFFFFFF 0xABCD))
     -- each digit, and each place of a number: the highest digit first
@@ -103,16 +101,6 @@ examples =
     ∷ ("V1" ⟶ Invalid)
     ∷ ("V 01" ⟶ Invalid)
     ∷ ("V 10" ⟶ Invalid)
-    ∷ ("L" ⟶ Invalid)
-    ∷ ("L " ⟶ Invalid)
-    ∷ ("L1" ⟶ Invalid)
-    ∷ ("LX" ⟶ Invalid)
-    ∷ ("L 2" ⟶ Invalid)
-    ∷ ("L 01" ⟶ Invalid)
-    ∷ ("L 10" ⟶ Invalid)
-    ∷ ("L  1" ⟶ Invalid)
-    ∷ ("l 1" ⟶ Invalid)
-    ∷ (" L 1" ⟶ Invalid)
     ∷ ("ZZ" ⟶ Invalid)
     ∷ ("Z 0" ⟶ Invalid)
     ∷ (" Z" ⟶ Invalid)
@@ -122,11 +110,9 @@ examples =
     ∷ ("W 000041 1234 " ⟶ Invalid)
     ∷ ("K 5 " ⟶ Invalid)
     ∷ ("V 1 " ⟶ Invalid)
-    ∷ ("L 1 " ⟶ Invalid)
     ∷ ("R 000041\r" ⟶ Invalid)
     ∷ ("W 000041 1234\r" ⟶ Invalid)
     ∷ ("K 5\r" ⟶ Invalid)
-    ∷ ("L 1\r" ⟶ Invalid)
     ∷ ("Z\r" ⟶ Invalid)
     -- "A line over 16 bytes": of 16, 17 and more, that begin as a form does, and in blanks
     ∷ ("W 000041 1234 00" ⟶ Invalid)
@@ -137,8 +123,6 @@ examples =
     ∷ ("K 555555555555555" ⟶ Invalid)
     ∷ ("V 11111111111111" ⟶ Invalid)
     ∷ ("V 111111111111111" ⟶ Invalid)
-    ∷ ("L 11111111111111" ⟶ Invalid)
-    ∷ ("L 111111111111111" ⟶ Invalid)
     ∷ ("ZZZZZZZZZZZZZZZZ" ⟶ Invalid)
     ∷ ("ZZZZZZZZZZZZZZZZZ" ⟶ Invalid)
     ∷ ("V 1              " ⟶ Invalid)
@@ -146,7 +130,7 @@ examples =
     ∷ []
 
 pub examples_hold : steps examples ≡ expected examples
-unfolding hex_value digits number begins is_read is_write is_work is_level is_reset step_of_line
+unfolding hex_value digits number begins is_read is_write is_work is_supply is_reset step_of_line
 examples_hold = refl
 
 -- ---- places
@@ -178,17 +162,16 @@ places =
     ∷ place "W 000041 1234" 8 " "
     ∷ place "W 000041 1234" 9 hexes ∷ place "W 000041 1234" 10 hexes ∷ place "W 000041 1234" 11 hexes ∷ place "W 000041 1234" 12 hexes
     -- `K` and 1 to 5 decimal digits without leading zero, which one digit alone may be. With one digit it is as long
-    -- as `V 0`, `V 1`, `L 0` and `L 1`
-    ∷ place "K 5" 0 "K" ∷ place "K 1" 0 "KLV" ∷ place "K 5" 1 " " ∷ place "K 5" 2 "0123456789"
+    -- as `V 0` and `V 1`
+    ∷ place "K 5" 0 "K" ∷ place "K 1" 0 "KV" ∷ place "K 5" 1 " " ∷ place "K 5" 2 "0123456789"
     ∷ place "K 99" 0 "K" ∷ place "K 99" 1 " " ∷ place "K 99" 2 "123456789" ∷ place "K 99" 3 "0123456789"
     ∷ place "K 99999" 0 "K" ∷ place "K 99999" 1 " " ∷ place "K 99999" 2 "123456789" ∷ place "K 99999" 3 "0123456789" ∷ place "K 99999" 4 "0123456789" ∷ place "K 99999" 5 "0123456789"
     ∷ place "K 99999" 6 "0123456789"
-    -- `V 0` or `V 1`; `L 0` or `L 1`; `Z`
-    ∷ place "V 1" 0 "KLV" ∷ place "V 1" 1 " " ∷ place "V 1" 2 "01"
-    ∷ place "L 0" 0 "KLV" ∷ place "L 0" 1 " " ∷ place "L 0" 2 "01"
+    -- `V 0` or `V 1`; `Z`
+    ∷ place "V 1" 0 "KV" ∷ place "V 1" 1 " " ∷ place "V 1" 2 "01"
     ∷ place "Z" 0 "Z"
     ∷ []
 
 pub places_hold : T (every places)
-unfolding hex_value digits number begins is_read is_write is_work is_level is_reset step_of_line
+unfolding hex_value digits number begins is_read is_write is_work is_supply is_reset step_of_line
 places_hold = tt

@@ -1,9 +1,9 @@
--- The step that one line of a script stands for: document 01, "The script program", and the pin of document 02. A line
--- is the list of its bytes, without the LF that ends it.
+-- The step that one line of a script stands for: document 01, "The script program". A line is the list of its bytes,
+-- without the LF that ends it.
 -- A place past the end of the line reads 0, which stands in no form. Definitions only; the laws are in Laws.
 -- Assumes nothing.
 use Rattle.std.specs.Prelude.{ℕ, zero, suc, ◌+◌, ◌-◌, ◌*◌, Bool, true, not, cond, ◌&&◌, ◌||◌, List, eqb, ltb, leb, length, get_or}
-use Rattle.semantics.specs.declared.Step.TheVariants.{Read, Write, Work, Supply, Reset, Pin}
+use Rattle.semantics.specs.declared.Step.TheVariants.{Read, Write, Work, Supply, Reset}
 use Rattle.semantics.specs.declared.Decoded.{Decoded}
 use Rattle.semantics.specs.declared.Decoded.TheVariants.{Valid, Invalid}
 
@@ -56,9 +56,9 @@ is_work xs =
     && (leb (length xs) 7
     && (begins xs 75 && (decimal_digits xs 2 (length xs - 2) && (not (eqb (get_or xs 2 0) 48) || eqb (length xs) 3))))
 
--- a letter and a level: "`V 0` or `V 1`", and with document 02 the pin, "`L 0` or `L 1` in scripts"
-unfoldable pub is_level : List ℕ → ℕ → Bool
-is_level xs letter = eqb (length xs) 3 && (begins xs letter && (eqb (get_or xs 2 0) 48 || eqb (get_or xs 2 0) 49))
+-- "`V 0` or `V 1`"
+unfoldable pub is_supply : List ℕ → Bool
+is_supply xs = eqb (length xs) 3 && (begins xs 86 && (eqb (get_or xs 2 0) 48 || eqb (get_or xs 2 0) 49))
 
 -- "`Z`"
 unfoldable pub is_reset : List ℕ → Bool
@@ -70,7 +70,6 @@ step_of_line xs =
     cond (is_read xs) (Valid (Read (hex_number xs 2 6)))
     (cond (is_write xs) (Valid (Write (hex_number xs 2 6) (hex_number xs 9 4)))
     (cond (is_work xs) (Valid (Work (decimal_number xs 2 (length xs - 2))))
-    (cond (is_level xs 86) (Valid (Supply (eqb (get_or xs 2 0) 49)))
+    (cond (is_supply xs) (Valid (Supply (eqb (get_or xs 2 0) 49)))
     (cond (is_reset xs) (Valid Reset)
-    (cond (is_level xs 76) (Valid (Pin (eqb (get_or xs 2 0) 49)))
-    Invalid)))))
+    Invalid))))

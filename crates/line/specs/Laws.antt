@@ -5,12 +5,12 @@ use Rattle.std.proofs.Common.{true≢false, sym, subst, suc-mul, mul-le-mul_righ
 use Rattle.std.proofs.Math.Nat.{pow-le-pow_right, pow-zero}
 use borrow.Author.Tests.{ltb-true, leb-true, eqb-true}
 use Rattle.semantics.specs.declared.Step.{Step}
-use Rattle.semantics.specs.declared.Step.TheVariants.{Read, Write, Work, Supply, Reset, Pin}
+use Rattle.semantics.specs.declared.Step.TheVariants.{Read, Write, Work, Supply, Reset}
 use Rattle.semantics.specs.declared.Decoded.{Decoded}
 use Rattle.semantics.specs.declared.Decoded.TheVariants.{Valid, Invalid}
 use Rattle.semantics.specs.Branches.{by_cond}
 use Rattle.line.specs.Forms.{hex_value, digits, number, hex_digits, hex_number, decimal_digits, decimal_number, begins}
-use Rattle.line.specs.Forms.{is_read, is_write, is_work, is_level, is_reset, step_of_line}
+use Rattle.line.specs.Forms.{is_read, is_write, is_work, is_supply, is_reset, step_of_line}
 
 -- ---- tests
 
@@ -71,9 +71,9 @@ module _ (xs : List ℕ) where
         let n : length xs - 2 ≤ 5 = omega (arith, work_parts.1) in
         lt_of_lt_of_le (number_lt 10 xs 2 (length xs - 2) work_parts.2) (pow-le-pow_right {n = 10} (lit< tt) n)
 
-  level_length : (letter : ℕ) → is_level xs letter ≡ true → length xs ≡ 3
-  unfolding is_level
-  level_length letter h = eqb-true _ _ (both (eqb (length xs) 3) _ h).0
+  supply_length : is_supply xs ≡ true → length xs ≡ 3
+  unfolding is_supply
+  supply_length h = eqb-true _ _ (both (eqb (length xs) 3) _ h).0
 
   reset_length : is_reset xs ≡ true → length xs ≡ 1
   unfolding is_reset
@@ -91,13 +91,12 @@ long_invalid xs l =
     by_cond NoStep (is_read xs) _ _ (λ h. absurd (omega (arith, (read_parts xs h).0)))
     (λ _. by_cond NoStep (is_write xs) _ _ (λ h. absurd (omega (arith, (write_parts xs h).0)))
     (λ _. by_cond NoStep (is_work xs) _ _ (λ h. absurd (omega (arith, (work_parts xs h).1)))
-    (λ _. by_cond NoStep (is_level xs 86) _ _ (λ h. absurd (omega (arith, level_length xs 86 h)))
+    (λ _. by_cond NoStep (is_supply xs) _ _ (λ h. absurd (omega (arith, supply_length xs h)))
     (λ _. by_cond NoStep (is_reset xs) _ _ (λ h. absurd (omega (arith, reset_length xs h)))
-    (λ _. by_cond NoStep (is_level xs 76) _ _ (λ h. absurd (omega (arith, level_length xs 76 h)))
-    (λ _. refl))))))
+    (λ _. refl)))))
 
 pub empty_invalid : step_of_line [] ≡ Invalid
-unfolding step_of_line is_read is_write is_work is_level is_reset
+unfolding step_of_line is_read is_write is_work is_supply is_reset
 empty_invalid = refl
 
 -- the limits of a step's numbers. Refusal 3 is for an address of 16,777,216 or more, so no line of a script gets it.
@@ -107,7 +106,6 @@ Bounded (Write address word) = (address < 16777216) × (word < 65536)
 Bounded (Work n) = n < 100000
 Bounded (Supply on) = Unit {0}
 Bounded Reset = Unit {0}
-Bounded (Pin high) = Unit {0}
 
 -- the same of what a line stands for
 abbrev BoundedIf : Decoded → Type 0
@@ -121,7 +119,6 @@ bounded xs x e =
     (by_cond BoundedIf (is_read xs) _ _ (λ h. read_address xs h)
     (λ _. by_cond BoundedIf (is_write xs) _ _ (λ h. (write_address xs h, write_data xs h))
     (λ _. by_cond BoundedIf (is_work xs) _ _ (λ h. work_count xs h)
-    (λ _. by_cond BoundedIf (is_level xs 86) _ _ (λ h. tt)
+    (λ _. by_cond BoundedIf (is_supply xs) _ _ (λ h. tt)
     (λ _. by_cond BoundedIf (is_reset xs) _ _ (λ h. tt)
-    (λ _. by_cond BoundedIf (is_level xs 76) _ _ (λ h. tt)
-    (λ _. tt)))))))
+    (λ _. tt))))))

@@ -2,7 +2,7 @@
 // ends it.
 // Each function takes every line and number: a place past the end of the line reads 0, which stands in no form.
 ghost use Rattle.std.specs.Prelude.{◌≡◌, ◌%◌, get_or};
-ghost use Rattle.line.specs.Forms.{hex_value, digits, number, begins, is_read, is_write, is_work, is_level, is_reset};
+ghost use Rattle.line.specs.Forms.{hex_value, digits, number, begins, is_read, is_write, is_work, is_supply, is_reset};
 ghost use Rattle.line.specs.Forms.{step_of_line};
 
 use semantics::{Decoded, Step};
@@ -96,12 +96,11 @@ fn is_work(line: &[u8]) -> bool
         & (digits(10, line, 2, (n - 2) as u32) & ((byte_at(line, 2) != b'0') | (n == 3)))
 }
 
-// A letter and a level, 0 or 1.
-fn is_level(line: &[u8], letter: u8) -> bool
-    ensures { result ≡ is_level line.now letter }
+fn is_supply(line: &[u8]) -> bool
+    ensures { result ≡ is_supply line.now }
 {
-    let level = byte_at(line, 2);
-    (line.len() == 3) & (begins(line, letter) & ((level == b'0') | (level == b'1')))
+    let on = byte_at(line, 2);
+    (line.len() == 3) & (begins(line, b'V') & ((on == b'0') | (on == b'1')))
 }
 
 fn is_reset(line: &[u8]) -> bool
@@ -124,14 +123,11 @@ pub fn step_of_line(line: &[u8]) -> Decoded
     if is_work(line) {
         return Decoded::Valid(Step::Work(number(10, line, 2, (line.len() - 2) as u32)));
     }
-    if is_level(line, b'V') {
+    if is_supply(line) {
         return Decoded::Valid(Step::Supply(byte_at(line, 2) == b'1'));
     }
     if is_reset(line) {
         return Decoded::Valid(Step::Reset);
-    }
-    if is_level(line, b'L') {
-        return Decoded::Valid(Step::Pin(byte_at(line, 2) == b'1'));
     }
     Decoded::Invalid
 }

@@ -15,17 +15,17 @@ use Rattle.hex.specs.Records.{verdict, array_read}
 use Rattle.hex.specs.Text.{written, room_after}
 use Rattle.saved.specs.Saved.{saved_of, is_saved, state_of}
 
--- the start of a block in one number: its lowest location from bit 0; 7, of which document 02, item 8, says "7 begins
--- above 4", from bit 32; and for a number that is no block 16,777,216, which is no location of any part
+-- the start of a block in one number: its lowest location from bit 0; 7 "part number above 3" from bit 32; and for a
+-- number that is no block 16,777,216, which is no location of any part
 unfoldable pub start_code : ℕ → ℕ → ℕ
 start_code part block =
-    cond (leb part 4)
+    cond (leb part 3)
     (cond (ltb block (blocks (geometry_of (part_numbered part)))) (start_of (geometry_of (part_numbered part)) block) 16777216)
     (7 * 4294967296)
 
 -- power-up wants the number of a part, and room for 25 words
 unfoldable pub powers_up : ℕ → List ℕ → Bool
-powers_up part room = leb part 4 && eqb (length room) 25
+powers_up part room = leb part 3 && eqb (length room) 25
 
 unfoldable pub powered_up : ℕ → List ℕ → List ℕ
 powered_up part room = cond (powers_up part room) (saved_of (power_up (part_numbered part))) room
@@ -67,21 +67,15 @@ pub record Ran (ws : List ℕ) (k : Counts) (codes room xs : List ℕ) (n : ℕ)
 abbrev pub hex_code : ℕ → ℕ → ℕ
 hex_code refusal number = refusal * 4294967296 + min number 4294967295
 
--- "7 begins above 4", where there is no part whose array could be asked for
+-- 7 "part number above 3", where there is no part whose array could be asked for
 unfoldable pub hex_verdict : ℕ → List ℕ → List ℕ → ℕ
-hex_verdict part text ws =
-    cond (leb part 4)
-    (hex_code (verdict (part_numbered part) text ws).refusal (verdict (part_numbered part) text ws).line)
-    (hex_code 7 0)
+hex_verdict part text ws = cond (leb part 3) (hex_code (verdict (part_numbered part) text ws).refusal (verdict (part_numbered part) text ws).line) (hex_code 7 0)
 
 unfoldable pub hex_array : ℕ → List ℕ → List ℕ → List ℕ
-hex_array part text ws = cond (leb part 4) (array_read (part_numbered part) text ws) ws
+hex_array part text ws = cond (leb part 3) (array_read (part_numbered part) text ws) ws
 
 unfoldable pub hex_written : ℕ → List ℕ → List ℕ → ℕ
-hex_written part ws room =
-    cond (leb part 4)
-    (hex_code (written (part_numbered part) ws room).refusal (written (part_numbered part) ws room).length)
-    (hex_code 7 0)
+hex_written part ws room = cond (leb part 3) (hex_code (written (part_numbered part) ws room).refusal (written (part_numbered part) ws room).length) (hex_code 7 0)
 
 unfoldable pub hex_room : ℕ → List ℕ → List ℕ → List ℕ
-hex_room part ws room = cond (leb part 4) (room_after (part_numbered part) ws room) room
+hex_room part ws room = cond (leb part 3) (room_after (part_numbered part) ws room) room

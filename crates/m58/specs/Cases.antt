@@ -4,7 +4,7 @@
 -- Assumes nothing.
 use Rattle.std.specs.Prelude.{ℕ, ◌*◌, Bool, true, not, ◌&&◌, List, [], ◌∷◌, map, ◌≡◌, refl, T, eqb, length, replicate}
 use Rattle.geometry.specs.declared.Part.{Part}
-use Rattle.geometry.specs.declared.Part.TheVariants.{FullBottom, FullTop, BenchBottom, BenchTop, Wt032kb}
+use Rattle.geometry.specs.declared.Part.TheVariants.{FullBottom, FullTop, BenchBottom, BenchTop}
 use Rattle.geometry.specs.Blocks.{size_of, start_from, start_of}
 use Rattle.semantics.specs.State.{power_up}
 use Rattle.wear.specs.Counts.{Counts, no_counts}
@@ -26,12 +26,7 @@ abbrev pub cases : List Case
 cases =
     tells 0 0 0 ∷ tells 0 1 0x004000 ∷ tells 0 4 0x010000 ∷ tells 0 258 0xFF0000 ∷ tells 0 259 16777216 ∷ tells 1 0 0xFFC000 ∷ tells 1 4 0xFE0000 ∷ tells 1 258 0 ∷ tells 1 259 16777216
     ∷ tells 2 0 0 ∷ tells 2 1 0x0010 ∷ tells 2 258 0x3FC0 ∷ tells 2 259 16777216 ∷ tells 3 0 0x3FF0 ∷ tells 3 257 0x0040 ∷ tells 3 258 0 ∷ tells 3 259 16777216 ∷ tells 0 4294967295 16777216
-    -- M58WT032KB has 71 blocks
-    ∷ tells 4 0 0 ∷ tells 4 1 0x001000 ∷ tells 4 7 0x007000 ∷ tells 4 8 0x008000 ∷ tells 4 9 0x010000
-    ∷ tells 4 70 0x1F8000 ∷ tells 4 71 16777216 ∷ tells 4 258 16777216 ∷ tells 4 4294967295 16777216
-    -- "7 begins above 4"
-    ∷ tells 5 0 (7 * 4294967296) ∷ tells 5 70 (7 * 4294967296) ∷ tells 5 71 (7 * 4294967296)
-    ∷ tells 5 259 (7 * 4294967296) ∷ tells 4294967295 0 (7 * 4294967296)
+    ∷ tells 4 0 (7 * 4294967296) ∷ tells 4 258 (7 * 4294967296) ∷ tells 4 259 (7 * 4294967296) ∷ tells 4294967295 0 (7 * 4294967296)
     ∷ []
 
 pub cases_hold : T (every cases)
@@ -40,7 +35,7 @@ cases_hold = tt
 
 -- ---- the numbers that hold several fields
 
--- a refusal, how many blocks can be programmed and the lowest; a refusal, the most worn block and its count, told whole
+-- a refusal, how many blocks are unprotected and the lowest; a refusal, the most worn block and its count, told whole
 -- and as the count of one that is asked for; a refusal of Intel HEX and its line or length: and the number
 pub data Code : Type 0 where
   reported : ℕ → ℕ → ℕ → ℕ → Code
@@ -68,7 +63,6 @@ abbrev pub codes : List Code
 codes =
     -- the refusal from bit 32, the count from bit 16, the lowest block from bit 0
     reported 0 0 259 0x000000103 ∷ reported 0 3 4 0x000030004 ∷ reported 0 259 0 0x001030000 ∷ reported 2 0 0 0x200000000 ∷ reported 2 3 4 0x200030004
-    ∷ reported 0 0 71 0x000000047 ∷ reported 0 71 0 0x000470000
     -- the refusal from bit 32, the count from bit 16, the block from bit 0
     ∷ worn 0 0 0 0 ∷ worn 0 4 3 0x000030004 ∷ worn 0 258 65535 0x0FFFF0102 ∷ worn 2 0 0 0x200000000 ∷ worn 2 4 3 0x200030004
     -- the refusal from bit 32, the count from bit 0, and no block
@@ -93,16 +87,13 @@ every_power (refuses p n ∷ l) = not (powers_up p (replicate n 7)) && (eqb (len
 
 abbrev pub power : List Power
 power =
-    powers 0 25 ∷ powers 1 25 ∷ powers 2 25 ∷ powers 3 25 ∷ powers 4 25
-    ∷ refuses 5 25 ∷ refuses 4294967295 25 ∷ refuses 0 0 ∷ refuses 0 24 ∷ refuses 3 26 ∷ refuses 4 24 ∷ refuses 4 26 ∷ refuses 5 0
+    powers 0 25 ∷ powers 1 25 ∷ powers 2 25 ∷ powers 3 25 ∷ refuses 4 25 ∷ refuses 4294967295 25 ∷ refuses 0 0 ∷ refuses 0 24 ∷ refuses 3 26 ∷ refuses 4 0
     ∷ []
 
 -- and a number that is no part is 7 for Intel HEX, whatever the text and the words, and leaves the words and the room
 abbrev pub no_part : Bool
 no_part =
-    eqb (hex_verdict 5 (1 ∷ []) (2 ∷ [])) 0x700000000
-    && (eqb (hex_written 5 (1 ∷ []) (2 ∷ [])) 0x700000000
-    && (eqb (length (hex_array 5 (1 ∷ []) (2 ∷ 3 ∷ []))) 2 && eqb (length (hex_room 5 (1 ∷ []) (2 ∷ 3 ∷ 4 ∷ []))) 3))
+    eqb (hex_verdict 4 (1 ∷ []) (2 ∷ [])) 0x700000000 && (eqb (hex_written 4 (1 ∷ []) (2 ∷ [])) 0x700000000 && (eqb (length (hex_array 4 (1 ∷ []) (2 ∷ 3 ∷ []))) 2 && eqb (length (hex_room 4 (1 ∷ []) (2 ∷ 3 ∷ 4 ∷ []))) 3))
 
 pub power_hold : T (every_power power) × T no_part
 unfolding powers_up powered_up hex_verdict hex_written hex_array hex_room
@@ -111,16 +102,16 @@ power_hold = (tt, tt)
 -- ---- what is told of each part, by its number
 
 abbrev parts : List Part
-parts = FullBottom ∷ FullTop ∷ BenchBottom ∷ BenchTop ∷ Wt032kb ∷ []
+parts = FullBottom ∷ FullTop ∷ BenchBottom ∷ BenchTop ∷ []
 
 abbrev numbers : List ℕ
-numbers = 0 ∷ 1 ∷ 2 ∷ 3 ∷ 4 ∷ []
+numbers = 0 ∷ 1 ∷ 2 ∷ 3 ∷ []
 
 -- the words of power-up of that part, and else the room as it was; the counts at 0, and else those that stood
 pub powered_hold : (k : Counts)
     → (map (λ n. powered_up n (replicate 25 7)) numbers ≡ map (λ p. saved_of (power_up p)) parts)
-    × (powered_up 5 (replicate 25 7) ≡ replicate 25 7) × (powered_up 0 (7 ∷ 8 ∷ []) ≡ 7 ∷ 8 ∷ [])
-    × (map (λ n. unworn n (replicate 25 7) k) numbers ≡ replicate 5 no_counts) × (unworn 5 (replicate 25 7) k ≡ k)
+    × (powered_up 4 (replicate 25 7) ≡ replicate 25 7) × (powered_up 0 (7 ∷ 8 ∷ []) ≡ 7 ∷ 8 ∷ [])
+    × (map (λ n. unworn n (replicate 25 7) k) numbers ≡ replicate 4 no_counts) × (unworn 4 (replicate 25 7) k ≡ k)
     × (unworn 0 (replicate 24 7) k ≡ k)
 unfolding powers_up powered_up unworn
 powered_hold k = (refl, refl, refl, refl, refl, refl)
@@ -138,7 +129,7 @@ unfolding hex_verdict hex_array hex_written hex_room
 hex_hold text ws room = (refl, refl, refl, refl)
 
 -- an array that is no part's: 1, and no line or length beside it
-pub short_hold : (map (λ n. hex_verdict n (58 ∷ []) (1 ∷ 2 ∷ [])) numbers ≡ replicate 5 0x100000000)
-    × (map (λ n. hex_written n (1 ∷ 2 ∷ []) (7 ∷ [])) numbers ≡ replicate 5 0x100000000)
+pub short_hold : (map (λ n. hex_verdict n (58 ∷ []) (1 ∷ 2 ∷ [])) numbers ≡ replicate 4 0x100000000)
+    × (map (λ n. hex_written n (1 ∷ 2 ∷ []) (7 ∷ [])) numbers ≡ replicate 4 0x100000000)
 unfolding hex_verdict hex_written verdict written
 short_hold = (refl, refl)

@@ -3,19 +3,15 @@ use Rattle.std.specs.Prelude.{ℕ, zero, suc, ◌≤◌, Bool, List, ◌≡◌, 
 use Rattle.std.proofs.Math.Bool.{true, false, cond}
 use Rattle.std.proofs.Math.Path.{refl, sym, ap}
 use Rattle.std.proofs.Common.{◌∙◌, subst, arith, eq-eqb}
-use Rattle.geometry.specs.declared.Part.{Part}
-use Rattle.geometry.specs.declared.Part.TheVariants.{FullBottom, FullTop, BenchBottom, BenchTop, Wt032kb}
-use Rattle.geometry.specs.declared.Geometry.{Geometry}
-use Rattle.geometry.specs.Blocks.{part_numbered, geometry_of, blocks}
-use Rattle.protection.specs.Words.{is_programmable, lock_of, count, mark, programmable_count, report_of}
+use Rattle.geometry.specs.Blocks.{part_numbered}
+use Rattle.protection.specs.Words.{bit, bit_at, count, unprotected_count, report_of}
 use Rattle.protection.specs.Laws.{lowest_least}
 use Rattle.semantics.specs.declared.State.{State}
 use Rattle.semantics.specs.declared.Reported.{Reported}
-use Rattle.semantics.specs.State.{geometry, power_up}
+use Rattle.semantics.specs.State.{power_up}
 use Rattle.wear.specs.declared.Worn.{Worn}
 use Rattle.wear.specs.Counts.{Counts, count_of, no_counts, most_worn}
 use Rattle.semantics.specs.Engine.{and_true_r}
-use Rattle.semantics.specs.Steps.{reported}
 use Rattle.wear.specs.Steps.{Counted, formed_with, reported_with, most_worn_with}
 use Rattle.device.specs.Outcomes.{holding}
 use Rattle.playback.specs.declared.RunEnd.{RunEnd}
@@ -43,44 +39,16 @@ pub record Small (r : Reported) : Type 0 where
   pub count : r.count ≤ 259
   pub lowest : r.lowest ≤ 259
 
-mark_le : (g : Geometry) (ws : List ℕ) (pin : Bool) (b : ℕ) → mark g ws pin b ≤ 1
-mark_le g ws pin b = go (is_programmable (lock_of g ws b) pin)
-  where
-    go : (t : Bool) → cond t 1 0 ≤ 1
-    go true = omega arith
-    go false = omega arith
-
--- a part has 259 or 71 blocks
-blocks_le : (p : Part) → blocks (geometry_of p) ≤ 259
-blocks_le FullBottom = omega arith
-blocks_le FullTop = omega arith
-blocks_le BenchBottom = omega arith
-blocks_le BenchTop = omega arith
-blocks_le Wt032kb = omega arith
+report_bits : (ws : List ℕ) (b : ℕ) → bit_at ws b ≤ 1
+unfolding bit_at bit
+report_bits ws b = omega arith
 
 pub report_small : (s : State) (k : Counts) {r : Reported} → r ≡ reported_with s k → Small r
-unfolding reported_with report_of programmable_count
+unfolding reported_with report_of unprotected_count
 report_small s k e = subst Small (sym e) (go (formed_with s k))
   where
-    told : Reported
-    told = record { refusal = 0; count = (reported s).count; lowest = (reported s).lowest }
-
-    marks : ℕ → ℕ
-    marks = mark (geometry s) s.locks s.control.pin
-
-    within : Small told
-    within = record {
-      count =
-          omega (
-            arith,
-            count_le (blocks (geometry s)) marks (mark_le (geometry s) s.locks s.control.pin),
-            blocks_le s.part,
-          );
-      lowest = omega (arith, (lowest_least (geometry s) s.locks s.control.pin).within, blocks_le s.part);
-    }
-
-    go : (t : Bool) → Small (cond t told (record { refusal = 2; count = 0; lowest = 0 }))
-    go true = within
+    go : (t : Bool) → Small (cond t (record { refusal = 0; count = (report_of s.unprotected).count; lowest = (report_of s.unprotected).lowest }) (record { refusal = 2; count = 0; lowest = 0 }))
+    go true = record { count = count_le 259 (bit_at s.unprotected) (report_bits s.unprotected); lowest = (lowest_least s.unprotected).within }
     go false = record { count = omega arith; lowest = omega arith }
 
 -- and the refusal of the most worn block is

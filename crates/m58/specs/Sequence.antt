@@ -17,7 +17,7 @@ use Rattle.wear.specs.Counts.{Counts}
 use Rattle.semantics.specs.Steps.{Machine}
 use Rattle.wear.specs.Steps.{Counted, beside, after_all_with, answers_with, fresh_with}
 use Rattle.wear.specs.Claim.{CountsStand}
-use Rattle.wear.specs.Refused.{fresh_goes, all_alone}
+use Rattle.wear.specs.Refused.{fresh_shared, all_alone}
 use Rattle.wear.specs.Theorem.{counts_stand}
 use Rattle.device.specs.Outcomes.{holding}
 use Rattle.playback.specs.Playback.{playable, answer_code, room_after, machine_of}
@@ -62,7 +62,7 @@ module _ (p : Part) (xs₀ : List ℕ) where
     machine = e;
     saved = s;
     words_are = sym (saved_back ws s) ∙ ap (λ (y : Counted). saved_of y.machine.state) e;
-    demand_3 = λ h. subst (λ (y : Machine). Demand3 p l xs₀ y.array) (sym (ap (λ (y : Counted). y.machine) e ∙ all_alone (fresh_with p xs₀) l (fresh_goes p xs₀))) (demand_3_whole p l xs₀ h);
+    demand_3 = λ h. subst (λ (y : Machine). Demand3 p l xs₀ y.array) (sym (ap (λ (y : Counted). y.machine) e ∙ all_alone (fresh_with p xs₀) l fresh_shared)) (demand_3_whole p l xs₀ h);
     wear = λ h. subst (λ (y : Counted). CountsStand p l y.counts) (sym e) (counts_stand p l xs₀ h);
   }
 

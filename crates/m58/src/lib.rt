@@ -49,7 +49,7 @@ pub extern "C" fn m58_lookup_bank(part: u32, address: u32) -> u32
 pub extern "C" fn m58_block_start(part: u32, block: u32) -> u64
     ensures { result ≡ start_code part block }
 {
-    if part > 4 {
+    if part > 3 {
         return 7 * 4294967296;
     }
     let p = geometry::part_numbered(part);
@@ -74,7 +74,7 @@ pub extern "C" fn m58_power_up(
     ensures state { state.new ≡ powered_up part state.old }
     ensures counts { lent main.new small.new ≡ unworn part state.old (lent main.old small.old) }
 {
-    if part > 4 {
+    if part > 3 {
         return 0;
     }
     if state.len() != 25 {
@@ -126,7 +126,7 @@ fn device_in(state: &[u64]) -> Device
     Device { state: s }
 }
 
-// How many blocks can be programmed, and the lowest of them, in one number.
+// How many blocks are unprotected, and the lowest of them, in one number.
 #[unsafe(no_mangle)]
 pub extern "C" fn m58_report(state: &[u64], main: &[[u16; 16]; 16], small: &[u16; 4]) -> u64
     ensures { result ≡ report_code (reported_with (state_of state.now) (lent main.now small.now)) }
@@ -181,7 +181,7 @@ pub extern "C" fn m58_hex_read(part: u32, text: &[u8], array: &mut [u16]) -> u64
     ensures value { result ≡ hex_verdict part text.now array.old }
     ensures array { array.new ≡ hex_array part text.now array.old }
 {
-    if part > 4 {
+    if part > 3 {
         return coded(7, 0);
     }
     let v = hexread::read(geometry::part_numbered(part), text, array);
@@ -194,7 +194,7 @@ pub extern "C" fn m58_hex_write(part: u32, array: &[u16], text: &mut [u8]) -> u6
     ensures value { result ≡ hex_written part array.now text.old }
     ensures text { text.new ≡ hex_room part array.now text.old }
 {
-    if part > 4 {
+    if part > 3 {
         return coded(7, 0);
     }
     let w = hexwrite::write(geometry::part_numbered(part), array, text);

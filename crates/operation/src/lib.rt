@@ -264,14 +264,13 @@ pub fn stays_in(part: Part, block: u32, location: u32, words: u32) -> bool
     location as u64 + words as u64 <= end
 }
 
-// Words from a location on: the part has a buffer, they lie in one block of it, and the buffer holds so many.
+// Words from a location on: they lie in one block of the part, and the buffer holds so many.
 fn words_fit(part: Part, start: u32, words: u32) -> bool
     ensures { result ≡ words_fit (geometry_of part) start words }
 {
     let block = geometry::block_of(part, start);
     let length = geometry::length_of(part);
-    !geometry::has_lockdown(part)
-        & ((start < length) & (stays_in(part, block, start, words) & (words <= 32)))
+    (start < length) & (stays_in(part, block, start, words) & (words <= 32))
 }
 
 // The same, and the words are more than are done.
@@ -290,12 +289,9 @@ fn setup_fits(part: Part, s: Setup) -> bool
         Setup::Program => true,
         Setup::Erase => true,
         Setup::Lock => true,
-        Setup::BufferCount { block } => {
-            !geometry::has_lockdown(part) & (block < geometry::block_count(part))
-        }
+        Setup::BufferCount { block } => block < geometry::block_count(part),
         Setup::BufferFirst { block, words } => {
-            !geometry::has_lockdown(part)
-                & ((block < geometry::block_count(part)) & ((0 < words) & (words <= 32)))
+            (block < geometry::block_count(part)) & ((0 < words) & (words <= 32))
         }
         Setup::BufferWords { start, words, due } => buffer_fits(part, start, words, due),
     }

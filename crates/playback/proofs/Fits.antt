@@ -9,7 +9,7 @@ use denote.Struct.Declared.{row}
 use Rattle.device.specs.contracts.Device as device-type
 use Rattle.device.specs.declared.Device.{Device}
 
-pub five : (d : Device) (vs : List Val) → Is (row device-type.the_type) d vs → length d.state.locks ≡ 5
+pub five : (d : Device) (vs : List Val) → Is (row device-type.the_type) d vs → length d.state.unprotected ≡ 5
 five d vs p = let q = p.1.1.0.1.1 in simp length-map at q.1.1.0.1.0.1
 
 pub sixteen : (d : Device) (vs : List Val) → Is (row device-type.the_type) d vs → length d.state.banks ≡ 16

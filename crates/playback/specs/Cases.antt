@@ -2,16 +2,9 @@
 -- with so much room, and the room after its answers. That a list is played right is said of every list by `Played`.
 -- Assumes nothing.
 use Rattle.std.specs.Prelude.{ℕ, true, false, List, [], ◌∷◌, map, ◌≡◌, refl}
-use Rattle.semantics.specs.declared.Step.TheVariants.{Read, Write, Work, Supply, Reset, Pin}
-use Rattle.geometry.specs.declared.Part.TheVariants.{BenchBottom, Wt032kb}
-use Rattle.geometry.specs.Blocks.{geometry_of}
+use Rattle.semantics.specs.declared.Step.TheVariants.{Read, Write, Work, Supply, Reset}
 use Rattle.semantics.specs.declared.Answer.TheVariants.{Word, Units, Done, Refused}
-use Rattle.semantics.specs.declared.Decoded.TheVariants.{Valid, Invalid}
-use Rattle.semantics.specs.Card.{given, card}
-use Rattle.semantics.specs.Split.{step_refusal}
 use Rattle.semantics.specs.Encoding.{decoded_as, decode}
-use Rattle.playback.specs.declared.Task.TheVariants as task
-use Rattle.playback.specs.Tasks.{task_of}
 use Rattle.playback.specs.Playback.{playable, answer_code, room_after}
 
 -- "A refusal gives its number beside the answer 0": the refusal from bit 32, the value from bit 0
@@ -21,39 +14,17 @@ pub answers_hold : map answer_code
     ≡ 0 ∷ 0x1234 ∷ 0xFFFF ∷ 0 ∷ 1 ∷ 65535 ∷ 0 ∷ 0x100000000 ∷ 0x200000000 ∷ 0x300000000 ∷ 0x400000000 ∷ []
 answers_hold = refl
 
--- supply on, a write, a read, work, a reset, the pin high: and then a number that encodes no step, before another that
--- does
-abbrev six : List ℕ
-six =
-    0x3000000000001 ∷ 0x1001200000034 ∷ 0x34 ∷ 0x2000000000005 ∷ 0x4000000000000 ∷ 0x5000000000001 ∷ 0x6000000000000 ∷ 0x34
-    ∷ []
+-- supply on, a write, a read, work, a reset: and then a number that encodes no step, before another that does
+abbrev five : List ℕ
+five = 0x3000000000001 ∷ 0x1001200000034 ∷ 0x34 ∷ 0x2000000000005 ∷ 0x4000000000000 ∷ 0x5000000000000 ∷ 0x34 ∷ []
 
 -- up to that number, in their order, and no more than there is room for
-pub playable_hold : (playable six 9 ≡ Supply true ∷ Write 0x34 0x12 ∷ Read 0x34 ∷ Work 5 ∷ Reset ∷ Pin true ∷ [])
-    × (playable six 6 ≡ Supply true ∷ Write 0x34 0x12 ∷ Read 0x34 ∷ Work 5 ∷ Reset ∷ Pin true ∷ [])
-    × (playable six 5 ≡ Supply true ∷ Write 0x34 0x12 ∷ Read 0x34 ∷ Work 5 ∷ Reset ∷ [])
-    × (playable six 2 ≡ Supply true ∷ Write 0x34 0x12 ∷ []) × (playable six 0 ≡ []) × (playable [] 9 ≡ [])
-    × (playable (0x6000000000000 ∷ 0x34 ∷ []) 9 ≡ [])
+pub playable_hold : (playable five 9 ≡ Supply true ∷ Write 0x34 0x12 ∷ Read 0x34 ∷ Work 5 ∷ Reset ∷ [])
+    × (playable five 5 ≡ Supply true ∷ Write 0x34 0x12 ∷ Read 0x34 ∷ Work 5 ∷ Reset ∷ [])
+    × (playable five 2 ≡ Supply true ∷ Write 0x34 0x12 ∷ []) × (playable five 0 ≡ []) × (playable [] 9 ≡ [])
+    × (playable (0x5000000000000 ∷ 0x34 ∷ []) 9 ≡ [])
 unfolding decoded_as decode playable
-playable_hold = (refl, refl, refl, refl, refl, refl, refl)
-
--- the numbers of kind 5: the pin low and high, and no step with another operand, or with data
-pub pin_numbers_hold : map decode
-    (0x5000000000000 ∷ 0x5000000000001 ∷ 0x5000000000002 ∷ 0x50000FFFFFFFF ∷ 0x5000100000000 ∷ 0x5FFFF00000001 ∷ [])
-    ≡ Valid (Pin false) ∷ Valid (Pin true) ∷ Invalid ∷ Invalid ∷ Invalid ∷ Invalid ∷ []
-unfolding decoded_as decode
-pin_numbers_hold = refl
-
--- what they ask of a list, on a part of either family: the pin's task; a refusal of the state or the array comes before
--- it; and the end
-pub pin_tasks_hold : map (task_of 0 (geometry_of Wt032kb)) (0x5000000000000 ∷ 0x5000000000001 ∷ 0x5000000000002 ∷ [])
-    ≡ task.Pin false ∷ task.Pin true ∷ task.End ∷ []
-    × (map (task_of 0 (geometry_of BenchBottom)) (0x5000000000000 ∷ 0x5000000000001 ∷ 0x5000000000002 ∷ [])
-    ≡ task.Pin false ∷ task.Pin true ∷ task.End ∷ [])
-    × (map (task_of 1 (geometry_of Wt032kb)) (0x5000000000000 ∷ 0x5000000000002 ∷ []) ≡ task.Refused 1 ∷ task.End ∷ [])
-    × (map (task_of 2 (geometry_of Wt032kb)) (0x5000000000001 ∷ 0x5000000000002 ∷ []) ≡ task.Refused 2 ∷ task.End ∷ [])
-unfolding decoded_as decode given card step_refusal
-pin_tasks_hold = (refl, refl, refl, refl)
+playable_hold = (refl, refl, refl, refl, refl, refl)
 
 -- the answers from the first place on, and the places past them as they were
 pub room_hold : (room_after (7 ∷ 8 ∷ 9 ∷ []) (Done ∷ Refused 3 ∷ []) ≡ 0 ∷ 0x300000000 ∷ 9 ∷ [])

@@ -13,23 +13,23 @@ use Rattle.semantics.specs.declared.Next.{Next}
 use Rattle.semantics.specs.declared.Step.{Step}
 use Rattle.semantics.specs.declared.Answer.{Answer}
 use Rattle.semantics.specs.declared.Answer.TheVariants.{Word, Units, Done, Refused}
-use Rattle.semantics.specs.declared.Step.TheVariants.{Read, Write, Work, Supply, Reset, Pin}
+use Rattle.semantics.specs.declared.Step.TheVariants.{Read, Write, Work, Supply, Reset}
 use Rattle.semantics.specs.declared.Place.{Place}
 use Rattle.semantics.specs.declared.Decoded.{Decoded}
 use Rattle.semantics.specs.declared.Decoded.TheVariants.{Valid, Invalid}
 use Rattle.semantics.specs.Split.{first_refusal}
-use Rattle.semantics.specs.Steps.{switched_to, reset_of, Machine}
+use Rattle.semantics.specs.Steps.{switched_to, Machine}
 use Rattle.semantics.specs.Supply.{switched}
 use Rattle.semantics.specs.Encoding.{decode}
 use Rattle.semantics.specs.Demand.{Demand3}
 use Rattle.semantics.specs.Standing.{demand_3_whole}
 use Rattle.wear.specs.Counts.{Counts, counts_after}
 use Rattle.wear.specs.Steps.{Counted, answer_with, after_with, after_all_with, answers_with, fresh_with}
-use Rattle.wear.specs.Refused.{formed_all, fresh_goes, all_alone, all_same}
+use Rattle.wear.specs.Refused.{shared_all, fresh_shared, all_alone, all_same}
 use Rattle.wear.specs.Claim.{CountsStand}
 use Rattle.wear.specs.Theorem.{counts_stand}
-use Rattle.wear.specs.Held.{Held, Does, length_with, held_next, does_refused, does_read, does_write, does_work, does_supply, does_reset, does_pin}
-use Rattle.semantics.specs.State.{geometry, set_activity, with_control, with_buffer, with_running, with_pin, power_up}
+use Rattle.wear.specs.Held.{Held, Does, length_with, held_next, does_refused, does_read, does_write, does_work, does_supply, does_reset}
+use Rattle.semantics.specs.State.{geometry, set_activity, with_control, with_buffer, with_running, with_supply, power_up}
 use Rattle.semantics.specs.Reading.{read_word}
 use Rattle.semantics.specs.Writing.{written_at}
 use Rattle.semantics.specs.Working.{array_after, buffer_after, worked_on}
@@ -145,10 +145,8 @@ pub journaled : (m : Counted) (l : List Step) → Journaled m l (after_all_with 
 unfolding Journaled
 journaled m l p xs₀ l₀ h e z =
     let c : Counted = fresh_with p xs₀ in
-    let f = fresh_goes p xs₀ in
     subst (λ (y : Machine). Demand3 p (l₀ ++ l) xs₀ y.array)
-    (sym (all_alone c (l₀ ++ l) f) ∙ ap (λ (y : Counted). y.machine) (after_all_append l₀ l c)
-    ∙ all_same (after_all_with c l₀) m l (formed_all c l₀ ∙ f) z (all_alone c l₀ f ∙ e))
+    (sym (all_alone c (l₀ ++ l) fresh_shared) ∙ ap (λ (y : Counted). y.machine) (after_all_append l₀ l c) ∙ all_same (after_all_with c l₀) m l (shared_all c l₀ ∙ fresh_shared) z (all_alone c l₀ fresh_shared ∙ e))
     (demand_3_whole p (l₀ ++ l) xs₀ h)
 
 -- and the counts are the journal's
@@ -224,16 +222,10 @@ unfolding first_refusal
 all_refused c g code x e h = (x, (e, rw (ne_eqb c 0 h), h))
 
 -- a reset, piece by piece: the part stays
-pub reset_pieces : (s z : State) → z ≡ reset_of s
-    → ◌≡◌ {A = State} (record { part = s.part; banks = z.banks; locks = z.locks; control = z.control; buffer = z.buffer }) (reset_of s)
-unfolding reset_of power_up
-reset_pieces s z e = λ j. record {
-  part = s.part;
-  banks = (e j).banks;
-  locks = (e j).locks;
-  control = (e j).control;
-  buffer = (e j).buffer;
-}
+pub reset_pieces : (q : Part) (z : State) (on : Bool) → z ≡ with_supply (power_up q) on
+    → ◌≡◌ {A = State} (record { part = q; banks = z.banks; unprotected = z.unprotected; control = z.control; buffer = z.buffer }) (with_supply (power_up q) on)
+unfolding power_up
+reset_pieces q z on e = λ j. record { part = q; banks = (e j).banks; unprotected = (e j).unprotected; control = (e j).control; buffer = (e j).buffer }
 
 -- a write names a bank of the part
 pub write_bank : (c : ℕ) (q : Part) (code : ℕ) (p : Place) (w : ℕ) → Means c (geometry_of q) code (task.Write p w) → p.bank < 16
@@ -254,7 +246,7 @@ module _ (c : ℕ) (s : State) (k : Counts) (xs : List ℕ) (r : Held c s k xs) 
   pub plays_work : (n : ℕ) (o : Progress) (bs : List ℕ) → Means c (geometry s) code (task.Work n) → o ≡ progress_of (geometry s) s.control.activity.running n
       → bs ≡ buffer_after s.control.activity.running o.running s.buffer
       → t ≡ with_buffer (with_control s (set_activity s.control (with_running s.control.activity o.running))) bs → a ≡ Units o.units
-      → ys ≡ array_after (geometry s) s.buffer s.control.activity.running o.units xs → w ≡ counts_after (geometry s) s.control.activity.running o.running k → Plays s k xs code t a ys w
+      → ys ≡ array_after (geometry s) s.buffer s.control.activity.running o.units xs → w ≡ counts_after s.control.activity.running o.running k → Plays s k xs code t a ys w
   unfolding worked_on
   plays_work n o bs m i j q l h z =
       (Work n, (m.0, does_work c s k xs r (Work n) _ _ refl refl t a ys w n (worked_on (geometry s) s.control n) bs m.1 refl refl (j ∙ rw i) (q ∙ rw i) (l ∙ rw i) (h ∙ rw i) (z ∙ rw i)))
@@ -264,9 +256,5 @@ module _ (c : ℕ) (s : State) (k : Counts) (xs : List ℕ) (r : Held c s k xs) 
   unfolding switched_to
   plays_supply on d bs m e f i j h z = (Supply on, (m.0, does_supply c s k xs r (Supply on) _ _ refl refl t a ys w on m.1 refl (i ∙ rw (e, f)) j h z))
 
-  pub plays_reset : Means c (geometry s) code task.Reset → t ≡ reset_of s → a ≡ Done → ys ≡ xs → w ≡ k → Plays s k xs code t a ys w
+  pub plays_reset : Means c (geometry s) code task.Reset → t ≡ with_supply (power_up s.part) s.control.supply → a ≡ Done → ys ≡ xs → w ≡ k → Plays s k xs code t a ys w
   plays_reset m i j h z = (Reset, (m.0, does_reset c s k xs r Reset _ _ refl refl t a ys w m.1 refl i j h z))
-
-  pub plays_pin : (high : Bool) → Means c (geometry s) code (task.Pin high) → t ≡ with_pin s high → a ≡ Done → ys ≡ xs → w ≡ k
-      → Plays s k xs code t a ys w
-  plays_pin high m i j h z = (Pin high, (m.0, does_pin c s k xs r (Pin high) _ _ refl refl t a ys w high m.1 refl i j h z))

@@ -8,11 +8,10 @@ use Rattle.semantics.specs.declared.Step.{Step}
 use Rattle.semantics.specs.declared.Answer.{Answer}
 use Rattle.semantics.specs.declared.Decoded.{Decoded}
 use Rattle.semantics.specs.declared.Decoded.TheVariants.{Valid, Invalid}
-use Rattle.semantics.specs.State.{geometry}
 use Rattle.semantics.specs.Steps.{number_of, value_of, after_all, fresh}
 use Rattle.semantics.specs.Encoding.{decode}
 use Rattle.semantics.specs.Demand.{Demand3}
-use Rattle.wear.specs.Counts.{Counts, counts_formed}
+use Rattle.wear.specs.Counts.{Counts, shared_zero}
 use Rattle.wear.specs.Steps.{Counted, beside, after_all_with, answers_with, fresh_with}
 use Rattle.wear.specs.Claim.{CountsStand}
 use Rattle.device.specs.declared.Device.{Device}
@@ -43,10 +42,10 @@ machine_of d k xs = beside d.state xs k
 
 -- DEMAND 3, of a list that is played in pieces: wherever the device and the array are what steps l₀ made of power-up and an array xs₀ of the part's length,
 -- demand 3 holds whole of the steps l₀ and l together: the length, every word, and every entry of their journal. With l₀ empty it is demand 3 from power-up. Of the
--- counts it asks only that they go with the part: the shared place is 0, and all are where erases are not counted.
+-- counts it asks only that the shared place is 0.
 unfoldable pub Journaled : Counted → List Step → List ℕ → Type 0
 Journaled m l ys =
-    (p : Part) (xs₀ : List ℕ) (l₀ : List Step) → length xs₀ ≡ words (geometry_of p) → after_all (fresh p xs₀) l₀ ≡ m.machine → counts_formed (geometry m.machine.state) m.counts ≡ true → Demand3 p (l₀ ++ l) xs₀ ys
+    (p : Part) (xs₀ : List ℕ) (l₀ : List Step) → length xs₀ ≡ words (geometry_of p) → after_all (fresh p xs₀) l₀ ≡ m.machine → shared_zero m.counts.main ≡ true → Demand3 p (l₀ ++ l) xs₀ ys
 
 -- and where the counts too are what the steps l₀ made of power-up, they are those of that journal
 unfoldable pub CountsJournaled : Counted → List Step → Counts → Type 0

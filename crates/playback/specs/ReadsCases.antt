@@ -2,7 +2,7 @@
 -- at any place.
 -- Assumes nothing.
 use Rattle.std.specs.Prelude.{ℕ, Bool, true, false, not, ◌&&◌, List, [], ◌∷◌, ◌++◌, T, replicate}
-use Rattle.semantics.specs.declared.Step.TheVariants.{Read, Write, Work, Supply, Reset, Pin}
+use Rattle.semantics.specs.declared.Step.TheVariants.{Read, Write, Work, Supply, Reset}
 use Rattle.semantics.specs.Encoding.{encode}
 use Rattle.playback.specs.Reads.{all_reads, few_reads}
 
@@ -26,8 +26,7 @@ pub few_reads_hold : T (yes ([] ∷ reads 1 0 ∷ reads 2 0x40 ∷ reads 7 0 ∷
     × T (no (reads 9 0 ∷ reads 9 0xFFFFFF ∷ reads 16 0 ∷ []))
     × T (no (among (encode (Write 0 0)) ++ among (encode (Write 0xFFFFFF 0xFFFF)) ++ among (encode (Work 0)) ++ among (encode (Work 65535))))
     × T (no (among (encode (Supply false)) ++ among (encode (Supply true)) ++ among (encode Reset)))
-    × T (no (among (encode (Pin false)) ++ among (encode (Pin true))))
     -- and numbers that encode no step: a word beside a read, and the largest
     × T (no (among 4294967296 ++ among 4294967297 ++ among 18446744073709551615))
 unfolding all_reads few_reads
-few_reads_hold = (tt, tt, tt, tt, tt, tt)
+few_reads_hold = (tt, tt, tt, tt, tt)

@@ -7,7 +7,7 @@ use Rattle.std.proofs.Math.Dec.{eqb}
 use borrow.Author.Tests.{eqb-true, eqb-false}
 use Rattle.geometry.specs.declared.Geometry.{Geometry}
 use Rattle.semantics.specs.declared.Step.{Step}
-use Rattle.semantics.specs.declared.Step.TheVariants.{Read, Write, Work, Supply, Reset, Pin}
+use Rattle.semantics.specs.declared.Step.TheVariants.{Read, Write, Work, Supply, Reset}
 use Rattle.semantics.specs.declared.Decoded.{Decoded}
 use Rattle.semantics.specs.declared.Decoded.TheVariants.{Valid, Invalid}
 use Rattle.semantics.specs.View.{place_of}
@@ -23,7 +23,6 @@ allowed g (Write a w) = task.Write (place_of g a) w
 allowed g (Work n) = task.Work n
 allowed g (Supply on) = task.Supply on
 allowed g Reset = task.Reset
-allowed g (Pin high) = task.Pin high
 
 -- by what the number encodes, where c is what the state, its counts and the array are refused for
 abbrev pub task_by : ℕ → Geometry → Decoded → Task
@@ -48,7 +47,6 @@ module _ (c : ℕ) (g : Geometry) (code : ℕ) where
   Means (task.Work n) = Asks (Work n)
   Means (task.Supply on) = Asks (Supply on)
   Means task.Reset = Asks Reset
-  Means (task.Pin high) = Asks (Pin high)
 
   allowed_means : (x : Step) → Asks x → Means (allowed g x)
   allowed_means (Read a) h = h
@@ -56,7 +54,6 @@ module _ (c : ℕ) (g : Geometry) (code : ℕ) where
   allowed_means (Work n) h = h
   allowed_means (Supply on) h = h
   allowed_means Reset h = h
-  allowed_means (Pin high) h = h
 
   valid_means : (x : Step) → decode code ≡ Valid x → Means (task_by c g (Valid x))
   unfolding first_refusal

@@ -2,7 +2,7 @@
 // counts' theorem beside it.
 ghost use Rattle.std.specs.Prelude.{List, ◌≡◌, ℕ};
 ghost use Rattle.geometry.specs.Blocks.{geometry_of};
-ghost use Rattle.semantics.specs.State.{set_activity, set_pin, with_setup, with_running};
+ghost use Rattle.semantics.specs.State.{set_activity, with_setup, with_running};
 ghost use Rattle.semantics.specs.Encoding.{decode};
 ghost use Rattle.writing.specs.Changes.{settled_in};
 ghost use Rattle.wear.specs.Counts.{Counts, lent};
@@ -15,7 +15,6 @@ ghost use Rattle.playback.specs.Reads.{few_reads};
 
 use device::Device;
 use geometry::Part;
-use protection::Lock;
 use semantics::{
     Activity, Answer, Bank, Control, Decoded, Mode, Place, Running, Setup, State, Step, View,
 };
@@ -39,7 +38,6 @@ pub enum Task {
     Work(u32),
     Supply(bool),
     Reset,
-    Pin(bool),
 }
 
 // The step that a number encodes, if it encodes one. A read is its address, so it is told by one comparison.
@@ -73,12 +71,6 @@ pub fn decoded(code: u64) -> Decoded
         }
         return Decoded::Invalid;
     }
-    if kind == 5 {
-        if operand < 2 {
-            return Decoded::Valid(Step::Pin(operand == 1));
-        }
-        return Decoded::Invalid;
-    }
     Decoded::Invalid
 }
 
@@ -104,7 +96,6 @@ fn allowed(part: Part, x: Step) -> Task
         Step::Work(count) => Task::Work(count),
         Step::Supply(on) => Task::Supply(on),
         Step::Reset => Task::Reset,
-        Step::Pin(high) => Task::Pin(high),
     }
 }
 
@@ -166,15 +157,7 @@ fn advanced(c: Control, o: Progress) -> Activity
     operation::with_running(a, r)
 }
 
-// The control with the pin high or low.
-fn with_pin(mut c: Control, high: bool) -> Control
-    ensures { result ≡ set_pin c high }
-{
-    c.pin = high;
-    c
-}
-
-// The control after a cycle that is told by its view: what is suspended, the supply and the pin, no such cycle changes.
+// The control after a cycle that is told by its view: what is suspended, and the supply, no such cycle changes.
 fn settled(c: Control, v: View) -> Control
     ensures { result ≡ settled_in c v }
 {
@@ -195,7 +178,6 @@ fn settled(c: Control, v: View) -> Control
         flags,
         configuration: v.control.configuration,
         supply: c.supply,
-        pin: c.pin,
     }
 }
 
@@ -205,14 +187,6 @@ fn bank_in(v: View) -> Bank
 {
     let mode = v.mode;
     Bank { mode }
-}
-
-// The addressed block's lock, as a view has it.
-fn lock_in(v: View) -> Lock
-    ensures { result ≡ v.lock }
-{
-    let lock = v.lock;
-    lock
 }
 
 // The end of a list.
@@ -229,16 +203,16 @@ fn ended(played: usize, state: State) -> RunEnd
 fn state_of(
     part: Part,
     banks: [Bank; 16],
-    locks: [u64; 5],
+    unprotected: [u64; 5],
     control: Control,
     buffer: [u16; 32],
 ) -> State
-    ensures { result ≡ record { part = part; banks = banks; locks = locks; control = control; buffer = buffer } }
+    ensures { result ≡ record { part = part; banks = banks; unprotected = unprotected; control = control; buffer = buffer } }
 {
     State {
         part,
         banks,
-        locks,
+        unprotected,
         control,
         buffer,
     }
@@ -293,11 +267,10 @@ pub fn run(
     let before = device.state;
     let part = before.part;
     let mut banks = before.banks;
-    let mut locks = before.locks;
+    let mut unprotected = before.unprotected;
     let mut control = before.control;
     let mut buffer = before.buffer;
-    let formed = state::formed_of(part, banks, locks, control, buffer)
-        & wear::counts_formed(part, main, small);
+    let formed = state::formed_of(part, control, unprotected, buffer) & wear::shared_zero(main);
     let refused = state::refusal_beside(part, formed, array.len());
     let n = working::least(steps.len(), answers.len());
     let mut i: usize = 0;
@@ -316,17 +289,17 @@ pub fn run(
                     let b = banks[bank as usize];
                     let mode = b.mode;
                     answer = Answer::Word(reading::read_at(
-                        part, mode, control, &locks, array, location, bank,
+                        part,
+                        mode,
+                        control,
+                        &unprotected,
+                        array,
+                        location,
+                        bank,
                     ));
                 }
                 Task::Write(p, word) => {
-                    let change = writing::change_of(
-                        part,
-                        activity_in(control),
-                        control.supply,
-                        p,
-                        word,
-                    );
+                    let change = writing::change_of(activity_in(control), control.supply, p, word);
                     match change {
                         Change::First(mode, x) => {
                             control = with_setup(control, x);
@@ -345,12 +318,12 @@ pub fn run(
                         Change::View => {
                             let b = banks[p.bank as usize];
                             let mode = b.mode;
-                            let lock = protection::lock_of(part, &locks, p.block);
-                            let v = writing::told_view(part, mode, lock, control, p, word);
+                            let on = protection::is_unprotected(&unprotected, p.block);
+                            let v = writing::told_view(part, mode, on, control, p, word);
                             writing::load_buffer(part, control, p, word, v, &mut buffer);
                             control = settled(control, v);
                             banks[p.bank as usize] = bank_in(v);
-                            protection::set_lock(part, &mut locks, p.block, lock_in(v));
+                            protection::set_block(&mut unprotected, p.block, v.unprotected);
                         }
                     }
                 }
@@ -358,24 +331,23 @@ pub fn run(
                     let was = running_in(control);
                     let o = working::advance(part, was, &mut buffer, array, count);
                     let left = o.running;
-                    wear::count_finished(part, main, small, was, left);
+                    wear::count_finished(main, small, was, left);
                     let a = advanced(control, o);
                     control = with_activity(control, a);
                     answer = Answer::Units(o.units);
                 }
                 Task::Supply(on) => control = state::switch_supply(control, on, &mut buffer),
                 Task::Reset => {
-                    let z = state::reset(state_of(part, banks, locks, control, buffer));
+                    let z = state::reset(state_of(part, banks, unprotected, control, buffer));
                     banks = z.banks;
-                    locks = z.locks;
+                    unprotected = z.unprotected;
                     control = z.control;
                     buffer = z.buffer;
                 }
-                Task::Pin(high) => control = with_pin(control, high),
             }
             answers[i] = answer_code(answer);
             i += 1;
         }
     }
-    ended(i, state_of(part, banks, locks, control, buffer))
+    ended(i, state_of(part, banks, unprotected, control, buffer))
 }

@@ -78,7 +78,7 @@ bit_or_lem a b i =
     ap (λ (z : ℕ). z % 2) (or_shr a b i ∙ or_step x y) ∙ twice_mod (bit_or (x / 2) (y / 2)) (max (x % 2) (y % 2)) (max_lt (x % 2) (y % 2) (mod-lt x (lit< tt)) (mod-lt y (lit< tt)))
 
 -- the digits of an exclusive `or`
-pub bit_xor_lem : (a b i : ℕ) → bit (bit_xor a b) i ≡ differ (bit a i) (bit b i)
+bit_xor_lem : (a b i : ℕ) → bit (bit_xor a b) i ≡ differ (bit a i) (bit b i)
 unfolding bit
 bit_xor_lem a b i =
     let x : ℕ = a / 2 ^ i in
@@ -250,8 +250,8 @@ digits_same (suc n) a b h k e =
     let r : a % 2 ≡ b % 2 = sym (bit_first a) ∙ e 0 ∙ bit_first b in
     omega arith
 
-pub with_own_bit : (w k : ℕ) (v : Bool) → bit w k ≡ cond v 1 0 → with_bit w k v ≡ w
-with_own_bit w k v h = digits_same (w + suc k) (with_bit w k v) w (with_lt (w + suc k) w k v l (omega arith)) l each
+pub with_own : (w k : ℕ) (v : Bool) → bit w k ≡ cond v 1 0 → with_bit w k v ≡ w
+with_own w k v h = digits_same (w + suc k) (with_bit w k v) w (with_lt (w + suc k) w k v l (omega arith)) l each
   where
     l : w < 2 ^ (w + suc k)
     l = let m : w < w + suc k = omega arith in omega (arith, lt_pow w, pow-lt m)

@@ -3,11 +3,10 @@
 ghost use Rattle.std.specs.Prelude.{◌≡◌, not, ◌&&◌, ℕ, ◌≤◌, get_or};
 ghost use Rattle.geometry.specs.Blocks.{geometry_of};
 ghost use Rattle.semantics.specs.State.{runs};
-ghost use Rattle.semantics.specs.Reading.{runs_in, bit_if, status_word, device_code, lock_word, signature_word, query_word, shown, read_in, read_word};
+ghost use Rattle.semantics.specs.Reading.{runs_in, bit_if, status_word, device_code, signature_word, query_word, shown, read_in, read_word};
 ghost use Rattle.reading.specs.Shown.{seen, placed};
 
 use geometry::Part;
-use protection::Lock;
 use semantics::{Activity, Control, Flags, Mode, Running, State, View};
 
 // `n` where `on` holds, and else 0. The bound is what a sum of them asks.
@@ -59,23 +58,10 @@ fn device_code(part: Part) -> u16
     ensures { result ≡ device_code (geometry_of part) }
 {
     let g = geometry::geometry_of(part);
-    if g.lockdown {
-        return 0x8867;
-    }
     if g.top {
         return 0x885e;
     }
     0x885f
-}
-
-// The word of a block's lock: bit 0 the lock bit, bit 1 lock-down, both where it is held by a low pin.
-fn lock_word(x: Lock, pin: bool) -> u16
-    ensures { result ≡ lock_word x pin }
-{
-    if protection::is_held(x, pin) {
-        return 0x0003;
-    }
-    bit_if(x.down, 0x0002) + bit_if(!x.unprotected, 0x0001)
 }
 
 // The word that a bank in signature mode shows at a place.
@@ -93,8 +79,7 @@ pub fn signature_word(part: Part, v: View, location: u32) -> u16
         return v.control.configuration;
     }
     if geometry::block_offset(part, location) == 2 {
-        let lock = v.lock;
-        return lock_word(lock, v.control.pin);
+        return bit_if(!v.unprotected, 0x0001);
     }
     0x0000
 }
@@ -138,17 +123,17 @@ fn shown(part: Part, mode: Mode, running: Running, bank: u32) -> Mode
     }
 }
 
-// The word that a read at a location of a bank shows, by the bank's mode. The locks are lent, and looked up for the signature alone.
+// The word that a read at a location of a bank shows, by the bank's mode. The protection is lent, and looked up for the signature alone.
 pub fn read_at(
     part: Part,
     mode: Mode,
     control: Control,
-    locks: &[u64; 5],
+    unprotected: &[u64; 5],
     array: &[u16],
     location: u32,
     bank: u32,
 ) -> u16
-    ensures { (a : ℕ) → result ≡ read_in (geometry_of part) (seen (geometry_of part) mode control locks.now location) array.now (placed (geometry_of part) a location bank) }
+    ensures { (a : ℕ) → result ≡ read_in (geometry_of part) (seen (geometry_of part) mode control unprotected.now location) array.now (placed (geometry_of part) a location bank) }
 {
     let a = control.activity;
     let flags = control.flags;
@@ -159,10 +144,10 @@ pub fn read_at(
         Mode::Status => status_word(part, a, flags, bank),
         Mode::Signature => {
             let block = geometry::block_of(part, location);
-            let lock = protection::lock_of(part, locks, block);
+            let on = protection::is_unprotected(unprotected, block);
             let v = View {
                 mode,
-                lock,
+                unprotected: on,
                 control,
             };
             signature_word(part, v, location)
@@ -177,10 +162,10 @@ pub fn read_word(s: State, array: &[u16], address: u32) -> u16
 {
     let part = s.part;
     let banks = s.banks;
-    let locks = s.locks;
+    let words = s.unprotected;
     let control = s.control;
     let location = geometry::location_of(part, address);
     let bank = geometry::bank_of(part, location);
     let mode = state::mode_of(banks, bank);
-    read_at(part, mode, control, &locks, array, location, bank)
+    read_at(part, mode, control, &words, array, location, bank)
 }

@@ -7,7 +7,7 @@ use Rattle.std.proofs.Math.Nat.{div-eq_of_lt, mod-add-div', add-mul-mod_self_rig
 use Rattle.std.proofs.lemmas.List.Edits.{sets}
 use Rattle.std.proofs.lemmas.Bool.{eqb-false}
 use Rattle.geometry.specs.declared.Part.{Part}
-use Rattle.geometry.specs.declared.Part.TheVariants.{FullBottom, FullTop, BenchBottom, BenchTop, Wt032kb}
+use Rattle.geometry.specs.declared.Part.TheVariants.{FullBottom, FullTop, BenchBottom, BenchTop}
 use Rattle.geometry.specs.Blocks.{part_numbered}
 use Rattle.protection.specs.Words.{bit, spare_zero, all_protected}
 use Rattle.semantics.specs.declared.Mode.{Mode}
@@ -23,20 +23,20 @@ use Rattle.semantics.specs.declared.SuspendedProgram.TheVariants as program
 use Rattle.semantics.specs.declared.SuspendedErase.{SuspendedErase}
 use Rattle.semantics.specs.declared.SuspendedErase.TheVariants as erase
 use Rattle.semantics.specs.declared.State.{State}
-use Rattle.semantics.specs.State.{with_locks, activity, flags_of, empty_buffer, power_up}
+use Rattle.semantics.specs.State.{activity, flags_of, empty_buffer, power_up}
 use Rattle.semantics.specs.Tabulate.{tabulate, length_tabulate, word_tabulate, tabulate_of, tabulate_is}
 use Rattle.semantics.specs.Reading.{bit_if}
 use Rattle.semantics.specs.WellFormed.{running_alone, program_alone, erase_alone, setup_fits, running_fits, program_fits}
 use Rattle.semantics.specs.WellFormed.{suspended_erase_fits, all_fit, running_apart, program_apart, apart, activity_formed}
-use Rattle.semantics.specs.WellFormed.{array_from, unused_in, well_formed}
+use Rattle.semantics.specs.WellFormed.{well_formed}
 use Rattle.semantics.specs.Register.{is_reserved}
 use Rattle.semantics.specs.Refusals.{reserved_unformed}
 use Rattle.saved.specs.declared.Four.{Four}
 use Rattle.saved.specs.Saved.{part_number, mode_number, mode_numbered, bank_number, bank_numbered, flag_numbered, half}
 use Rattle.saved.specs.Saved.{setup_numbers, setup_of, running_numbers, running_of, program_numbers, program_of}
 use Rattle.saved.specs.Saved.{erase_numbers, erase_of, flag_numbers, joined, of_halves, bytes, from_byte, first}
-use Rattle.saved.specs.Saved.{modes_word, modes_in, bank_words, activity_words, activity_of, flags_in, levels, rest_of}
-use Rattle.saved.specs.Saved.{packed, lane, packed_at, lane_at, buffer_words, buffer_in, saved_of, loaded_of, same, is_saved}
+use Rattle.saved.specs.Saved.{modes_word, modes_in, bank_words, activity_words, activity_of, flags_in, rest_of, packed}
+use Rattle.saved.specs.Saved.{lane, packed_at, lane_at, buffer_words, buffer_in, saved_of, loaded_of, same, is_saved}
 use Rattle.saved.specs.Saved.{no_state, state_of, put_into}
 
 -- ---- lists
@@ -94,7 +94,6 @@ part_back FullBottom = refl
 part_back FullTop = refl
 part_back BenchBottom = refl
 part_back BenchTop = refl
-part_back Wt032kb = refl
 
 bank_back : (b : Bank) → bank_numbered (bank_number b) ≡ b
 bank_back b = λ j. record { mode = go b.mode j }
@@ -226,20 +225,6 @@ flags_back f = λ j. flags_of (at 0 f.sr5 refl j) (at 1 f.sr4 refl j) (at 2 f.sr
 pub flags_small : (f : Flags) → bytes (flag_numbers f) < half
 flags_small f = bytes_small 4 (flag_numbers f) (omega arith) (flags_bytes f)
 
--- ---- the supply and the pin
-
-supply_back : (supply pin : Bool) → flag_numbered (levels supply pin) ≡ supply
-supply_back true true = refl
-supply_back true false = refl
-supply_back false true = refl
-supply_back false false = refl
-
-pin_back : (supply pin : Bool) → flag_numbered (levels supply pin / 256) ≡ pin
-pin_back true true = refl
-pin_back true false = refl
-pin_back false true = refl
-pin_back false false = refl
-
 -- ---- the buffer
 
 -- four words are got back
@@ -309,7 +294,7 @@ pub record Fitting (s : State) : Type 0 where
   pub running : RunningFitting s.control.activity.running
   pub program : ProgramFitting s.control.activity.program
   pub erase : EraseFitting s.control.activity.erase
-  pub locks : length s.locks ≡ 5
+  pub unprotected : length s.unprotected ≡ 5
   pub configuration : s.control.configuration < 65536
   pub places : length s.buffer ≡ 32
   pub buffer : (k : ℕ) → get_or s.buffer k 0 < 65536
@@ -368,20 +353,18 @@ pub loaded_saved : (s : State) → Fitting s → loaded_of (saved_of s) ≡ s
 unfolding saved_of loaded_of tabulate
 loaded_saved s h =
     let k = s.control in
-    let b = levels k.supply k.pin in
+    let b = bit_if k.supply 1 in
     let low = first_back half (bytes (flag_numbers k.flags)) (joined 65536 k.configuration b) (flags_small k.flags) in
     let high = second_back half (bytes (flag_numbers k.flags)) (joined 65536 k.configuration b) (flags_small k.flags) in
-    let top = ap (λ (w : ℕ). w / 65536) high ∙ second_back 65536 k.configuration b h.configuration in
     λ j. record {
       part = part_back s.part j;
       banks = banks_back s.banks h.banks j;
-      locks = first_all 5 s.locks h.locks j;
+      unprotected = first_all 5 s.unprotected h.unprotected j;
       control = record {
         activity = activity_back s h j;
         flags = (ap flags_in low ∙ flags_back k.flags) j;
         configuration = (ap (λ (w : ℕ). w % 65536) high ∙ first_back 65536 k.configuration b h.configuration) j;
-        supply = (ap flag_numbered top ∙ supply_back k.supply k.pin) j;
-        pin = (ap (λ (w : ℕ). flag_numbered (w / 256)) top ∙ pin_back k.supply k.pin) j;
+        supply = (ap (λ (w : ℕ). flag_numbered (w / 65536)) high ∙ ap flag_numbered (second_back 65536 k.configuration b h.configuration) ∙ flag_back k.supply) j;
       };
       buffer = buffer_back s.buffer h.places h.buffer j;
     }
@@ -407,15 +390,8 @@ saved_length ws h = ap length (same_true ws (saved_of (loaded_of ws)) h)
 
 -- words that are none say a state that is not well formed
 pub unsaved_refused : (ws : List ℕ) → is_saved ws ≡ false → well_formed (state_of ws) ≡ false
-unfolding state_of no_state power_up running_alone program_alone erase_alone setup_fits running_fits program_fits suspended_erase_fits all_fit running_apart program_apart apart activity_formed array_from unused_in well_formed spare_zero
-unsaved_refused ws h = rw h (go (part_numbered (get_or ws 0 0)))
-  where
-    go : (p : Part) → well_formed (with_locks (power_up p) (0 ∷ 0 ∷ 0 ∷ 0 ∷ 8 ∷ [])) ≡ false
-    go FullBottom = refl
-    go FullTop = refl
-    go BenchBottom = refl
-    go BenchTop = refl
-    go Wt032kb = refl
+unfolding state_of no_state power_up running_alone program_alone erase_alone setup_fits running_fits program_fits suspended_erase_fits all_fit running_apart program_apart apart activity_formed well_formed spare_zero
+unsaved_refused ws h = rw h
 
 -- and so do words whose register has a reserved bit set, in bits 32 to 47 of word 11
 pub reserved_words : (ws : List ℕ) (i : ℕ) → is_reserved i ≡ true → bit (get_or ws 11 0 / half % 65536) i ≡ 1 → well_formed (state_of ws) ≡ false
@@ -434,14 +410,4 @@ zeros (suc n) (suc k) = zeros n k
 -- power-up is such a state
 pub power_up_fitting : (p : Part) → Fitting (power_up p)
 unfolding power_up all_protected empty_buffer
-power_up_fitting p = record {
-  banks = refl;
-  setup = tt;
-  running = tt;
-  program = tt;
-  erase = tt;
-  locks = refl;
-  configuration = omega arith;
-  places = refl;
-  buffer = λ k. omega (arith, zeros 32 k);
-}
+power_up_fitting p = record { banks = refl; setup = tt; running = tt; program = tt; erase = tt; unprotected = refl; configuration = omega arith; places = refl; buffer = λ k. omega (arith, zeros 32 k) }

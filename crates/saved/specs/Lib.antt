@@ -1,4 +1,3 @@
 pub mod Saved
 pub mod Laws
 pub mod Ranges
-pub mod Cases

@@ -7,7 +7,7 @@ use Rattle.std.proofs.Common.{sym, ap, ◌∙◌, subst, mod-eq_of_lt, eq-eqb, n
 use Rattle.std.proofs.Math.Nat.{mod-lt}
 use native.Mathlib.Omega.{arith}
 use Rattle.std.proofs.lemmas.Bool.{eqb-false}
-use Rattle.geometry.specs.declared.Part.TheVariants.{FullBottom, FullTop, BenchBottom, BenchTop, Wt032kb}
+use Rattle.geometry.specs.declared.Part.TheVariants.{FullBottom, FullTop, BenchBottom, BenchTop}
 use Rattle.geometry.specs.Blocks.{part_numbered}
 use Rattle.semantics.specs.declared.Mode.TheVariants.{Array, Status, Signature, Query}
 use Rattle.semantics.specs.declared.Activity.{Activity}
@@ -18,7 +18,7 @@ use Rattle.semantics.specs.Tests.{and_true_l, and_true_r}
 use Rattle.saved.specs.declared.Four.{Four}
 use Rattle.saved.specs.Saved.{part_number, mode_number, bank_number, bank_numbered, flag_numbered, half, setup_numbers}
 use Rattle.saved.specs.Saved.{running_numbers, program_numbers, erase_numbers, holds, flag_numbers, joined, bytes}
-use Rattle.saved.specs.Saved.{from_byte, flags_in, levels, control_word, packed, lane, saved_of, loaded_of, same, is_saved}
+use Rattle.saved.specs.Saved.{from_byte, flags_in, control_word, packed, lane, saved_of, loaded_of, same, is_saved}
 use Rattle.saved.specs.Saved.{activity_words, activity_of, bytes_below, activity_same, control_in_range, rest_in_range}
 use Rattle.saved.specs.Saved.{in_range, four_at, setup_of, running_of, program_of, erase_of, resting, decoded_of}
 use Rattle.saved.specs.Laws.{first_all, joined_eq, flags_small, packed_lanes, saved_length}
@@ -43,21 +43,8 @@ four_range number a b c d p q r s n = go (eqb n 0) (eqb n 1) (eqb n 2) refl refl
     go false false true e f g = rw (r, eqb-true n 2 g)
     go false false false e f g = rw s (test_is n 3 4 (λ h. omega (arith, eqb-false n 0 e, eqb-false n 1 f, eqb-false n 2 g)) (λ h i. omega arith))
 
--- the five parts, of which bench top stands for every other number too
-part_range : (n : ℕ) → eqb n (part_number (part_numbered n)) ≡ ltb n 5
-part_range n = go (eqb n 0) (eqb n 1) (eqb n 2) (eqb n 4) refl refl refl refl
-  where
-    go : (x y z t : Bool) → eqb n 0 ≡ x → eqb n 1 ≡ y → eqb n 2 ≡ z → eqb n 4 ≡ t
-        → eqb n (part_number (cond x FullBottom (cond y FullTop (cond z BenchBottom (cond t Wt032kb BenchTop)))))
-        ≡ ltb n 5
-    go true y z t e f g i = rw (eqb-true n 0 e)
-    go false true z t e f g i = rw (eqb-true n 1 f)
-    go false false true t e f g i = rw (eqb-true n 2 g)
-    go false false false true e f g i = rw (eqb-true n 4 i)
-    go false false false false e f g i =
-        test_is n 3 5
-        (λ h. omega (arith, eqb-false n 0 e, eqb-false n 1 f, eqb-false n 2 g, eqb-false n 4 i))
-        (λ h k. omega arith)
+part_range : (n : ℕ) → eqb n (part_number (part_numbered n)) ≡ ltb n 4
+part_range = four_range part_number FullBottom FullTop BenchBottom BenchTop refl refl refl refl
 
 mod_range : (m n : ℕ) → 0 < m → eqb n (n % m) ≡ ltb n m
 mod_range m n h = test_is n (n % m) m (λ l. sym (mod-eq_of_lt l)) (λ l e. omega (arith, mod-lt n h))
@@ -100,28 +87,14 @@ flags_range : (w : ℕ) → eqb w (bytes (flag_numbers (flags_in w))) ≡ bytes_
 unfolding tabulate
 flags_range = bytes_range 2 (omega arith) (omega arith) (λ n. bit_if (flag_numbered n) 1) flag_reduced (λ n. omega arith) 3
 
--- the supply and the pin
-levels_range : (w : ℕ) → eqb w (levels (flag_numbered w) (flag_numbered (w / 256))) ≡ bytes_below 2 1 w
-unfolding bytes_below
-levels_range w =
-    let x : ℕ = bit_if (flag_numbered w) 1 in
-    let y : ℕ = bit_if (flag_numbered (w / 256)) 1 in
-    let e : w % 2 ≡ w % 256 % 2 = omega arith in
-    joined_eq 256 w x y (omega (arith, flag_reduced w))
-    ∙ both (ap (eqb (w % 256)) (flag_reduced w ∙ e) ∙ mod_range 2 (w % 256) (omega arith))
-    (rw (flag_reduced (w / 256)) (mod_range 2 (w / 256) (omega arith)))
-
--- the flags, any configuration register, the supply and the pin
-control_range : (w : ℕ) → let h : ℕ = w / half in
-    eqb w (control_word (flags_in (w % half)) (h % 65536) (flag_numbered (h / 65536)) (flag_numbered (h / 65536 / 256)))
-    ≡ control_in_range w
+-- the flags, any configuration register, and the supply
+control_range : (w : ℕ) → eqb w (control_word (flags_in (w % half)) (w / half % 65536) (flag_numbered (w / half / 65536))) ≡ control_in_range w
 control_range w =
     let h : ℕ = w / half in
-    let f : ℕ = bytes (flag_numbers (flags_in (w % half))) in
-    let v : ℕ = levels (flag_numbered (h / 65536)) (flag_numbered (h / 65536 / 256)) in
-    joined_eq half w f (joined 65536 (h % 65536) v) (flags_small (flags_in (w % half)))
+    let b : ℕ = bit_if (flag_numbered (h / 65536)) 1 in
+    joined_eq half w (bytes (flag_numbers (flags_in (w % half)))) (joined 65536 (h % 65536) b) (flags_small (flags_in (w % half)))
     ∙ both (flags_range (w % half))
-    (joined_eq 65536 h (h % 65536) v (omega arith) ∙ any (h % 65536) (levels_range (h / 65536)))
+    (joined_eq 65536 h (h % 65536) b (omega arith) ∙ any (h % 65536) (rw (flag_reduced (h / 65536)) (mod_range 2 (h / 65536) (omega arith))))
 
 -- ---- all words
 
@@ -153,7 +126,7 @@ in_range_lem f =
     (last (control_range (f 11))
     (any (f 12) (any (f 13) (any (f 14) (any (f 15) (any (f 16)
     (full (f 17) (full (f 18) (full (f 19) (full (f 20) (full (f 21) (full (f 22) (full (f 23) (full (f 24) refl)))))))))))))))))
-    ∙ grouped (ltb (f 0) 5) (bytes_below 4 7 (f 1)) (bytes_below 4 7 (f 2)) (control_in_range (f 11)) (activity_same (tabulate 25 f) (activity_of (tabulate 25 f)))
+    ∙ grouped (ltb (f 0) 4) (bytes_below 4 7 (f 1)) (bytes_below 4 7 (f 2)) (control_in_range (f 11)) (activity_same (tabulate 25 f) (activity_of (tabulate 25 f)))
   where
     grouped : (a b c d e : Bool) → (a && (b && (c && (d && e)))) ≡ ((a && (b && (c && d))) && e)
     grouped a b c d e = simp and_assoc

@@ -4,7 +4,7 @@
 -- Assumes nothing.
 use Rattle.std.specs.Prelude.{ℕ, zero, suc, ◌+◌, ◌*◌, ◌/◌, ◌%◌, Bool, true, false, not, cond, ◌&&◌, List, [], ◌∷◌, ◌++◌, eqb, ltb, length, get_or, drop}
 use Rattle.geometry.specs.declared.Part.{Part}
-use Rattle.geometry.specs.declared.Part.TheVariants.{FullBottom, FullTop, BenchBottom, BenchTop, Wt032kb}
+use Rattle.geometry.specs.declared.Part.TheVariants.{FullBottom, FullTop, BenchBottom, BenchTop}
 use Rattle.geometry.specs.Blocks.{part_numbered}
 use Rattle.semantics.specs.declared.Mode.{Mode}
 use Rattle.semantics.specs.declared.Mode.TheVariants.{Array, Status, Signature, Query}
@@ -21,23 +21,21 @@ use Rattle.semantics.specs.declared.Activity.{Activity}
 use Rattle.semantics.specs.declared.Control.{Control}
 use Rattle.semantics.specs.declared.Flags.{Flags}
 use Rattle.semantics.specs.declared.State.{State}
-use Rattle.semantics.specs.State.{with_locks, activity, flags_of, power_up}
+use Rattle.semantics.specs.State.{with_protection, activity, flags_of, power_up}
 use Rattle.semantics.specs.Tabulate.{tabulate}
 use Rattle.semantics.specs.Reading.{bit_if}
 use Rattle.saved.specs.declared.Four.{Four}
 use Rattle.saved.specs.declared.Found.{Found}
 use Rattle.saved.specs.declared.Decoded.{Decoded}
 
--- ---- a field as numbers, and back. Of the numbers of an enum the last stands for every other number too, of those of
--- a part bench top's
+-- ---- a field as numbers, and back. Of the numbers of an enum the last stands for every other number too
 
--- 0 full bottom, 1 full top, 2 bench bottom, 3 bench top, 4 M58WT032KB; back by the geometry's `part_numbered`
+-- 0 full bottom, 1 full top, 2 bench bottom, 3 bench top; back by the geometry's `part_numbered`
 abbrev pub part_number : Part → ℕ
 part_number FullBottom = 0
 part_number FullTop = 1
 part_number BenchBottom = 2
 part_number BenchTop = 3
-part_number Wt032kb = 4
 
 -- 0 array, 1 status, 2 signature, 3 query
 abbrev pub mode_number : Mode → ℕ
@@ -181,23 +179,16 @@ banks_of ws = modes_in (get_or ws 1 0) ++ modes_in (get_or ws 2 0)
 abbrev pub activity_words : Activity → List ℕ
 activity_words a = in_halves (setup_numbers a.setup) ++ (in_halves (running_numbers a.running) ++ (in_halves (program_numbers a.program) ++ in_halves (erase_numbers a.erase)))
 
--- the supply, 1 where it is on, and the pin, 1 where it is high: a byte each
-abbrev pub levels : Bool → Bool → ℕ
-levels supply pin = joined 256 (bit_if supply 1) (bit_if pin 1)
-
--- the flags a byte each (bits 0 to 31), the configuration register (bits 32 to 47), the supply (bits 48 to 55), the pin
--- (from bit 56)
-abbrev pub control_word : Flags → ℕ → Bool → Bool → ℕ
-control_word f configuration supply pin =
-    joined half (bytes (flag_numbers f)) (joined 65536 configuration (levels supply pin))
+-- the flags a byte each (bits 0 to 31), the configuration register (bits 32 to 47), the supply (from bit 48)
+abbrev pub control_word : Flags → ℕ → Bool → ℕ
+control_word f configuration supply = joined half (bytes (flag_numbers f)) (joined 65536 configuration (bit_if supply 1))
 
 -- the words of the rest of a state, but for the buffer
-abbrev pub rest_words : Flags → List ℕ → ℕ → Bool → Bool → List ℕ
-rest_words f u configuration supply pin = control_word f configuration supply pin ∷ first 5 u
+abbrev pub rest_words : Flags → List ℕ → ℕ → Bool → List ℕ
+rest_words f u configuration supply = control_word f configuration supply ∷ first 5 u
 
 abbrev pub rest_of : State → List ℕ
-rest_of s =
-    rest_words s.control.flags s.locks s.control.configuration s.control.supply s.control.pin
+rest_of s = rest_words s.control.flags s.unprotected s.control.configuration s.control.supply
 
 -- four words of the buffer in one, the first lowest
 abbrev pub packed : ℕ → ℕ → ℕ → ℕ → ℕ
@@ -224,7 +215,7 @@ buffer_in ws = tabulate 32 (lane_at (drop 17 ws))
 -- 3 and 4 the set-up; 5 and 6 what runs; 7 and 8 the suspended program; 9 and 10 the suspended erase: the kind in the
 -- lower half of the first word, the numbers in its upper half and in the lower and the upper half of the second;
 -- 11 the flags SR5, SR4, SR3, SR1 a byte each from the lowest, the configuration register in bits 32 to 47, the supply
--- in bits 48 to 55, the pin from bit 56;
+-- from bit 48;
 -- 12 to 16 the protection words; 17 to 24 the buffer, four of its words to a word
 unfoldable pub saved_of : State → List ℕ
 saved_of s =
@@ -242,24 +233,17 @@ flags_in w = flags_of (flag_numbered w) (flag_numbered (from_byte 1 w)) (flag_nu
 abbrev pub protection_in : List ℕ → List ℕ
 protection_in ws = get_or ws 12 0 ∷ get_or ws 13 0 ∷ get_or ws 14 0 ∷ get_or ws 15 0 ∷ get_or ws 16 0 ∷ []
 
--- the flags of the lower half of word 11, the register, the supply and the pin of its upper half
+-- the flags of the lower half of word 11, the register and the supply of its upper half
 abbrev pub control_of : List ℕ → Control
 control_of ws = record {
   activity = activity_of ws;
   flags = flags_in (get_or ws 11 0 % half);
   configuration = get_or ws 11 0 / half % 65536;
   supply = flag_numbered (get_or ws 11 0 / half / 65536);
-  pin = flag_numbered (get_or ws 11 0 / half / 65536 / 256);
 }
 
 unfoldable pub loaded_of : List ℕ → State
-loaded_of ws = record {
-  part = part_numbered (get_or ws 0 0);
-  banks = banks_of ws;
-  locks = protection_in ws;
-  control = control_of ws;
-  buffer = buffer_in ws;
-}
+loaded_of ws = record { part = part_numbered (get_or ws 0 0); banks = banks_of ws; unprotected = protection_in ws; control = control_of ws; buffer = buffer_in ws }
 
 -- two lists are the same, word by word
 unfoldable pub same : List ℕ → List ℕ → Bool
@@ -276,7 +260,7 @@ is_saved ws = same ws (saved_of (loaded_of ws))
 -- for words that are no saved state: power-up of the part that they name, not well formed by a spare bit of the
 -- protection words, so that the device refuses every step, with 2 where the array has the part's length
 unfoldable pub no_state : List ℕ → State
-no_state ws = with_locks (power_up (part_numbered (get_or ws 0 0))) (0 ∷ 0 ∷ 0 ∷ 0 ∷ 8 ∷ [])
+no_state ws = with_protection (power_up (part_numbered (get_or ws 0 0))) (0 ∷ 0 ∷ 0 ∷ 0 ∷ 8 ∷ [])
 
 unfoldable pub state_of : List ℕ → State
 state_of ws = cond (is_saved ws) (loaded_of ws) (no_state ws)
@@ -316,17 +300,17 @@ decoded_of ws = record { same = activity_same ws (activity_of ws); activity = ac
 abbrev pub resting : Activity
 resting = activity setup.Nothing running.Idle program.Nothing erase.Nothing
 
--- the four flags 0 or 1, and so the supply and the pin; the configuration register is any 16 bits, of which
--- `well_formed` judges the reserved ones
+-- the four flags 0 or 1, and so the supply; the configuration register is any 16 bits, of which `well_formed` judges the
+-- reserved ones
 abbrev pub control_in_range : ℕ → Bool
-control_in_range w = bytes_below 2 3 (w % half) && bytes_below 2 1 (w / half / 65536)
+control_in_range w = bytes_below 2 3 (w % half) && ltb (w / half / 65536) 2
 
--- 25 words; the part below 5; each mode below 4; the flags, the supply and the pin; a protection word is any number,
--- and so is one of the buffer
+-- 25 words; the part below 4, and each mode; the flags and the supply; a protection word is any number, and so is
+-- one of the buffer
 unfoldable pub rest_in_range : List ℕ → Bool
 rest_in_range ws =
     eqb (length ws) 25
-    && (ltb (get_or ws 0 0) 5
+    && (ltb (get_or ws 0 0) 4
     && (bytes_below 4 7 (get_or ws 1 0)
     && (bytes_below 4 7 (get_or ws 2 0)
     && control_in_range (get_or ws 11 0))))

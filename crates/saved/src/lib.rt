@@ -50,7 +50,6 @@ fn part_number(part: Part) -> u64
         Part::FullTop => 1,
         Part::BenchBottom => 2,
         Part::BenchTop => 3,
-        Part::Wt032kb => 4,
     }
 }
 
@@ -249,12 +248,12 @@ fn word_at(words: &[u64], i: usize) -> u64
     if i < words.len() { words[i] } else { 0 }
 }
 
-// The part that the first word names: every other number is bench top's.
+// The part that the first word names: every other number is the last.
 fn part_in(words: &[u64]) -> Part
     ensures { result ≡ part_numbered (get_or words.now 0 0) }
 {
     let n = word_at(words, 0);
-    if n < 5 {
+    if n < 3 {
         return geometry::part_numbered(n as u32);
     }
     Part::BenchTop
@@ -385,7 +384,7 @@ fn rest_in_range(words: &[u64]) -> bool
     if words.len() != 25 {
         return false;
     }
-    if words[0] >= 5 {
+    if words[0] >= 4 {
         return false;
     }
     if !bytes_below(4, 7, words[1]) {
@@ -395,7 +394,7 @@ fn rest_in_range(words: &[u64]) -> bool
         return false;
     }
     let w = words[11];
-    bytes_below(2, 3, w % HALF) & bytes_below(2, 1, w / HALF / 65536)
+    bytes_below(2, 3, w % HALF) & (w / HALF / 65536 < 2)
 }
 
 // ---- the state of words
@@ -480,13 +479,12 @@ fn load_with(words: &[u64], a: Activity) -> State
     State {
         part: part_in(words),
         banks: banks_of(words),
-        locks: protection_of(words),
+        unprotected: protection_of(words),
         control: Control {
             activity: a,
             flags: flags_of(w % HALF),
             configuration: (w / HALF % 65536) as u16,
             supply: flag_numbered(w / HALF / 65536),
-            pin: flag_numbered(w / HALF / 65536 / 256),
         },
         buffer: buffer_of(words),
     }
@@ -496,7 +494,7 @@ fn load_with(words: &[u64], a: Activity) -> State
 fn no_state(words: &[u64]) -> State
     ensures { result ≡ no_state words.now }
 {
-    state::with_locks(state::power_up(part_in(words)), [0, 0, 0, 0, 8])
+    state::with_protection(state::power_up(part_in(words)), [0, 0, 0, 0, 8])
 }
 
 fn not_found(words: &[u64]) -> Found
@@ -573,22 +571,21 @@ fn put_activity(words: &mut [u64], a: Activity)
     put_four(words, 9, erase_numbers(erase));
 }
 
-// The flags a byte each, above them the configuration register, above it the supply and the pin, a byte each.
-fn control_word(f: Flags, configuration: u16, supply: bool, pin: bool) -> u64
-    ensures { result ≡ control_word f configuration supply pin }
+// The flags a byte each, above them the configuration register, above it the supply.
+fn control_word(f: Flags, configuration: u16, supply: bool) -> u64
+    ensures { result ≡ control_word f configuration supply }
 {
     let three = flag_number(f.sr4) + (flag_number(f.sr3) + flag_number(f.sr1) * 256) * 256;
     let low = flag_number(f.sr5) + three * 256;
-    let levels = flag_number(supply) + flag_number(pin) * 256;
-    let high = configuration as u64 + levels * 65536;
+    let high = configuration as u64 + flag_number(supply) * 65536;
     low + high * HALF
 }
 
-fn put_rest(words: &mut [u64], f: Flags, u: [u64; 5], configuration: u16, supply: bool, pin: bool)
+fn put_rest(words: &mut [u64], f: Flags, u: [u64; 5], configuration: u16, supply: bool)
     requires { length words.old ≡ 25 }
-    ensures { words.new ≡ sets words.old 11 (rest_words f u configuration supply pin) }
+    ensures { words.new ≡ sets words.old 11 (rest_words f u configuration supply) }
 {
-    words[11] = control_word(f, configuration, supply, pin);
+    words[11] = control_word(f, configuration, supply);
     words[12] = u[0];
     words[13] = u[1];
     words[14] = u[2];
@@ -631,12 +628,11 @@ pub fn save(s: State, words: &mut [u64])
     let banks = s.banks;
     let a = s.control.activity;
     let f = s.control.flags;
-    let u = s.locks;
+    let u = s.unprotected;
     let buffer = s.buffer;
     words[0] = part_number(part);
     put_banks(words, banks);
     put_activity(words, a);
-    let c = s.control;
-    put_rest(words, f, u, c.configuration, c.supply, c.pin);
+    put_rest(words, f, u, s.control.configuration, s.control.supply);
     put_buffer(words, buffer);
 }

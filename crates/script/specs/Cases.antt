@@ -3,21 +3,21 @@
 use Rattle.std.specs.Prelude.{ℕ, List, [], ◌∷◌, map, ◌≡◌, refl, replicate}
 use Prim.Native.String.{String}
 use Rattle.geometry.specs.Blocks.{mirror, block_from, block_of, bank_of, size_of, start_from, start_of, bank_start, block_offset, bank_offset, bank_of_block, lookup_of}
-use Rattle.protection.specs.Words.{bit, bit_at, is_set, with_set, is_held, is_programmable, relocked, lock_of, with_down, with_lock, spare_zero, all_protected}
-use Rattle.line.specs.Forms.{hex_value, digits as lineDigits, number, begins, is_read, is_write, is_work, is_level, is_reset, step_of_line}
+use Rattle.protection.specs.Words.{bit, bit_at, is_unprotected, with_unprotected, spare_zero, all_protected}
+use Rattle.line.specs.Forms.{hex_value, digits as lineDigits, number, begins, is_read, is_write, is_work, is_supply, is_reset, step_of_line}
 use Rattle.printing.specs.Text.{text, digit_of, digits, decimal, hex4, answer_text, line_text, end_text}
 use Rattle.semantics.specs.Tabulate.{tabulate}
 use Rattle.semantics.specs.State.{empty_buffer, power_up}
 use Rattle.semantics.specs.Register.{without_reserved, reserved_zero}
 use Rattle.semantics.specs.Supply.{end_flags, ended, ended_if_unsupplied, switched}
-use Rattle.semantics.specs.WellFormed.{running_alone, program_alone, erase_alone, erase_fits, words_fit, buffer_fits, setup_fits, running_fits, program_fits, suspended_erase_fits, all_fit, running_apart, program_apart, apart, activity_formed, setup_places, running_places, program_places, places_used, zero_from, array_from, unused_in, runs_supplied, well_formed}
-use Rattle.semantics.specs.Reading.{runs_in, status_word, lock_word, signature_word, query_word, shown, shows_by, read_in, read_word}
+use Rattle.semantics.specs.WellFormed.{running_alone, program_alone, erase_alone, erase_fits, words_fit, buffer_fits, setup_fits, running_fits, program_fits, suspended_erase_fits, all_fit, running_apart, program_apart, apart, activity_formed, setup_places, running_places, program_places, places_used, zero_from, runs_supplied, well_formed}
+use Rattle.semantics.specs.Reading.{runs_in, status_word, signature_word, query_word, shown, shows_by, read_in, read_word}
 use Rattle.semantics.specs.Writing.{command_of, resume, accepts, set_up, clear_status, first_cycle, program_runs, erase_cycle, lock_command_of, lock_cycle, settle, loads, count_right, first_right, later_right, confirm_right, confirm_cycle, words_cycle, cycle, kept_if, first_loaded, words_loaded, held_after, loaded, written_at, written}
 use Rattle.semantics.specs.Working.{units_left, units_done, running_after, word_after, array_after, buffer_after, worked_on, worked, worked_array}
 use Rattle.semantics.specs.Card.{given, card}
 use Rattle.semantics.specs.Split.{first_refusal}
-use Rattle.semantics.specs.Steps.{switched_to, reset_of, accepted, accepted_array}
-use Rattle.wear.specs.Counts.{row_of, place_in, count_at, count_of, shared_zero, counts_formed, no_counts, put_at, with_count, one_more, counted_after, counts_after}
+use Rattle.semantics.specs.Steps.{switched_to, accepted, accepted_array}
+use Rattle.wear.specs.Counts.{row_of, place_in, count_at, count_of, shared_zero, no_counts, put_at, with_count, one_more, counts_after}
 use Rattle.wear.specs.Steps.{formed_with, refusal_with, accepted_counts, step_with, array_with, counts_with}
 use Rattle.lines.specs.Lines.{lines}
 use Rattle.script.specs.Script.{script_of, line_refusal, machine_at_end, transcript_of}
@@ -99,10 +99,6 @@ plays =
     ∷ play (replicate 16384 0xFFFF)
     "V 1\nW 000040 0060\nW 000040 00D0\nW 000040 00E8\nW 000040 0001\nW 000040 AAAA\nW 000041 BBBB\nV 0\nV 1\nW 000040 00D0\nK 1\nV 0\nR 000040\nW 000040 00FF\nR 000040\nR 000041\n"
     "1 ok\n2 ok\n3 ok\n4 ok\n5 ok\n6 ok\n7 ok\n8 ok\n9 ok\n10 ok\n11 1\n12 ok\n13 0098\n14 ok\n15 AAAA\n16 FFFF\nend 16\n"
-    -- document 02, item 8: 2Fh is a wrong code on M58LT, and the pin has no effect there
-    ∷ play (replicate 16384 0xFFFF)
-    "L 1\nW 000040 0060\nW 000040 002F\nR 000040\nW 000040 0090\nR 000042\nL 0\nR 000042\nL 2\n"
-    "1 ok\n2 ok\n3 ok\n4 00B0\n5 ok\n6 0001\n7 ok\n8 0001\n9 refused 6\nend 9\n"
     -- document 02, item 6
     ∷ play (replicate 16384 0xFFFF) wear_reset
     "1 ok\n2 ok\n3 ok\n4 ok\n5 ok\n6 ok\n7 ok\n8 16\n9 ok\n10 ok\n11 63\n12 ok\n13 ok\n14 1\n15 ok\n16 ok\n17 64\n18 ok\n19 ok\n20 ok\n21 ok\n22 ok\n23 10\n24 ok\nend 24\n"
@@ -111,7 +107,7 @@ plays =
     ∷ []
 
 pub plays_hold : map printed plays ≡ map output plays
-unfolding script_of lines line_refusal transcript_of digit_of digits decimal hex4 answer_text line_text end_text hex_value lineDigits number begins is_read is_write is_work is_level is_reset step_of_line mirror block_from block_of bank_of size_of start_from start_of bank_start block_offset bank_offset bank_of_block lookup_of bit bit_at is_set with_set is_held is_programmable relocked lock_of with_down with_lock spare_zero all_protected empty_buffer power_up running_alone program_alone erase_alone erase_fits words_fit buffer_fits setup_fits running_fits program_fits suspended_erase_fits all_fit running_apart program_apart apart activity_formed setup_places running_places program_places places_used zero_from array_from unused_in reserved_zero runs_supplied well_formed runs_in status_word lock_word signature_word query_word shown shows_by read_in read_word command_of end_flags ended ended_if_unsupplied resume accepts set_up clear_status first_cycle program_runs erase_cycle lock_command_of without_reserved lock_cycle settle loads count_right first_right later_right confirm_right confirm_cycle words_cycle cycle kept_if first_loaded words_loaded held_after loaded written_at written units_left units_done running_after word_after tabulate array_after buffer_after worked_on worked worked_array given card first_refusal switched switched_to reset_of accepted accepted_array row_of place_in count_at count_of shared_zero counts_formed no_counts put_at with_count one_more counted_after counts_after formed_with refusal_with accepted_counts step_with array_with counts_with
+unfolding script_of lines line_refusal transcript_of digit_of digits decimal hex4 answer_text line_text end_text hex_value lineDigits number begins is_read is_write is_work is_supply is_reset step_of_line mirror block_from block_of bank_of size_of start_from start_of bank_start block_offset bank_offset bank_of_block lookup_of bit bit_at is_unprotected with_unprotected spare_zero all_protected empty_buffer power_up running_alone program_alone erase_alone erase_fits words_fit buffer_fits setup_fits running_fits program_fits suspended_erase_fits all_fit running_apart program_apart apart activity_formed setup_places running_places program_places places_used zero_from reserved_zero runs_supplied well_formed runs_in status_word signature_word query_word shown shows_by read_in read_word command_of end_flags ended ended_if_unsupplied resume accepts set_up clear_status first_cycle program_runs erase_cycle lock_command_of without_reserved lock_cycle settle loads count_right first_right later_right confirm_right confirm_cycle words_cycle cycle kept_if first_loaded words_loaded held_after loaded written_at written units_left units_done running_after word_after tabulate array_after buffer_after worked_on worked worked_array given card first_refusal switched switched_to accepted accepted_array row_of place_in count_at count_of shared_zero no_counts put_at with_count one_more counts_after formed_with refusal_with accepted_counts step_with array_with counts_with
 plays_hold = refl
 
 -- ---- the counts after a script, which no line of it shows
@@ -134,5 +130,5 @@ worn =
     ∷ []
 
 pub worn_hold : map counted worn ≡ map counts worn
-unfolding script_of lines line_refusal transcript_of machine_at_end digit_of digits decimal hex4 answer_text line_text end_text hex_value lineDigits number begins is_read is_write is_work is_level is_reset step_of_line mirror block_from block_of bank_of size_of start_from start_of bank_start block_offset bank_offset bank_of_block lookup_of bit bit_at is_set with_set is_held is_programmable relocked lock_of with_down with_lock spare_zero all_protected empty_buffer power_up running_alone program_alone erase_alone erase_fits words_fit buffer_fits setup_fits running_fits program_fits suspended_erase_fits all_fit running_apart program_apart apart activity_formed setup_places running_places program_places places_used zero_from array_from unused_in reserved_zero runs_supplied well_formed runs_in status_word lock_word signature_word query_word shown shows_by read_in read_word command_of end_flags ended ended_if_unsupplied resume accepts set_up clear_status first_cycle program_runs erase_cycle lock_command_of without_reserved lock_cycle settle loads count_right first_right later_right confirm_right confirm_cycle words_cycle cycle kept_if first_loaded words_loaded held_after loaded written_at written units_left units_done running_after word_after tabulate array_after buffer_after worked_on worked worked_array given card first_refusal switched switched_to reset_of accepted accepted_array row_of place_in count_at count_of shared_zero counts_formed no_counts put_at with_count one_more counted_after counts_after formed_with refusal_with accepted_counts step_with array_with counts_with
+unfolding script_of lines line_refusal transcript_of machine_at_end digit_of digits decimal hex4 answer_text line_text end_text hex_value lineDigits number begins is_read is_write is_work is_supply is_reset step_of_line mirror block_from block_of bank_of size_of start_from start_of bank_start block_offset bank_offset bank_of_block lookup_of bit bit_at is_unprotected with_unprotected spare_zero all_protected empty_buffer power_up running_alone program_alone erase_alone erase_fits words_fit buffer_fits setup_fits running_fits program_fits suspended_erase_fits all_fit running_apart program_apart apart activity_formed setup_places running_places program_places places_used zero_from reserved_zero runs_supplied well_formed runs_in status_word signature_word query_word shown shows_by read_in read_word command_of end_flags ended ended_if_unsupplied resume accepts set_up clear_status first_cycle program_runs erase_cycle lock_command_of without_reserved lock_cycle settle loads count_right first_right later_right confirm_right confirm_cycle words_cycle cycle kept_if first_loaded words_loaded held_after loaded written_at written units_left units_done running_after word_after tabulate array_after buffer_after worked_on worked worked_array given card first_refusal switched switched_to accepted accepted_array row_of place_in count_at count_of shared_zero no_counts put_at with_count one_more counts_after formed_with refusal_with accepted_counts step_with array_with counts_with
 worn_hold = refl

@@ -7,7 +7,7 @@ use Rattle.geometry.specs.declared.Part.TheVariants.{BenchBottom}
 use Rattle.geometry.specs.Laws.{order}
 use Rattle.semantics.specs.declared.State.{State}
 use Rattle.semantics.specs.declared.Step.{Step}
-use Rattle.semantics.specs.declared.Step.TheVariants.{Read, Write, Work, Supply, Reset, Pin}
+use Rattle.semantics.specs.declared.Step.TheVariants.{Read, Write, Work, Supply, Reset}
 use Rattle.semantics.specs.declared.Answer.TheVariants.{Refused}
 use Rattle.semantics.specs.declared.Decoded.{Decoded}
 use Rattle.semantics.specs.declared.Decoded.TheVariants.{Valid, Invalid}
@@ -81,7 +81,6 @@ accepted_short s k xs (Write address w) h = done_short
 accepted_short s k xs (Work n) h = units_short (units_done (geometry s) s.control.activity.running n) (omega (arith, count_short s k n (length xs) h))
 accepted_short s k xs (Supply on) h = done_short
 accepted_short s k xs Reset h = done_short
-accepted_short s k xs (Pin high) h = done_short
 
 step_short : (s : State) (k : Counts) (xs : List ℕ) (x : Step) → length (answer_text (step_with s k xs x).answer) ≤ 9
 unfolding step_with

@@ -1,6 +1,7 @@
 -- Laws of a script: its steps, its refused lines, and the loop that plays it line by line.
 -- Assumes nothing.
-use Rattle.std.specs.Prelude.{ℕ, suc, ◌+◌, ◌-◌, ◌<◌, ◌≤◌, true, ◌≡◌, refl, take}
+use Rattle.std.specs.Prelude.{ℕ, suc, ◌+◌, ◌-◌, ◌<◌, ◌≤◌, ◌≡◌, refl, take}
+use Rattle.std.proofs.Math.Bool.{true}
 use mathlib.Core.List.{List, [], ◌∷◌, ◌++◌, append_assoc, append-nil}
 use Rattle.std.proofs.Math.Path.{sym, ap, subst}
 use Rattle.std.proofs.Common.{◌∙◌, arith, add-one, length-take}
@@ -22,10 +23,10 @@ use Rattle.semantics.specs.Standing.{demand_3_whole}
 use Rattle.semantics.specs.Progress.{Good, reached_good}
 use Rattle.device.specs.declared.Device.{Device}
 use Rattle.device.specs.declared.Outcome.{Outcome}
-use Rattle.wear.specs.Counts.{Counts, no_counts}
+use Rattle.wear.specs.Counts.{Counts, shared_zero, no_counts}
 use Rattle.wear.specs.Steps.{refusal_with, step_with, Counted, after_with, after_all_with, fresh_with}
 use Rattle.wear.specs.Claim.{CountsStand}
-use Rattle.wear.specs.Refused.{length_refused, refusal_alone, all_alone, Goes, fresh_goes, formed_all}
+use Rattle.wear.specs.Refused.{length_refused, refusal_alone, all_alone, fresh_shared, shared_all}
 use Rattle.wear.specs.Theorem.{counts_stand}
 use Rattle.device.specs.Outcomes.{holding, outcome, array_out, counts_out}
 use Rattle.line.specs.Forms.{step_of_line}
@@ -77,7 +78,7 @@ machine_steps xs t = lines_steps (fresh_with BenchBottom xs) (lines (script_of t
 
 -- and without its counts, the one that they make of power-up without them
 pub machine_alone : (xs t : List ℕ) → (machine_at_end xs t).machine ≡ after_all (fresh BenchBottom xs) (steps_of_script t)
-machine_alone xs t = ap (λ (m : Counted). m.machine) (machine_steps xs t) ∙ all_alone (fresh_with BenchBottom xs) (steps_of_script t) (fresh_goes BenchBottom xs)
+machine_alone xs t = ap (λ (m : Counted). m.machine) (machine_steps xs t) ∙ all_alone (fresh_with BenchBottom xs) (steps_of_script t) fresh_shared
 
 -- on an array of the part's length 1 and 2 do not come: a line without a form is refused 6, wherever it stands
 module _ (xs : List ℕ) (before : List (List ℕ)) (h : length xs ≡ words (geometry_of BenchBottom)) where
@@ -86,10 +87,10 @@ module _ (xs : List ℕ) (before : List (List ℕ)) (h : length xs ≡ words (ge
   no_form l e =
       let m : Counted = after_lines (fresh_with BenchBottom xs) before in
       let steps : m ≡ after_all_with (fresh_with BenchBottom xs) (steps_of_lines before) = lines_steps (fresh_with BenchBottom xs) before in
-      let alone : m.machine ≡ after_all (fresh BenchBottom xs) (steps_of_lines before) = ap (λ (k : Counted). k.machine) steps ∙ all_alone (fresh_with BenchBottom xs) (steps_of_lines before) (fresh_goes BenchBottom xs) in
+      let alone : m.machine ≡ after_all (fresh BenchBottom xs) (steps_of_lines before) = ap (λ (k : Counted). k.machine) steps ∙ all_alone (fresh_with BenchBottom xs) (steps_of_lines before) fresh_shared in
       let good : Good m.machine = subst (λ (k : Machine). Good k) (sym alone) (reached_good BenchBottom (steps_of_lines before) xs h) in
-      let goes : Goes m = subst Goes (sym steps) (formed_all (fresh_with BenchBottom xs) (steps_of_lines before) ∙ fresh_goes BenchBottom xs) in
-      rw (e, refusal_alone m.machine.state m.counts goes (length m.machine.array) Reset, state_good m.machine.state (length m.machine.array) good.size good.formed)
+      let zero : shared_zero m.counts.main ≡ true = ap (λ (k : Counted). shared_zero k.counts.main) steps ∙ shared_all (fresh_with BenchBottom xs) (steps_of_lines before) ∙ fresh_shared in
+      rw (e, refusal_alone m.machine.state m.counts zero (length m.machine.array) Reset, state_good m.machine.state (length m.machine.array) good.size good.formed)
 
   -- "A line over 16 bytes, or empty, is refused 6."
   pub long_refused : (l : List ℕ) → 16 < length l → answer_of (after_lines (fresh_with BenchBottom xs) before) (step_of_line l) ≡ Refused 6

@@ -66,7 +66,7 @@ fn play_line(
         }
         Decoded::Invalid => {
             let s = device.state;
-            let e = state::first_refusal(device::refusal_of(s, main, small, array.len()), 6);
+            let e = state::first_refusal(device::refusal_of(s, main, array.len()), 6);
             let after = printing::put_line(room, place, number, Answer::Refused(e));
             Played {
                 device,

@@ -1,9 +1,8 @@
 -- Every entry of the journal was accepted at a write that is its accepting cycle, with supply on and its block
--- programmable as the recorder has it. Assumes nothing.
+-- unprotected as the recorder has it. Assumes nothing.
 use Rattle.std.specs.Prelude.{◌≡◌, refl, List, [], ◌∷◌, ◌++◌, map, true, ◌⊎◌, ℕ, suc, length}
 use Rattle.std.proofs.Common.{sym, ap, ◌∙◌, inl, inr}
 use Rattle.geometry.specs.declared.Geometry.{Geometry}
-use Rattle.protection.specs.Words.{is_programmable}
 use Rattle.semantics.specs.declared.Step.{Step}
 use Rattle.semantics.specs.declared.Step.TheVariants.{Write}
 use Rattle.semantics.specs.Entries.{Phase, Entry, entry, worked}
@@ -45,15 +44,15 @@ module _ (g : Geometry) where
     pub accepts : event g (Write address word) (recorded_all g c before) ≡ accept k
     pub place : length (recorded_all g c before).journal ≡ n
     pub supply_on : (recorded_all g c before).conditions.supply ≡ true
-    pub programmable : is_programmable ((recorded_all g c before).conditions.lock (block_in g k)) (recorded_all g c before).conditions.pin ≡ true
+    pub unprotected : (recorded_all g c before).conditions.unprotected (block_in g k) ≡ true
 
   here : (k : Operation) (n : ℕ) (c : Recorder) (s : Step) (l : List Step) → event g s c ≡ accept k → length c.journal ≡ n → Caused g c s (accept k) → Accepted k n c (s ∷ l)
   here k n c s l e z (by_accept _ a w i x o) =
-      record { before = []; address = a; word = w; later = l; whole = ap (λ (y : Step). y ∷ l) i; accepting_cycle = x; accepts = ap (λ (y : Step). event g y c) (sym i) ∙ e; place = z; supply_on = o.0; programmable = o.1 }
+      record { before = []; address = a; word = w; later = l; whole = ap (λ (y : Step). y ∷ l) i; accepting_cycle = x; accepts = ap (λ (y : Step). event g y c) (sym i) ∙ e; place = z; supply_on = o.0; unprotected = o.1 }
 
   further : (k : Operation) (n : ℕ) (c : Recorder) (s : Step) (l : List Step) → Accepted k n (recorded g c s) l → Accepted k n c (s ∷ l)
   further k n c s l r =
-      record { before = s ∷ r.before; address = r.address; word = r.word; later = r.later; whole = ap (λ (m : List Step). s ∷ m) r.whole; accepting_cycle = r.accepting_cycle; accepts = r.accepts; place = r.place; supply_on = r.supply_on; programmable = r.programmable }
+      record { before = s ∷ r.before; address = r.address; word = r.word; later = r.later; whole = ap (λ (m : List Step). s ∷ m) r.whole; accepting_cycle = r.accepting_cycle; accepts = r.accepts; place = r.place; supply_on = r.supply_on; unprotected = r.unprotected }
 
   -- every entry was accepted so
   pub accepted : (k : Operation) (n : ℕ) (l : List Step) (c : Recorder) → Holds g k n (recorded_all g c l).journal → Holds g k n c.journal ⊎ Accepted k n c l

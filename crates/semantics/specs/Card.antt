@@ -6,7 +6,7 @@ use Rattle.std.specs.Prelude.{ℕ, min, Bool, false, cond, not, List, [], ◌∷
 use Rattle.geometry.specs.declared.Geometry.{Geometry}
 use Rattle.geometry.specs.Blocks.{words, blocks, location, block_of}
 use Rattle.semantics.specs.declared.Step.{Step}
-use Rattle.semantics.specs.declared.Step.TheVariants.{Read, Write, Work, Supply, Reset, Pin}
+use Rattle.semantics.specs.declared.Step.TheVariants.{Read, Write, Work, Supply, Reset}
 
 -- a row of the card: its number, and whether it applies
 pub record Row : Type 0 where
@@ -31,7 +31,6 @@ at_address p (Write address w) = p address
 at_address p (Work n) = false
 at_address p (Supply on) = false
 at_address p Reset = false
-at_address p (Pin high) = false
 
 -- and work, where its count is so
 abbrev pub at_count : (ℕ → Bool) → Step → Bool
@@ -40,12 +39,11 @@ at_count p (Write address w) = false
 at_count p (Work n) = p n
 at_count p (Supply on) = false
 at_count p Reset = false
-at_count p (Pin high) = false
 
 -- the rows of a step, beside an array of n words and a state that is well formed (document 01: well made) or not
 unfoldable pub card : Geometry → Bool → ℕ → Step → List Row
 card g formed n x =
-    -- "array length is not 256u": "every step"; document 02, item 8: "1 uses the new length .. the pin step gives 1 and 2"
+    -- "array length is not 256u": "every step"
     row 1 (not (eqb n (words g)))
     -- "state not well made": "all that take a device"
     ∷ row 2 (not formed)

@@ -1,12 +1,12 @@
--- The refusal card computed: each row at its limits, on parts of each size, and the lowest number where several rows
+-- The refusal card computed: each row at its limits, on parts of both sizes, and the lowest number where several rows
 -- apply. An array is told by its length alone, and a state by whether it is well formed; RefusalCases has whole steps.
 -- Assumes nothing.
 use Rattle.std.specs.Prelude.{ℕ, Bool, true, false, ◌&&◌, List, [], ◌∷◌, ◌++◌, T, eqb}
-use Rattle.geometry.specs.declared.Part.TheVariants.{FullBottom, FullTop, BenchBottom, BenchTop, Wt032kb}
+use Rattle.geometry.specs.declared.Part.TheVariants.{FullBottom, FullTop, BenchBottom, BenchTop}
 use Rattle.geometry.specs.declared.Geometry.{Geometry}
 use Rattle.geometry.specs.Blocks.{geometry_of, mirror, block_from, block_of}
 use Rattle.semantics.specs.declared.Step.{Step}
-use Rattle.semantics.specs.declared.Step.TheVariants.{Read, Write, Work, Supply, Reset, Pin}
+use Rattle.semantics.specs.declared.Step.TheVariants.{Read, Write, Work, Supply, Reset}
 use Rattle.semantics.specs.Card.{row, given, card}
 
 -- each of the steps is refused r, 0 for none
@@ -24,7 +24,7 @@ every (b ∷ l) = b && every l
 abbrev plain : List Step
 plain =
     Read 0 ∷ Read 65536 ∷ Read 16777215 ∷ Write 0 0xFFFF ∷ Write 65536 0 ∷ Write 16777215 0xFFFF
-    ∷ Work 0 ∷ Work 1 ∷ Work 65535 ∷ Supply true ∷ Supply false ∷ Reset ∷ Pin true ∷ Pin false ∷ []
+    ∷ Work 0 ∷ Work 1 ∷ Work 65535 ∷ Supply true ∷ Supply false ∷ Reset ∷ []
 
 abbrev far : List Step
 far =
@@ -42,12 +42,12 @@ any = plain ++ far ++ long
 -- no part has a location that lies in no block (`address_good`), but a geometry has whose unit is no multiple of its
 -- small blocks: here four of one word, and the last of the five words, as counted from their end, lies in none
 abbrev odd : Bool → Geometry
-odd t = record { unit = 5; smalls = 4; places = 1; group = 1; top = t; lockdown = false }
+odd t = record { unit = 5; smalls = 4; places = 1; group = 1; top = t }
 
 abbrev within : List Step
 within =
     Read 1 ∷ Read 3 ∷ Read 6 ∷ Write 1 0 ∷ Write 3 4 ∷ Write 8 9
-    ∷ Work 0 ∷ Work 4 ∷ Work 9 ∷ Supply true ∷ Supply false ∷ Reset ∷ Pin true ∷ []
+    ∷ Work 0 ∷ Work 4 ∷ Work 9 ∷ Supply true ∷ Supply false ∷ Reset ∷ []
 
 abbrev between : List Step
 between = Read 4 ∷ Read 9 ∷ Read 16777214 ∷ Write 4 0 ∷ Write 9 0xFFFF ∷ []
@@ -59,9 +59,6 @@ card_cases =
     ∷ gives (geometry_of FullTop) true 16777216 0 plain
     ∷ gives (geometry_of BenchBottom) true 16384 0 plain
     ∷ gives (geometry_of BenchTop) true 16384 0 plain
-    ∷ gives (geometry_of Wt032kb) true 2097152 0 plain
-    ∷ gives (geometry_of Wt032kb) true 2097152 3 far
-    ∷ gives (geometry_of Wt032kb) true 2097152 4 long
     ∷ gives (geometry_of FullBottom) true 16777216 3 far
     ∷ gives (geometry_of BenchTop) true 16384 3 far
     ∷ gives (geometry_of FullTop) true 16777216 4 long
@@ -74,13 +71,9 @@ card_cases =
     ∷ gives (geometry_of BenchTop) true 16385 1 any
     ∷ gives (geometry_of BenchTop) true 16777216 1 any
     ∷ gives (geometry_of BenchBottom) true 0 1 any
-    ∷ gives (geometry_of Wt032kb) true 2097151 1 any
-    ∷ gives (geometry_of Wt032kb) false 16777216 1 any
-    ∷ gives (geometry_of Wt032kb) true 16384 1 any
     -- 2, whatever else applies but 1
     ∷ gives (geometry_of FullBottom) false 16777216 2 any
     ∷ gives (geometry_of BenchTop) false 16384 2 any
-    ∷ gives (geometry_of Wt032kb) false 2097152 2 any
     -- 5, and what comes before it
     ∷ gives (odd false) true 5 0 (Read 0 ∷ Read 5 ∷ within)
     ∷ gives (odd true) true 5 0 (Read 2 ∷ Write 9 0 ∷ within)

@@ -5,7 +5,7 @@ use Rattle.std.specs.Prelude.{ℕ, zero, suc, ◌+◌, ◌*◌, Bool, true, ◌&
 use Rattle.geometry.specs.declared.Part.{Part}
 use Rattle.geometry.specs.declared.Part.TheVariants.{BenchBottom}
 use Rattle.geometry.specs.Blocks.{mirror, block_from, block_of, bank_of, size_of, start_from, start_of, bank_start, block_offset, bank_offset, bank_of_block, lookup_of}
-use Rattle.protection.specs.Words.{bit, bit_at, is_set, with_set, is_held, is_programmable, relocked, lock_of, with_down, with_lock, spare_zero, all_protected}
+use Rattle.protection.specs.Words.{bit, bit_at, is_unprotected, with_unprotected, spare_zero, all_protected}
 use Rattle.semantics.specs.declared.Step.{Step}
 use Rattle.semantics.specs.declared.Step.TheVariants.{Read, Write, Work, Supply, Reset}
 use Rattle.semantics.specs.declared.Answer.{Answer}
@@ -15,12 +15,12 @@ use Rattle.semantics.specs.Tabulate.{tabulate}
 use Rattle.semantics.specs.State.{empty_buffer, power_up}
 use Rattle.semantics.specs.Register.{without_reserved, reserved_zero}
 use Rattle.semantics.specs.Supply.{end_flags, ended, ended_if_unsupplied, switched}
-use Rattle.semantics.specs.WellFormed.{running_alone, program_alone, erase_alone, erase_fits, words_fit, buffer_fits, setup_fits, running_fits, program_fits, suspended_erase_fits, all_fit, running_apart, program_apart, apart, activity_formed, setup_places, running_places, program_places, places_used, zero_from, array_from, unused_in, runs_supplied, well_formed}
-use Rattle.semantics.specs.Reading.{runs_in, status_word, lock_word, signature_word, query_word, shown, shows_by, read_in, read_word}
+use Rattle.semantics.specs.WellFormed.{running_alone, program_alone, erase_alone, erase_fits, words_fit, buffer_fits, setup_fits, running_fits, program_fits, suspended_erase_fits, all_fit, running_apart, program_apart, apart, activity_formed, setup_places, running_places, program_places, places_used, zero_from, runs_supplied, well_formed}
+use Rattle.semantics.specs.Reading.{runs_in, status_word, signature_word, query_word, shown, shows_by, read_in, read_word}
 use Rattle.semantics.specs.Writing.{command_of, resume, accepts, set_up, clear_status, first_cycle, program_runs, erase_cycle, lock_command_of, lock_cycle, settle, loads, count_right, first_right, later_right, confirm_right, confirm_cycle, words_cycle, cycle, kept_if, first_loaded, words_loaded, held_after, loaded, written_at, written}
 use Rattle.semantics.specs.Working.{units_left, units_done, running_after, word_after, array_after, buffer_after, worked_on, worked, worked_array}
 use Rattle.semantics.specs.Card.{given, card}
-use Rattle.semantics.specs.Steps.{refusal_of, switched_to, reset_of, accepted, accepted_array, step_of, array_of, reported_of, Machine, after, fresh}
+use Rattle.semantics.specs.Steps.{refusal_of, switched_to, accepted, accepted_array, step_of, array_of, reported_of, Machine, after, fresh}
 
 infixl 20 ◌⟶◌
 -- a step, and what it answers
@@ -161,5 +161,5 @@ cases =
     ∷ []
 
 pub cases_hold : T (every cases)
-unfolding mirror block_from block_of bank_of size_of start_from start_of bank_start block_offset bank_offset bank_of_block lookup_of bit bit_at is_set with_set is_held is_programmable relocked lock_of with_down with_lock spare_zero all_protected empty_buffer power_up running_alone program_alone erase_alone erase_fits words_fit buffer_fits setup_fits running_fits program_fits suspended_erase_fits all_fit running_apart program_apart apart activity_formed setup_places running_places program_places places_used zero_from array_from unused_in reserved_zero runs_supplied well_formed runs_in status_word lock_word signature_word query_word shown shows_by read_in read_word command_of end_flags ended ended_if_unsupplied resume accepts set_up clear_status first_cycle program_runs erase_cycle lock_command_of without_reserved lock_cycle settle loads count_right first_right later_right confirm_right confirm_cycle words_cycle cycle kept_if first_loaded words_loaded held_after loaded written_at written units_left units_done running_after word_after tabulate array_after buffer_after worked_on worked worked_array given card refusal_of switched switched_to reset_of accepted accepted_array step_of array_of
+unfolding mirror block_from block_of bank_of size_of start_from start_of bank_start block_offset bank_offset bank_of_block lookup_of bit bit_at is_unprotected with_unprotected spare_zero all_protected empty_buffer power_up running_alone program_alone erase_alone erase_fits words_fit buffer_fits setup_fits running_fits program_fits suspended_erase_fits all_fit running_apart program_apart apart activity_formed setup_places running_places program_places places_used zero_from reserved_zero runs_supplied well_formed runs_in status_word signature_word query_word shown shows_by read_in read_word command_of end_flags ended ended_if_unsupplied resume accepts set_up clear_status first_cycle program_runs erase_cycle lock_command_of without_reserved lock_cycle settle loads count_right first_right later_right confirm_right confirm_cycle words_cycle cycle kept_if first_loaded words_loaded held_after loaded written_at written units_left units_done running_after word_after tabulate array_after buffer_after worked_on worked worked_array given card refusal_of switched switched_to accepted accepted_array step_of array_of
 cases_hold = tt

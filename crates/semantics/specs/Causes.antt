@@ -3,51 +3,26 @@
 -- Assumes nothing.
 use Rattle.std.specs.Prelude.{◌≡◌, refl, List, Bool, true, false, cond, ◌&&◌, ◌||◌, ℕ, ◌+◌, ◌-◌, ◌≤◌, ◌<◌, ◌%◌, ltb, leb, eqb, length, set, replicate}
 use Rattle.std.proofs.Common.{◌∙◌, subst, arith, length-set, ltb-true, leb-true, lt-ltb, eqb-true}
-use Rattle.std.proofs.lemmas.Bool.{false≢true}
 use Rattle.std.proofs.lemmas.List.{length-replicate}
 use Rattle.geometry.specs.declared.Geometry.{Geometry}
 use Rattle.geometry.specs.Blocks.{Sound, words, blocks, location, block_of, start_of, size_of}
 use Rattle.geometry.specs.Laws as laws
 use Rattle.semantics.specs.declared.Step.{Step}
-use Rattle.semantics.specs.declared.Step.TheVariants.{Read, Write, Work, Supply, Reset, Pin}
-use Rattle.semantics.specs.Branches.{of_cond, by_cond}
+use Rattle.semantics.specs.declared.Step.TheVariants.{Read, Write, Work, Supply, Reset}
+use Rattle.semantics.specs.Branches.{by_cond}
 use Rattle.semantics.specs.Tests.{and_true_l, and_true_r, or_false_l, or_false_r, not_true}
-use Rattle.protection.specs.Words.{is_programmable}
 use Rattle.semantics.specs.Numbers.{within}
-use Rattle.semantics.specs.WellFormed.{has_buffer}
 use Rattle.semantics.specs.Entries.{any_runs, any_suspended}
-use Rattle.semantics.specs.Recorder.{Operation, program, erase, buffer, Setup, no-setup, program-setup, erase-setup, lock-setup, count_setup, first_setup, words_setup, Event, nothing, supplied, was_reset, units, suspend, resume-program, resume-erase, end-program, end-erase, setup_is, protect, pin_is, accept, Protection, opening, shutting, locking-down}
+use Rattle.semantics.specs.Recorder.{Operation, program, erase, buffer, Setup, no-setup, program-setup, erase-setup, lock-setup, count_setup, first_setup, words_setup, Event, nothing, supplied, was_reset, units, suspend, resume-program, resume-erase, end-program, end-erase, setup_is, unprotected_is, accept}
 use Rattle.semantics.specs.Recorder.{Conditions, conditions_after, rule, is_program, is_erase, is_erase_of, is_any, block_in, Recorder, event, first_cycle_event, goes_on, cycle, acceptable}
 use Rattle.semantics.specs.Recorder.{Command, command_of, suspend-command, resume-command, program-command, lock-command, erase-command, buffer-command, other-command}
 use Rattle.semantics.specs.Demand.{ProtectionCommand, AcceptingCycle}
-use Rattle.semantics.specs.Events.{OnConditions, switches, resets, protects, pins, leaves, changes}
-
--- E8h is a command where the part has a buffer
-abbrev is_buffer_command : Command → Bool
-is_buffer_command suspend-command = false
-is_buffer_command resume-command = false
-is_buffer_command program-command = false
-is_buffer_command lock-command = false
-is_buffer_command erase-command = false
-is_buffer_command buffer-command = true
-is_buffer_command other-command = false
-
-buffer_known : (g : Geometry) (c : ℕ) → is_buffer_command (command_of g c) ≡ true → has_buffer g ≡ true
-buffer_known g c =
-    of_cond Knows (eqb c 0xB0) _ _ no (of_cond Knows (eqb c 0xD0) _ _ no
-    (of_cond Knows (eqb c 0x10 || eqb c 0x40) _ _ no (of_cond Knows (eqb c 0x60) _ _ no (of_cond Knows (eqb c 0x20) _ _ no
-    (by_cond Knows (eqb c 0xE8 && has_buffer g) _ _ (λ e h. and_true_r (eqb c 0xE8) _ e) (λ e. no))))))
-  where
-    Knows : Command → Type 0
-    Knows k = is_buffer_command k ≡ true → has_buffer g ≡ true
-
-    no : false ≡ true → has_buffer g ≡ true
-    no h = absurd (false≢true h)
+use Rattle.semantics.specs.Events.{OnConditions, switches, resets, protects, leaves, changes}
 
 module _ (g : Geometry) where
-  -- n words from location l on lie in one block, and the part's buffer holds them
+  -- n words from location l on lie in one block, and the buffer holds them
   abbrev pub Spans : ℕ → ℕ → Type 0
-  Spans l n = (l < words g) × (l + n ≤ start_of g (block_of g l) + size_of g (block_of g l)) × (n ≤ 32) × (has_buffer g ≡ true)
+  Spans l n = (l < words g) × (l + n ≤ start_of g (block_of g l) + size_of g (block_of g l)) × (n ≤ 32)
 
   -- what holds while a set-up is pending
   abbrev pub Ready : Setup → Bool → ((Operation → Bool) → Bool) → Type 0
@@ -55,13 +30,13 @@ module _ (g : Geometry) where
   Ready program-setup r h = (r ≡ false) × (h is_program ≡ false)
   Ready lock-setup r h = (r ≡ false) × (h is_program ≡ false)
   Ready erase-setup r h = (r ≡ false) × (h is_any ≡ false)
-  Ready (count_setup b) r h = (r ≡ false) × (h is_program ≡ false) × (b < blocks g) × (has_buffer g ≡ true)
-  Ready (first_setup b n) r h = (r ≡ false) × (h is_program ≡ false) × (b < blocks g) × (0 < n) × (n ≤ 32) × (has_buffer g ≡ true)
+  Ready (count_setup b) r h = (r ≡ false) × (h is_program ≡ false) × (b < blocks g)
+  Ready (first_setup b n) r h = (r ≡ false) × (h is_program ≡ false) × (b < blocks g) × (0 < n) × (n ≤ 32)
   Ready (words_setup l ws due) r h = (r ≡ false) × (h is_program ≡ false) × (due < length ws) × Spans l (length ws)
 
   -- an operation in block b is acceptable
   abbrev pub Open : Conditions → ((Operation → Bool) → Bool) → ℕ → Type 0
-  Open d h b = (d.supply ≡ true) × (is_programmable (d.lock b) d.pin ≡ true) × (h (is_erase_of g b) ≡ false)
+  Open d h b = (d.supply ≡ true) × (d.unprotected b ≡ true) × (h (is_erase_of g b) ≡ false)
 
   pub data Cause (d : Conditions) (r : Bool) (h : (Operation → Bool) → Bool) (s : Step) : Event → Type 0 where
     by_nothing : Cause d r h s nothing
@@ -74,8 +49,7 @@ module _ (g : Geometry) where
     by_end_program : d.supply ≡ false → d.setup ≡ no-setup → r ≡ false → h is_program ≡ true → Cause d r h s end-program
     by_end_erase : d.supply ≡ false → d.setup ≡ no-setup → r ≡ false → h is_program ≡ false → h is_erase ≡ true → Cause d r h s end-erase
     by_setup : (t : Setup) → (Sound g → Ready d.setup r h → Ready t r h) → Cause d r h s (setup_is t)
-    by_protection : (b : ℕ) (k : Protection) → ProtectionCommand g b k d.setup s → Cause d r h s (protect b k)
-    by_pin : (high : Bool) → s ≡ Pin high → Cause d r h s (pin_is high)
+    by_protection : (b : ℕ) (o : Bool) → ProtectionCommand g b o d.setup s → Cause d r h s (unprotected_is b o)
     by_accept : (k : Operation) (a w : ℕ) → s ≡ Write a w → AcceptingCycle g d.setup a w k → Open d h (block_in g k) → Cause d r h s (accept k)
 
   module _ (d : Conditions) (r : Bool) (h : (Operation → Bool) → Bool) where
@@ -89,24 +63,19 @@ module _ (g : Geometry) where
     begins : {s : Step} (p : Operation → Bool) (t : Setup) → (Sound g → r ≡ false → h p ≡ false → Ready t r h) → Cause d r h s (cond (r || h p) nothing (setup_is t))
     begins p t f = either (r || h p) (λ e. by_nothing) (λ e. by_setup t (λ o y. f o (or_false_l r (h p) e) (or_false_r r (h p) e)))
 
-    first_cause : (s : Step) → d.setup ≡ no-setup → (b : ℕ) → (Sound g → b < blocks g) → (c : Command) → (is_buffer_command c ≡ true → has_buffer g ≡ true)
-        → Cause d r h s (first_cycle_event g d r h b c)
-    first_cause s z b q suspend-command i = either r (λ e. by_suspend z) (λ e. by_nothing)
-    first_cause s z b q resume-command i =
+    first_cause : (s : Step) → d.setup ≡ no-setup → (b : ℕ) → (Sound g → b < blocks g) → (c : Command) → Cause d r h s (first_cycle_event g d r h b c)
+    first_cause s z b q suspend-command = either r (λ e. by_suspend z) (λ e. by_nothing)
+    first_cause s z b q resume-command =
         either r (λ e. by_nothing) (λ x. either (h is_program) (λ y. either d.supply (λ e. by_resume_program z x y) (λ e. by_end_program e z x y))
-        (λ y. either (h is_erase) (λ j. either d.supply (λ e. by_resume_erase z x y j) (λ e. by_end_erase e z x y j)) (λ e. by_nothing)))
-    first_cause s z b q program-command i = begins is_program program-setup (λ o x y. (x, y))
-    first_cause s z b q lock-command i = begins is_program lock-setup (λ o x y. (x, y))
-    first_cause s z b q erase-command i = begins is_any erase-setup (λ o x y. (x, y))
-    first_cause s z b q buffer-command i = begins is_program (count_setup b) (λ o x y. (x, y, q o, i refl))
-    first_cause s z b q other-command i = by_nothing
+        (λ y. either (h is_erase) (λ i. either d.supply (λ e. by_resume_erase z x y i) (λ e. by_end_erase e z x y i)) (λ e. by_nothing)))
+    first_cause s z b q program-command = begins is_program program-setup (λ o x y. (x, y))
+    first_cause s z b q lock-command = begins is_program lock-setup (λ o x y. (x, y))
+    first_cause s z b q erase-command = begins is_any erase-setup (λ o x y. (x, y))
+    first_cause s z b q buffer-command = begins is_program (count_setup b) (λ o x y. (x, y, q o))
+    first_cause s z b q other-command = by_nothing
 
     open_at : (b : ℕ) → acceptable g d r h b ≡ true → Open d h b
-    open_at b e = let x = and_true_r d.supply _ e in (
-      and_true_l d.supply _ e,
-      and_true_l (is_programmable (d.lock b) d.pin) _ x,
-      not_true _ (and_true_r (is_programmable (d.lock b) d.pin) _ x),
-    )
+    open_at b e = let x = and_true_r d.supply _ e in (and_true_l d.supply _ e, and_true_l (d.unprotected b) _ x, not_true _ (and_true_r (d.unprotected b) _ x))
 
     ready_at : {p : Setup} → d.setup ≡ p → Ready d.setup r h → Ready p r h
     ready_at q y = subst (λ (p : Setup). Ready p r h) q y
@@ -133,21 +102,10 @@ module _ (g : Geometry) where
           (λ x o y. rw (length-set ws (location g a - l) w) (y.0, y.1, omega (arith, y.2), y.3)))
 
       cycle_cause : (p : Setup) → d.setup ≡ p → Cause d r h (Write a w) (cycle g d r h p (location g a) (w % 256) w)
-      cycle_cause no-setup q = first_cause (Write a w) q (block_of g (location g a)) (λ o. laws.block_lt g o (location g a) (laws.location_lt g o a))
-          (command_of g (w % 256)) (buffer_known g (w % 256))
+      cycle_cause no-setup q = first_cause (Write a w) q (block_of g (location g a)) (λ o. laws.block_lt g o (location g a) (laws.location_lt g o a)) (command_of (w % 256))
       cycle_cause lock-setup q =
-          let b : ℕ = block_of g (location g a) in
-          either (eqb (w % 256) 0xD0) (λ e. by_protection b opening (i, q, eqb-true (w % 256) 0xD0 e, refl, tt))
-          (λ x. either (eqb (w % 256) 0x01) (λ e. by_protection b shutting (i, q, eqb-true (w % 256) 0x01 e, refl, tt))
-          (λ y. either (eqb (w % 256) 0x2F && g.lockdown)
-          (λ e. by_protection b locking-down (
-            i,
-            q,
-            eqb-true (w % 256) 0x2F (and_true_l (eqb (w % 256) 0x2F) _ e),
-            refl,
-            and_true_r (eqb (w % 256) 0x2F) _ e,
-          ))
-          (λ e. ends)))
+          either (eqb (w % 256) 0xD0) (λ e. by_protection (block_of g (location g a)) true (i, q, eqb-true (w % 256) 0xD0 e, refl))
+          (λ x. either (eqb (w % 256) 0x01) (λ e. by_protection (block_of g (location g a)) false (i, q, eqb-true (w % 256) 0x01 e, refl)) (λ e. ends))
       cycle_cause program-setup q =
           let b : ℕ = block_of g (location g a) in
           either (acceptable g d r h b) (λ e. by_accept (program (location g a) w) a w refl (i, q, refl, refl) (open_at b e)) (λ e. ends)
@@ -158,14 +116,14 @@ module _ (g : Geometry) where
           (λ e. ends)
       cycle_cause (count_setup b) q =
           loads (count_setup b) q (eqb (block_of g (location g a)) b && leb w 31) (first_setup b (w + 1))
-          (λ e o y. (y.0, y.1, y.2, omega arith, omega (arith, leb-true w 31 (and_true_r (eqb (block_of g (location g a)) b) _ e)), y.3))
+          (λ e o y. (y.0, y.1, y.2, omega arith, omega (arith, leb-true w 31 (and_true_r (eqb (block_of g (location g a)) b) _ e))))
       cycle_cause (first_setup b n) q =
           let l : ℕ = location g a in
           loads (first_setup b n) q (eqb (block_of g l) b && leb (l + n) (start_of g b + size_of g b)) (words_setup l (set (replicate n 0xFFFF) 0 w) (n - 1))
           (λ e o y. let z : length (set (replicate n 0xFFFF) 0 w) ≡ n = length-set (replicate n 0xFFFF) 0 w ∙ length-replicate n 0xFFFF in
           let x = eqb-true (block_of g l) b (and_true_l _ _ e) in
           let f = leb-true (l + n) (start_of g b + size_of g b) (and_true_r (eqb (block_of g l) b) _ e) in
-          rw z (y.0, y.1, omega (arith, y.3), (laws.location_lt g o a, rw x f, y.4, y.5)))
+          rw z (y.0, y.1, omega (arith, y.3), (laws.location_lt g o a, rw x f, y.4)))
       cycle_cause (words_setup l ws due) q = words_cause l ws due q (eqb due 0) refl
 
     -- every event of the rule
@@ -175,7 +133,6 @@ module _ (g : Geometry) where
     cause (Work n) = either (leb n 65535) (λ e. by_work n refl) (λ e. by_nothing)
     cause (Supply on) = by_supply on refl
     cause Reset = by_reset refl
-    cause (Pin high) = by_pin high refl
 
   -- where an operation is accepted nothing runs, and no program is suspended; and at an erase nothing at all
   pub accept_free : (c : Setup) (r : Bool) (h : (Operation → Bool) → Bool) (a w : ℕ) (k : Operation) → AcceptingCycle g c a w k → Ready c r h → (r ≡ false) × (h (cond (is_erase k) is_any is_program) ≡ false)
@@ -190,17 +147,11 @@ module _ (g : Geometry) where
       go : {v : Event} → OnConditions v → Cause d r h s v → (conditions_after v d).supply ≡ d.supply
       go (switches on) (by_supply _ e) = absurd (n on e)
       go resets c = refl
-      go (protects b k) c = refl
-      go (pins high) c = refl
+      go (protects b o) c = refl
       go (leaves v f) c = (f d).0
 
-  pub cause_protection : {d : Conditions} {r : Bool} {h : (Operation → Bool) → Bool} {s : Step} {b : ℕ} {k : Protection}
-      → Cause d r h s (protect b k) → ProtectionCommand g b k d.setup s
-  cause_protection (by_protection b k x) = x
-
-  pub cause_pin : {d : Conditions} {r : Bool} {h : (Operation → Bool) → Bool} {s : Step} {high : Bool}
-      → Cause d r h s (pin_is high) → s ≡ Pin high
-  cause_pin (by_pin high e) = e
+  pub cause_protection : {d : Conditions} {r : Bool} {h : (Operation → Bool) → Bool} {s : Step} {b : ℕ} {o : Bool} → Cause d r h s (unprotected_is b o) → ProtectionCommand g b o d.setup s
+  cause_protection (by_protection b o x) = x
 
   pub cause_reset : {d : Conditions} {r : Bool} {h : (Operation → Bool) → Bool} {s : Step} → Cause d r h s was_reset → s ≡ Reset
   cause_reset (by_reset e) = e
@@ -214,12 +165,10 @@ module _ (g : Geometry) where
   event_cause c s v e = subst (λ (x : Event). Caused c s x) e (cause c.conditions (any_runs c.journal) (λ p. any_suspended p c.journal) s)
 
   -- the recorder takes a step for a protection command exactly where it is one
-  pub protection_event : (b : ℕ) (k : Protection) (c : Recorder) (s : Step) → ProtectionCommand g b k c.conditions.setup s → event g s c ≡ protect b k
-  protection_event b opening c (Write a w) x = rw (lt-ltb a 16777216 x.0, x.1, x.2, x.3)
-  protection_event b shutting c (Write a w) x = rw (lt-ltb a 16777216 x.0, x.1, x.2, x.3)
-  protection_event b locking-down c (Write a w) x = rw (lt-ltb a 16777216 x.0, x.1, x.2, x.3, x.4)
-  protection_event b k c (Read a) x = absurd x
-  protection_event b k c (Work n) x = absurd x
-  protection_event b k c (Supply on) x = absurd x
-  protection_event b k c Reset x = absurd x
-  protection_event b k c (Pin high) x = absurd x
+  pub protection_event : (b : ℕ) (v : Bool) (c : Recorder) (s : Step) → ProtectionCommand g b v c.conditions.setup s → event g s c ≡ unprotected_is b v
+  protection_event b true c (Write a w) x = rw (lt-ltb a 16777216 x.0, x.1, x.2, x.3)
+  protection_event b false c (Write a w) x = rw (lt-ltb a 16777216 x.0, x.1, x.2, x.3)
+  protection_event b v c (Read a) x = absurd x
+  protection_event b v c (Work n) x = absurd x
+  protection_event b v c (Supply on) x = absurd x
+  protection_event b v c Reset x = absurd x

@@ -5,7 +5,6 @@
 use Rattle.std.specs.Prelude.{ℕ, ◌+◌, ◌*◌, Bool, true, false, not, ◌&&◌, List, [], ◌∷◌, T, eqb}
 use Rattle.geometry.specs.declared.Part.TheVariants.{BenchBottom}
 use Rattle.geometry.specs.Blocks.{geometry_of, mirror, block_from, block_of, size_of, start_from, start_of}
-use Rattle.protection.specs.Words.{lock, is_held, is_programmable, relocked}
 use Rattle.semantics.specs.declared.Mode.{Mode}
 use Rattle.semantics.specs.declared.Mode.TheVariants.{Array, Status, Signature, Query}
 use Rattle.semantics.specs.declared.Setup.{Setup}
@@ -31,11 +30,7 @@ at80 = record { address = 0x80; location = 0x80; bank = 0; block = 5 }
 -- the view there: with supply on, such flags, the block unprotected or not, a set-up, and what runs or is suspended;
 -- signature mode, and a register of 1204h
 abbrev seen : Flags → Bool → Setup → Running → SuspendedErase → View
-seen f o s r e = record {
-  mode = Signature;
-  lock = lock o false;
-  control = record { activity = activity s r suspended-program.Nothing e; flags = f; configuration = 0x1204; supply = true; pin = false };
-}
+seen f o s r e = record { mode = Signature; unprotected = o; control = record { activity = activity s r suspended-program.Nothing e; flags = f; configuration = 0x1204; supply = true } }
 
 abbrev idle : Bool → Setup → View
 idle o s = seen no_flags o s running.Idle suspended-erase.Nothing
@@ -113,8 +108,8 @@ code_cases =
     ∷ exactly (λ c. works 2 (after (seen no_flags true setup.Nothing running.Idle (suspended-erase.Erase 4 3)) c)) (0xD0 ∷ [])
     -- after 60h: 01h alone protects, D0h alone unprotects, 03h alone sets the register, to 0080h, and every other
     -- code is wrong
-    ∷ exactly (λ c. not (after (idle true setup.Lock) c).lock.unprotected) (0x01 ∷ [])
-    ∷ exactly (λ c. (after (idle false setup.Lock) c).lock.unprotected) (0xD0 ∷ [])
+    ∷ exactly (λ c. not (after (idle true setup.Lock) c).unprotected) (0x01 ∷ [])
+    ∷ exactly (λ c. (after (idle false setup.Lock) c).unprotected) (0xD0 ∷ [])
     ∷ exactly (λ c. eqb (after (idle true setup.Lock) c).control.configuration 0x0080) (0x03 ∷ [])
     ∷ exactly (λ c. not (eqb (after (idle true setup.Lock) c).control.configuration 0x1204)) (0x03 ∷ [])
     ∷ exactly (λ c. not (wrong (after (idle true setup.Lock) c))) (0x01 ∷ 0x03 ∷ 0xD0 ∷ [])
@@ -137,5 +132,5 @@ code_cases =
     ∷ []
 
 pub codes_hold : T (every code_cases)
-unfolding mirror block_from block_of size_of start_from start_of is_held is_programmable relocked command_of end_flags ended ended_if_unsupplied resume accepts set_up clear_status first_cycle program_runs erase_cycle lock_command_of without_reserved lock_cycle settle loads count_right first_right later_right confirm_right confirm_cycle words_cycle cycle
+unfolding mirror block_from block_of size_of start_from start_of command_of end_flags ended ended_if_unsupplied resume accepts set_up clear_status first_cycle program_runs erase_cycle lock_command_of without_reserved lock_cycle settle loads count_right first_right later_right confirm_right confirm_cycle words_cycle cycle
 codes_hold = tt

@@ -1,8 +1,6 @@
 -- The device's commands are the recorder's, and those that it does not know bear on no word. Assumes nothing.
-use Rattle.std.specs.Prelude.{◌≡◌, true, ◌&&◌, ℕ, eqb}
+use Rattle.std.specs.Prelude.{◌≡◌, true, ℕ, eqb}
 use Rattle.std.proofs.Common.{ap, eqb-true}
-use Rattle.std.proofs.Math.Bool.{not}
-use Rattle.geometry.specs.declared.Geometry.{Geometry}
 use Rattle.semantics.specs.declared.Command.{Command}
 use Rattle.semantics.specs.declared.Command.TheVariants as command
 use Rattle.semantics.specs.Branches.{by_cond}
@@ -24,14 +22,14 @@ bears command.SetUpLock = recorder.lock-command
 bears command.SetUpBuffer = recorder.buffer-command
 bears command.Unknown = recorder.other-command
 
-module _ (g : Geometry) (c : ℕ) where
+module _ (c : ℕ) where
   abbrev Bears : Command → Type 0
-  Bears x = recorder.command_of g c ≡ bears x
+  Bears x = recorder.command_of c ≡ bears x
 
-  at : (n : ℕ) → eqb c n ≡ true → recorder.command_of g c ≡ recorder.command_of g n
-  at n e = ap (recorder.command_of g) (eqb-true c n e)
+  at : (n : ℕ) → eqb c n ≡ true → recorder.command_of c ≡ recorder.command_of n
+  at n e = ap recorder.command_of (eqb-true c n e)
 
-  pub commands_agree : recorder.command_of g c ≡ bears (command_of g c)
+  pub commands_agree : recorder.command_of c ≡ bears (command_of c)
   unfolding command_of
   commands_agree =
       by_cond Bears (eqb c 0xFF) _ _ (at 0xFF) (λ x.
@@ -45,5 +43,5 @@ module _ (g : Geometry) (c : ℕ) where
       by_cond Bears (eqb c 0x40) _ _ (at 0x40) (λ e.
       by_cond Bears (eqb c 0x60) _ _ (at 0x60) (λ f.
       by_cond Bears (eqb c 0x20) _ _ (at 0x20) (λ h.
-      by_cond Bears (eqb c 0xE8 && not g.lockdown) _ _ (λ i. rw (a, b, d, e, f, h, i)) (λ i.
+      by_cond Bears (eqb c 0xE8) _ _ (at 0xE8) (λ i.
       rw (a, b, d, e, f, h, i)))))))))))))

@@ -1,15 +1,13 @@
 -- The cycles of a write as a few changes of what they see. A law of all cycles is shown of each change (`First`,
 -- `Second`) and cites `of_first`, `of_second` or `of_cycle`: the commands and the set-ups are gone through here alone.
--- `both_first` and `both_cycle` are of two views that differ in their flags, which no test of a cycle looks at, and in the
--- pin, where it bears on nothing that a cycle sees: there a law may compare what comes of the two.
+-- `both_first` and `both_cycle` are of two views that differ in their flags, which no test of a cycle looks at: there a
+-- law may compare what comes of the two.
 -- Assumes nothing.
-use Rattle.std.specs.Prelude.{◌≡◌, Bool, true, false, not, ◌&&◌, ℕ, ◌+◌, ◌-◌, ◌%◌, eqb}
+use Rattle.std.specs.Prelude.{◌≡◌, Bool, not, ℕ, ◌+◌, ◌-◌, ◌%◌, eqb}
 use Rattle.std.proofs.Math.Path.{refl}
 use Rattle.std.proofs.Common.{ap, sym, ◌∙◌, true≢false}
-use Rattle.std.proofs.lemmas.Bool.{false≢true}
+use Rattle.std.proofs.Math.Bool.{true, false}
 use Rattle.geometry.specs.declared.Geometry.{Geometry}
-use Rattle.protection.specs.declared.Lock.{Lock}
-use Rattle.protection.specs.Words.{is_programmable, relocked, locked_down}
 use Rattle.semantics.specs.declared.Mode.{Mode}
 use Rattle.semantics.specs.declared.Mode.TheVariants.{Array, Status, Signature, Query}
 use Rattle.semantics.specs.declared.Setup.{Setup}
@@ -27,13 +25,12 @@ use Rattle.semantics.specs.declared.LockCommand.{LockCommand}
 use Rattle.semantics.specs.declared.LockCommand.TheVariants as lock
 use Rattle.semantics.specs.declared.Place.{Place}
 use Rattle.semantics.specs.declared.View.{View}
-use Rattle.semantics.specs.Branches.{of_cond, by_cond, by_cond₂}
-use Rattle.semantics.specs.Tests.{and_true_r}
-use Rattle.semantics.specs.State.{set_activity, set_flags, set_pin, with_running, runs, program_suspended, no_flags}
-use Rattle.semantics.specs.View.{with_control, with_mode, set_lock, with_activity, with_flags, with_configuration, raise}
+use Rattle.semantics.specs.Branches.{by_cond₂}
+use Rattle.semantics.specs.State.{set_activity, with_running, runs, program_suspended, no_flags}
+use Rattle.semantics.specs.View.{with_control, with_mode, with_protection, with_activity, with_flags, with_configuration, raise}
 use Rattle.semantics.specs.Supply.{ended, ended_if_unsupplied}
 use Rattle.semantics.specs.WellFormed.{pending, erasing, setup_places}
-use Rattle.semantics.specs.Writing.{command_of, can_program, suspended, resumed, resume, accepts, pend, set_up, clear_status, first_cycle, program_runs, erase_cycle, lock_command_of, lock_cycle, settle, loads, count_right, first_right, later_right, confirm_right, confirm_cycle, words_cycle, cycle}
+use Rattle.semantics.specs.Writing.{command_of, suspended, resumed, resume, accepts, pend, set_up, clear_status, first_cycle, program_runs, erase_cycle, lock_command_of, lock_cycle, settle, loads, count_right, first_right, later_right, confirm_right, confirm_cycle, words_cycle, cycle}
 
 -- the control with what D0h would have resumed running
 abbrev pub awake : Control → Control
@@ -61,25 +58,6 @@ ChangesMode x command.SetUpLock = accepts x setup.Lock ≡ true
 ChangesMode x command.SetUpBuffer = accepts x setup.Program ≡ true
 ChangesMode x command.Unknown = ⊥
 
--- the command is 2Fh, which a part knows where it has lock-down
-abbrev pub is_lock_down : LockCommand → Bool
-is_lock_down lock.Protect = false
-is_lock_down lock.Unprotect = false
-is_lock_down lock.Configure = false
-is_lock_down lock.LockDown = true
-is_lock_down lock.Unknown = false
-
-pub down_known : (g : Geometry) (c : ℕ) → is_lock_down (lock_command_of g c) ≡ true → g.lockdown ≡ true
-unfolding lock_command_of
-down_known g c =
-    of_cond Knows (eqb c 0x01) _ _ (λ h. absurd (false≢true h))
-    (of_cond Knows (eqb c 0xD0) _ _ (λ h. absurd (false≢true h))
-    (of_cond Knows (eqb c 0x03) _ _ (λ h. absurd (false≢true h))
-    (by_cond Knows (eqb c 0x2F && g.lockdown) _ _ (λ e h. and_true_r (eqb c 0x2F) _ e) (λ e h. absurd (false≢true h)))))
-  where
-    Knows : LockCommand → Type 0
-    Knows k = is_lock_down k ≡ true → g.lockdown ≡ true
-
 -- R holds of two views after each change that a first cycle may make of them, given what is known where it makes it: a
 -- mode; B0h; D0h that resumes, and that ends what it would have resumed; 50h; a set-up, of which none uses a place of
 -- the buffer; nothing
@@ -96,15 +74,12 @@ pub record First (R : View → View → Type 0) (v u : View) (c : Command) : Typ
   pub stays : R v u
 
 -- and after each that a cycle of the word w may make after the set-up c: flags set beside those that were; an operation
--- that starts, with supply on; the block's lock, by 01h or D0h, and by 2Fh; 03h; the next cycle of a load
-pub record Second (R : View → View → Type 0) (g : Geometry) (v u : View) (c : Setup) (w : ℕ) : Type 0 where
+-- that starts, with supply on; the block's protection; 03h; the next cycle of a load
+pub record Second (R : View → View → Type 0) (v u : View) (c : Setup) (w : ℕ) : Type 0 where
   pub raises : (f : Flags) → R (raise (settle v) f) (raise (settle u) f)
   pub starts : (r : Running) → v.control.supply ≡ true → R (started (settle v) r) (started (settle u) r)
-  pub relocks : (b : Bool)
-      → R (set_lock (settle v) (relocked v.lock v.control.pin b))
-      (set_lock (settle u) (relocked v.lock v.control.pin b))
-  pub downs : is_lock_down (lock_command_of g (w % 256)) ≡ true → R (set_lock (settle v) locked_down) (set_lock (settle u) locked_down)
-  pub stores : c ≡ setup.Lock → lock_command_of g (w % 256) ≡ lock.Configure → (n : ℕ)
+  pub protects : (b : Bool) → R (with_protection (settle v) b) (with_protection (settle u) b)
+  pub stores : c ≡ setup.Lock → lock_command_of (w % 256) ≡ lock.Configure → (n : ℕ)
       → R (with_configuration (settle v) n) (with_configuration (settle u) n)
   pub loads : (x : Setup) → R (pend v x) (pend u x)
 
@@ -134,19 +109,11 @@ not_off : (b : Bool) → not b ≡ false → b ≡ true
 not_off true h = refl
 not_off false h = absurd (true≢false h)
 
--- ---- two views that differ in their flags and in the pin
+-- ---- two views that differ in their flags
 
-abbrev pub turned_to : View → Flags → Bool → View
-turned_to v f high = with_control v (set_pin (set_flags v.control f) high)
-
--- the pin bears on nothing that a cycle sees of the block's lock
-pub record Unpinned (v : View) (high : Bool) : Type 0 where
-  pub same_test : is_programmable v.lock high ≡ is_programmable v.lock v.control.pin
-  pub same_lock_lem : (b : Bool) → relocked v.lock high b ≡ relocked v.lock v.control.pin b
-
-module _ (R : View → View → Type 0) (v : View) (f : Flags) (high : Bool) (p : Place) where
+module _ (R : View → View → Type 0) (v : View) (f : Flags) (p : Place) where
   abbrev u : View
-  u = turned_to v f high
+  u = with_flags v f
 
   both_set_up : (x : Setup) → (accepts v.control.activity x ≡ true → R (pend v x) (pend u x)) → R v u
       → R (set_up v x) (set_up u x)
@@ -174,73 +141,65 @@ module _ (R : View → View → Type 0) (v : View) (f : Flags) (high : Bool) (p 
       both_set_up (setup.BufferCount p.block) (λ e. h.sets_up e (setup.BufferCount p.block) refl) h.stays
   both_first command.Unknown h = h.stays
 
-  both_program : (r : Running) → Unpinned v high → ((x : Flags) → R (raise v x) (raise u x))
+  both_program : (r : Running) → ((x : Flags) → R (raise v x) (raise u x))
       → (v.control.supply ≡ true → R (started v r) (started u r)) → R (program_runs v p r) (program_runs u p r)
   unfolding program_runs
-  both_program r z h k =
+  both_program r h k =
       by_cond₂ R (not v.control.supply) _ _ _ _ (λ e. h _)
-      (λ e. rw z.same_test (by_cond₂ R (not (can_program v)) _ _ _ _ (λ i. h _)
-      (λ i. by_cond₂ R (erasing v.control.activity.erase p.block) _ _ _ _ (λ j. h _) (λ j. k (not_off _ e)))))
+      (λ e. by_cond₂ R (not v.unprotected) _ _ _ _ (λ i. h _)
+      (λ i. by_cond₂ R (erasing v.control.activity.erase p.block) _ _ _ _ (λ j. h _) (λ j. k (not_off _ e))))
 
-  both_erase : (c : ℕ) → Unpinned v high → ((x : Flags) → R (raise v x) (raise u x))
+  both_erase : (c : ℕ) → ((x : Flags) → R (raise v x) (raise u x))
       → (v.control.supply ≡ true → R (started v (running.Erase p.block 0))
       (started u (running.Erase p.block 0)))
       → R (erase_cycle v p c) (erase_cycle u p c)
   unfolding erase_cycle
-  both_erase c z h k =
+  both_erase c h k =
       by_cond₂ R (not (eqb c 0xD0)) _ _ _ _ (λ e. h _) (λ e. by_cond₂ R (not v.control.supply) _ _ _ _ (λ i. h _)
-      (λ i. rw z.same_test (by_cond₂ R (not (can_program v)) _ _ _ _ (λ j. h _) (λ j. k (not_off _ i)))))
+      (λ i. by_cond₂ R (not v.unprotected) _ _ _ _ (λ j. h _) (λ j. k (not_off _ i))))
 
-  both_lock : (k : LockCommand) → Unpinned v high → ((x : Flags) → R (raise v x) (raise u x))
-      → ((b : Bool) → R (set_lock v (relocked v.lock v.control.pin b))
-      (set_lock u (relocked v.lock v.control.pin b)))
-      → (is_lock_down k ≡ true → R (set_lock v locked_down) (set_lock u locked_down))
+  both_lock : (k : LockCommand) → ((x : Flags) → R (raise v x) (raise u x))
+      → ((b : Bool) → R (with_protection v b) (with_protection u b))
       → (k ≡ lock.Configure → (n : ℕ) → R (with_configuration v n) (with_configuration u n)) → R (lock_cycle v p k)
       (lock_cycle u p k)
   unfolding lock_cycle
-  both_lock lock.Protect z h i d j = rw (z.same_lock_lem false) (i false)
-  both_lock lock.Unprotect z h i d j = rw (z.same_lock_lem true) (i true)
-  both_lock lock.Configure z h i d j = j refl _
-  both_lock lock.LockDown z h i d j = d refl
-  both_lock lock.Unknown z h i d j = h _
+  both_lock lock.Protect h i j = i false
+  both_lock lock.Unprotect h i j = i true
+  both_lock lock.Configure h i j = j refl _
+  both_lock lock.Unknown h i j = h _
 
   both_loads : (right : Bool) (x : Setup) → R (pend v x) (pend u x)
       → ((x : Flags) → R (raise (settle v) x) (raise (settle u) x)) → R (loads right v x) (loads right u x)
   unfolding loads
   both_loads right x h k = by_cond₂ R right _ _ _ _ (λ e. h) (λ e. k _)
 
-module _ (R : View → View → Type 0) (g : Geometry) (v : View) (f : Flags) (high : Bool) (z : Unpinned v high) (p : Place) (w : ℕ) where
-  -- the end of the set-up leaves lock and pin
-  settled : Unpinned (settle v) high
-  unfolding settle
-  settled = record { same_test = z.same_test; same_lock_lem = z.same_lock_lem }
-
-  both_confirm : (c : Setup) (l n : ℕ) → Second R g v (turned_to v f high) c w
-      → R (confirm_cycle g v l n p w) (confirm_cycle g (turned_to v f high) l n p w)
+module _ (R : View → View → Type 0) (g : Geometry) (v : View) (f : Flags) (p : Place) (w : ℕ) where
+  both_confirm : (c : Setup) (l n : ℕ) → Second R v (with_flags v f) c w
+      → R (confirm_cycle g v l n p w) (confirm_cycle g (with_flags v f) l n p w)
   unfolding confirm_cycle settle
   both_confirm c l n h =
       by_cond₂ R (confirm_right g l p w) _ _ _ _
-      (λ e. both_program R (settle v) f high p (running.Buffer l n 0) settled h.raises (h.starts (running.Buffer l n 0)))
+      (λ e. both_program R (settle v) f p (running.Buffer l n 0) h.raises (h.starts (running.Buffer l n 0)))
       (λ e. h.raises _)
 
-  pub both_cycle : (c : Setup) → (c ≡ setup.Nothing → First R v (turned_to v f high) (command_of g (w % 256)))
-      → Second R g v (turned_to v f high) c w → R (cycle g v c p w) (cycle g (turned_to v f high) c p w)
+  pub both_cycle : (c : Setup) → (c ≡ setup.Nothing → First R v (with_flags v f) (command_of (w % 256)))
+      → Second R v (with_flags v f) c w → R (cycle g v c p w) (cycle g (with_flags v f) c p w)
   unfolding cycle words_cycle settle
-  both_cycle setup.Nothing h k = both_first R v f high p (command_of g (w % 256)) (h refl)
+  both_cycle setup.Nothing h k = both_first R v f p (command_of (w % 256)) (h refl)
   both_cycle setup.Program h k =
-      both_program R (settle v) f high p (running.Program p.location w) settled k.raises
+      both_program R (settle v) f p (running.Program p.location w) k.raises
       (k.starts (running.Program p.location w))
   both_cycle setup.Erase h k =
-      both_erase R (settle v) f high p (w % 256) settled k.raises (k.starts (running.Erase p.block 0))
+      both_erase R (settle v) f p (w % 256) k.raises (k.starts (running.Erase p.block 0))
   both_cycle setup.Lock h k =
-      both_lock R (settle v) f high p (lock_command_of g (w % 256)) settled k.raises k.relocks k.downs (k.stores refl)
+      both_lock R (settle v) f p (lock_command_of (w % 256)) k.raises k.protects (k.stores refl)
   both_cycle (setup.BufferCount b) h k =
-      both_loads R v f high p (count_right b p w) (setup.BufferFirst b (w + 1)) (k.loads _) k.raises
+      both_loads R v f p (count_right b p w) (setup.BufferFirst b (w + 1)) (k.loads _) k.raises
   both_cycle (setup.BufferFirst b n) h k =
-      both_loads R v f high p (first_right g b n p) (setup.BufferWords p.location n (n - 1)) (k.loads _) k.raises
+      both_loads R v f p (first_right g b n p) (setup.BufferWords p.location n (n - 1)) (k.loads _) k.raises
   both_cycle (setup.BufferWords l n due) h k =
       by_cond₂ R (eqb due 0) _ _ _ _ (λ e. both_confirm (setup.BufferWords l n due) l n k)
-      (λ e. both_loads R v f high p (later_right l n p) (setup.BufferWords l n (due - 1)) (k.loads _) k.raises)
+      (λ e. both_loads R v f p (later_right l n p) (setup.BufferWords l n (due - 1)) (k.loads _) k.raises)
 
 -- ---- one view
 
@@ -248,29 +207,25 @@ module _ (R : View → View → Type 0) (g : Geometry) (v : View) (f : Flags) (h
 abbrev pub Of : (View → Type 0) → View → View → Type 0
 Of P x y = P x
 
--- a view beside itself
-pub own_pin : (v : View) → Unpinned v v.control.pin
-own_pin v = record { same_test = refl; same_lock_lem = λ b. refl }
-
 module _ (P : View → Type 0) (v : View) (p : Place) where
   pub of_first : (c : Command) → First (Of P) v v c → P (first_cycle v p c)
-  of_first = both_first (Of P) v v.control.flags v.control.pin p
+  of_first = both_first (Of P) v v.control.flags p
 
   pub of_program : (r : Running) → ((x : Flags) → P (raise v x)) → P (started v r) → P (program_runs v p r)
-  of_program r h k = both_program (Of P) v v.control.flags v.control.pin p r (own_pin v) h (λ e. k)
+  of_program r h k = both_program (Of P) v v.control.flags p r h (λ e. k)
 
   pub of_erase : (c : ℕ) → ((x : Flags) → P (raise v x)) → P (started v (running.Erase p.block 0))
       → P (erase_cycle v p c)
-  of_erase c h k = both_erase (Of P) v v.control.flags v.control.pin p c (own_pin v) h (λ e. k)
+  of_erase c h k = both_erase (Of P) v v.control.flags p c h (λ e. k)
 
-  pub of_lock : (k : LockCommand) → ((x : Flags) → P (raise v x))
-      → ((x : Lock) → P (set_lock v x)) → ((n : ℕ) → P (with_configuration v n)) → P (lock_cycle v p k)
-  of_lock k h i j = both_lock (Of P) v v.control.flags v.control.pin p k (own_pin v) h (λ b. i _) (λ e. i _) (λ e. j)
+  pub of_lock : (k : LockCommand) → ((x : Flags) → P (raise v x)) → ((b : Bool) → P (with_protection v b))
+      → ((n : ℕ) → P (with_configuration v n)) → P (lock_cycle v p k)
+  of_lock k h i j = both_lock (Of P) v v.control.flags p k h i (λ e. j)
 
-  pub of_cycle : (g : Geometry) (c : Setup) (w : ℕ) → (c ≡ setup.Nothing → First (Of P) v v (command_of g (w % 256)))
-      → Second (Of P) g v v c w → P (cycle g v c p w)
-  of_cycle g c w = both_cycle (Of P) g v v.control.flags v.control.pin (own_pin v) p w c
+  pub of_cycle : (g : Geometry) (c : Setup) (w : ℕ) → (c ≡ setup.Nothing → First (Of P) v v (command_of (w % 256)))
+      → Second (Of P) v v c w → P (cycle g v c p w)
+  of_cycle g c w = both_cycle (Of P) g v v.control.flags p w c
 
   -- a cycle after a set-up
-  pub of_second : (g : Geometry) (c : Setup) (w : ℕ) → pending c ≡ true → Second (Of P) g v v c w → P (cycle g v c p w)
+  pub of_second : (g : Geometry) (c : Setup) (w : ℕ) → pending c ≡ true → Second (Of P) v v c w → P (cycle g v c p w)
   of_second g c w h = of_cycle g c w (λ e. absurd (true≢false (sym h ∙ ap pending e)))

@@ -1,16 +1,15 @@
 -- What demand 3 says of a list of steps: definitions only, from the steps and the recorder, with nothing of the device. That it holds of every list is
 -- `demand_3_whole` (Standing).
 -- Assumes nothing.
-use Rattle.std.specs.Prelude.{◌≡◌, Bool, true, false, cond, not, ◌&&◌, ◌⊎◌, ℕ, ◌<◌, ◌%◌, ltb, eqb, length, get_or}
-use mathlib.Core.List.{List, [], ◌∷◌, ◌++◌, foldl}
+use Rattle.std.specs.Prelude.{◌≡◌, List, [], ◌∷◌, ◌++◌, Bool, true, false, ◌⊎◌, ℕ, ◌<◌, ◌%◌, length, get_or}
 use Rattle.geometry.specs.declared.Part.{Part}
 use Rattle.geometry.specs.declared.Geometry.{Geometry}
 use Rattle.geometry.specs.Blocks.{geometry_of, words, location, block_of}
 use Rattle.semantics.specs.declared.Step.{Step}
-use Rattle.semantics.specs.declared.Step.TheVariants.{Read, Write, Work, Supply, Reset, Pin}
+use Rattle.semantics.specs.declared.Step.TheVariants.{Read, Write, Work, Supply, Reset}
 use Rattle.semantics.specs.Numbers.{within}
 use Rattle.semantics.specs.Entries.{Entry, entry}
-use Rattle.semantics.specs.Recorder.{Operation, program, erase, buffer, Setup, no-setup, program-setup, erase-setup, lock-setup, count_setup, first_setup, words_setup, Protection, opening, shutting, locking-down, accept, block_in, Recorder, beginning, recorded, recorded_all, journal_of, event, applied}
+use Rattle.semantics.specs.Recorder.{Operation, program, erase, buffer, Setup, program-setup, erase-setup, lock-setup, words_setup, accept, block_in, Recorder, beginning, recorded, recorded_all, journal_of, event, applied}
 
 -- ---- what a step is, told from the step itself and from the set-up that is pending before it
 
@@ -26,70 +25,20 @@ pub record SupplyOn (l : List Step) : Type 0 where
   pub whole : l ≡ earlier ++ (Supply true ∷ since)
   pub none_since : NoSupply since
 
--- the data of the protection commands
-abbrev pub protection_code : Protection → ℕ
-protection_code opening = 0xD0
-protection_code shutting = 0x01
-protection_code locking-down = 0x2F
-
--- Table 16 of source document 000, section 11: the pin (WP), lock-down (DQ1) and the lock bit (DQ0) of a block
-pub record Level : Type 0 where
-  pub high : Bool
-  pub down : Bool
-  pub locked : Bool
-
--- "The pin starts low"; after power-up a block is locked and not locked down
-abbrev pub first_level : Level
-first_level = record { high = false; down = false; locked = true }
-
--- its column "Program/Erase allowed"
-abbrev pub allows : Level → Bool
-allows x = not x.locked && not (x.down && not x.high)
-
--- what a step is for one block
-pub data Note : Type 0 where
-  unrelated reset-noted : Note
-  pin_noted : Bool → Note
-  commanded : Protection → Note
-
--- its other columns. "2Fh also sets the lock bit; 01h and D0h leave a locked-down block's bit while the pin is low"; what the
--- lock bit was stays beneath a low pin (note 3 of the table)
-abbrev pub leveled : Note → Level → Level
-leveled unrelated x = x
-leveled reset-noted x = record { high = x.high; down = false; locked = true }
-leveled (pin_noted high) x = record { high = high; down = x.down; locked = x.locked }
-leveled (commanded locking-down) x = record { high = x.high; down = true; locked = true }
-leveled (commanded opening) x =
-    record { high = x.high; down = x.down; locked = cond (x.down && not x.high) x.locked false }
-leveled (commanded shutting) x =
-    record { high = x.high; down = x.down; locked = cond (x.down && not x.high) x.locked true }
-
-abbrev pub is_lock_setup : Setup → Bool
-is_lock_setup no-setup = false
-is_lock_setup program-setup = false
-is_lock_setup erase-setup = false
-is_lock_setup lock-setup = true
-is_lock_setup (count_setup b) = false
-is_lock_setup (first_setup b n) = false
-is_lock_setup (words_setup l ws due) = false
+-- the data of the protection commands: D0h unprotects, 01h protects
+abbrev pub protection_code : Bool → ℕ
+protection_code true = 0xD0
+protection_code false = 0x01
 
 module _ (g : Geometry) where
-  -- a part may know the command: 2Fh where it has lock-down
-  abbrev pub Known : Protection → Type 0
-  Known opening = Unit {0}
-  Known shutting = Unit {0}
-  Known locking-down = g.lockdown ≡ true
-
-  -- the step is the protection command k for block b: the second cycle after a lock set-up, at an address in b. The
-  -- set-up p is the one that the recorder holds before the step; it draws it up from the steps alone
-  abbrev pub ProtectionCommand : ℕ → Protection → Setup → Step → Type 0
-  ProtectionCommand b k p (Read a) = ⊥
-  ProtectionCommand b k p (Write a w) =
-      (a < 16777216) × (p ≡ lock-setup) × (w % 256 ≡ protection_code k) × (block_of g (location g a) ≡ b) × Known k
-  ProtectionCommand b k p (Work n) = ⊥
-  ProtectionCommand b k p (Supply on) = ⊥
-  ProtectionCommand b k p Reset = ⊥
-  ProtectionCommand b k p (Pin high) = ⊥
+  -- the step is a protection command for block b, which unprotects it (v true) or protects it: the second cycle after a lock set-up, at an address in b.
+  -- The set-up p is the one that the recorder holds before the step; it draws it up from the steps alone
+  abbrev pub ProtectionCommand : ℕ → Bool → Setup → Step → Type 0
+  ProtectionCommand b v p (Read a) = ⊥
+  ProtectionCommand b v p (Write a w) = (a < 16777216) × (p ≡ lock-setup) × (w % 256 ≡ protection_code v) × (block_of g (location g a) ≡ b)
+  ProtectionCommand b v p (Work n) = ⊥
+  ProtectionCommand b v p (Supply on) = ⊥
+  ProtectionCommand b v p Reset = ⊥
 
   -- a write of w to address a is the cycle that an operation is accepted at, after its set-up: of a program with its data at its location, of an erase with D0h in its block, of
   -- a buffer program with D0h in its block, after all its words
@@ -117,52 +66,17 @@ module _ (g : Geometry) where
   -- no step resets, and none is a protection command for b; c is the recorder before them
   abbrev pub Undisturbed : ℕ → Recorder → List Step → Type 0
   Undisturbed b c [] = Unit {0}
-  Undisturbed b c (s ∷ l) = (s ≡ Reset → ⊥) × ((k : Protection) → ProtectionCommand b k c.conditions.setup s → ⊥) × Undisturbed b (recorded g c s) l
+  Undisturbed b c (s ∷ l) = (s ≡ Reset → ⊥) × ((v : Bool) → ProtectionCommand b v c.conditions.setup s → ⊥) × Undisturbed b (recorded g c s) l
 
   -- one of the steps is a protection command that unprotects b, and none after it resets or is a protection command for b
   pub data LastUnprotected (b : ℕ) : Recorder → List Step → Type 0 where
-    at_this : (c : Recorder) (s : Step) (l : List Step) → ProtectionCommand b opening c.conditions.setup s → Undisturbed b (recorded g c s) l → LastUnprotected b c (s ∷ l)
+    at_this : (c : Recorder) (s : Step) (l : List Step) → ProtectionCommand b true c.conditions.setup s → Undisturbed b (recorded g c s) l → LastUnprotected b c (s ∷ l)
     at_later : (c : Recorder) (s : Step) (l : List Step) → LastUnprotected b (recorded g c s) l → LastUnprotected b c (s ∷ l)
-
-  -- ---- what all protection commands for a block since the last reset, and all pin steps, have left it as
-
-  -- what a step is for block b: the set-up is the recorder's, as above
-  abbrev pub command_note : ℕ → Note
-  command_note c =
-      cond (eqb c 0xD0) (commanded opening)
-      (cond (eqb c 0x01) (commanded shutting)
-      (cond (eqb c 0x2F && g.lockdown) (commanded locking-down)
-      unrelated))
-
-  abbrev pub note_of : ℕ → Setup → Step → Note
-  note_of b p (Read a) = unrelated
-  note_of b p (Write a w) =
-      cond (ltb a 16777216 && (is_lock_setup p && eqb b (block_of g (location g a)))) (command_note (w % 256)) unrelated
-  note_of b p (Work n) = unrelated
-  note_of b p (Supply on) = unrelated
-  note_of b p Reset = reset-noted
-  note_of b p (Pin high) = pin_noted high
-
-  -- what the steps are for it, one after the other; c is the recorder before them
-  abbrev pub notes : ℕ → Recorder → List Step → List Note
-  notes b c [] = []
-  notes b c (s ∷ l) = note_of b c.conditions.setup s ∷ notes b (recorded g c s) l
-
-  -- "all protection commands for the block since power-up or the last reset, and all pin steps, those before the reset too,
-  -- taken together": a reset puts both bits back and leaves the pin
-  abbrev pub level_after : ℕ → Recorder → List Step → Level → Level
-  level_after b c l x = foldl (λ y n. leveled n y) x (notes b c l)
-
-  -- "had left it programmable"
-  abbrev pub LeftProgrammable : ℕ → List Step → Type 0
-  LeftProgrammable b l = allows (level_after b beginning l first_level) ≡ true
 
 -- ---- the claim
 
--- "An entry stands only where, at its acceptance, supply was on and the last protection command for its block since
--- power-up or reset had opened it.", on a part without lock-down; document 02, item 8: "all protection commands for the
--- block since power-up or the last reset, and all pin steps, those before the reset too, taken together, had left it
--- programmable", on every part: entry n of the journal, which is of the operation k, stands. The steps are those before its acceptance, the write that is its accepting cycle, and those after; when it came
+-- "An entry stands only where, at its acceptance, supply was on and the last protection command for its block since power-up or reset had opened it.": entry n of
+-- the journal, which is of the operation k, stands. The steps are those before its acceptance, the write that is its accepting cycle, and those after; when it came
 -- the journal had n entries. Which set-up was pending at a step is the recorder's, which has it from the steps before alone
 pub record Stands (g : Geometry) (k : Operation) (n : ℕ) (l : List Step) : Type 0 where
   pub before : List Step
@@ -174,8 +88,7 @@ pub record Stands (g : Geometry) (k : Operation) (n : ℕ) (l : List Step) : Typ
   pub accepts : event g (Write address word) (recorded_all g beginning before) ≡ accept k
   pub place : length (recorded_all g beginning before).journal ≡ n
   pub supply_on : SupplyOn before
-  pub left_programmable : LeftProgrammable g (block_in g k) before
-  pub last_unprotected : g.lockdown ≡ false → LastUnprotected g (block_in g k) beginning before
+  pub last_unprotected : LastUnprotected g (block_in g k) beginning before
 
 -- what demand 3 says of the array ys that a list l of steps makes of power-up of the part p on the array xs
 pub record Demand3 (p : Part) (l : List Step) (xs ys : List ℕ) : Type 0 where

@@ -1,13 +1,12 @@
--- A step as a number of 64 bits, for programs that hand over lists of them: bits 0 to 31 the address, the count, the supply (1 on, 0 off)
--- or the pin (1 high, 0 low),
--- bits 32 to 47 the data of a write, from bit 48 up the kind: 0 read, 1 write, 2 work, 3 supply, 4 reset, 5 pin. All other bits are 0.
+-- A step as a number of 64 bits, for programs that hand over lists of them: bits 0 to 31 the address, the count or the supply (1 on, 0 off),
+-- bits 32 to 47 the data of a write, from bit 48 up the kind: 0 read, 1 write, 2 work, 3 supply, 4 reset. All other bits are 0.
 -- The encoding is ours: document 01 has none.
 -- Assumes nothing.
 use Rattle.std.specs.Prelude.{ℕ, ◌+◌, ◌*◌, ◌/◌, ◌%◌, ◌<◌, Bool, true, false, not, cond, ◌≡◌, refl, eqb, ltb}
 use Rattle.std.proofs.Common.{true≢false, sym, subst, arith, eqb-true, ltb-true}
 use Rattle.std.proofs.lemmas.Bool.{eqb-false}
 use Rattle.semantics.specs.declared.Step.{Step}
-use Rattle.semantics.specs.declared.Step.TheVariants.{Read, Write, Work, Supply, Reset, Pin}
+use Rattle.semantics.specs.declared.Step.TheVariants.{Read, Write, Work, Supply, Reset}
 use Rattle.semantics.specs.declared.Decoded.{Decoded}
 use Rattle.semantics.specs.declared.Decoded.TheVariants.{Valid, Invalid}
 use Rattle.semantics.specs.Branches.{by_cond}
@@ -22,7 +21,6 @@ encode (Write address w) = coded 1 w address
 encode (Work n) = coded 2 0 n
 encode (Supply on) = coded 3 0 (bit_if on 1)
 encode Reset = coded 4 0 0
-encode (Pin high) = coded 5 0 (bit_if high 1)
 
 -- the step of a kind, with its data and operand
 unfoldable pub decoded_as : ℕ → ℕ → ℕ → Decoded
@@ -33,8 +31,7 @@ decoded_as kind word operand =
     (cond (eqb kind 2) (Valid (Work operand))
     (cond (eqb kind 3) (cond (ltb operand 2) (Valid (Supply (eqb operand 1))) Invalid)
     (cond (eqb kind 4) (cond (eqb operand 0) (Valid Reset) Invalid)
-    (cond (eqb kind 5) (cond (ltb operand 2) (Valid (Pin (eqb operand 1))) Invalid)
-    Invalid))))))
+    Invalid)))))
 
 unfoldable pub decode : ℕ → Decoded
 decode code = decoded_as (code / 281474976710656) (code / 4294967296 % 65536) (code % 4294967296)
@@ -46,7 +43,6 @@ Fitting (Write address w) = (address < 4294967296) × (w < 65536)
 Fitting (Work n) = n < 4294967296
 Fitting (Supply on) = Unit {0}
 Fitting Reset = Unit {0}
-Fitting (Pin high) = Unit {0}
 
 decode_coded : (kind word operand : ℕ) → word < 65536 → operand < 4294967296 → decode (coded kind word operand) ≡ decoded_as kind word operand
 unfolding decode
@@ -65,8 +61,6 @@ decode_encode (Work n) h = decode_coded 2 0 n (omega arith) h
 decode_encode (Supply true) h = decode_coded 3 0 1 (omega arith) (omega arith)
 decode_encode (Supply false) h = decode_coded 3 0 0 (omega arith) (omega arith)
 decode_encode Reset h = decode_coded 4 0 0 (omega arith) (omega arith)
-decode_encode (Pin true) h = decode_coded 5 0 1 (omega arith) (omega arith)
-decode_encode (Pin false) h = decode_coded 5 0 0 (omega arith) (omega arith)
 
 -- ---- a number that encodes a step is the number of that step
 
@@ -75,8 +69,8 @@ abbrev NumberOf : ℕ → Decoded → Type 0
 NumberOf n (Valid x) = encode x ≡ n
 NumberOf n Invalid = Unit {0}
 
-level_number : (operand : ℕ) → operand < 2 → bit_if (eqb operand 1) 1 ≡ operand
-level_number operand h = go (eqb operand 1) refl
+supply_number : (operand : ℕ) → operand < 2 → bit_if (eqb operand 1) 1 ≡ operand
+supply_number operand h = go (eqb operand 1) refl
   where
     go : (b : Bool) → eqb operand 1 ≡ b → bit_if b 1 ≡ operand
     go true e = sym (eqb-true operand 1 e)
@@ -92,14 +86,11 @@ number_as kind word operand =
     (λ k. by_cond (NumberOf n) (eqb kind 2) _ _ (λ k. let j = eqb-true kind 2 k in omega arith)
     (λ k. by_cond (NumberOf n) (eqb kind 3) _ _
     (λ k. let j = eqb-true kind 3 k in
-    by_cond (NumberOf n) (ltb operand 2) _ _ (λ o. let i = level_number operand (ltb-true operand 2 o) in omega arith) (λ o. tt))
+    by_cond (NumberOf n) (ltb operand 2) _ _ (λ o. let i = supply_number operand (ltb-true operand 2 o) in omega arith) (λ o. tt))
     (λ k. by_cond (NumberOf n) (eqb kind 4) _ _
     (λ k. let j = eqb-true kind 4 k in
     by_cond (NumberOf n) (eqb operand 0) _ _ (λ o. let i = eqb-true operand 0 o in omega arith) (λ o. tt))
-    (λ k. by_cond (NumberOf n) (eqb kind 5) _ _
-    (λ k. let j = eqb-true kind 5 k in
-    by_cond (NumberOf n) (ltb operand 2) _ _ (λ o. let i = level_number operand (ltb-true operand 2 o) in omega arith) (λ o. tt))
-    (λ k. tt)))))))
+    (λ k. tt))))))
   where
     n : ℕ
     n = coded kind word operand

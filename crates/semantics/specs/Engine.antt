@@ -15,12 +15,12 @@ pub use Rattle.semantics.specs.Tests.{or_false_l, or_false_r, and_true_l, and_tr
 use Rattle.semantics.specs.Layout.{inside, only}
 use Rattle.semantics.specs.Entries as entries
 use Rattle.semantics.specs.Entries.{Entry, entry, Live, live, resting, any_suspended, any_live, None}
-use Rattle.semantics.specs.Recorder.{Operation, program, erase, buffer, Setup, no-setup, program-setup, erase-setup, lock-setup, count_setup, first_setup, words_setup, Event, nothing, supplied, was_reset, units, suspend, resume-program, resume-erase, end-program, end-erase, setup_is, protect, pin_is, accept}
+use Rattle.semantics.specs.Recorder.{Operation, program, erase, buffer, Setup, no-setup, program-setup, erase-setup, lock-setup, count_setup, first_setup, words_setup, Event, nothing, supplied, was_reset, units, suspend, resume-program, resume-erase, end-program, end-erase, setup_is, unprotected_is, accept}
 use Rattle.semantics.specs.Recorder.{Conditions, conditions_after, rule, len, kinds, is_program, is_erase, is_erase_of, is_any, is_none, block_in, event, journal_after}
 use Rattle.semantics.specs.Demand.{AcceptingCycle, operation_of}
 use Rattle.semantics.specs.Events.{OnJournal, adds, works, rephases, changes}
 pub use Rattle.semantics.specs.Causes.{Spans, Ready}
-use Rattle.semantics.specs.Causes.{Cause, by_nothing, by_supply, by_reset, by_work, by_suspend, by_resume_program, by_resume_erase, by_end_program, by_end_erase, by_setup, by_protection, by_pin, by_accept, cause, accept_free}
+use Rattle.semantics.specs.Causes.{Cause, by_nothing, by_supply, by_reset, by_work, by_suspend, by_resume_program, by_resume_erase, by_end_program, by_end_erase, by_setup, by_protection, by_accept, cause, accept_free}
 
 -- ---- the engine
 
@@ -59,8 +59,7 @@ module _ (g : Geometry) where
   engine_after end-program e = engine false (resting true (stack e))
   engine_after end-erase e = engine false (resting true (stack e))
   engine_after (setup_is s) e = e
-  engine_after (protect b k) e = e
-  engine_after (pin_is high) e = e
+  engine_after (unprotected_is b o) e = e
   engine_after (accept k) e = engine true (live k 0 ∷ stack e)
 
   abbrev pub words_worked : ℕ → Engine → (ℕ → ℕ) → ℕ → ℕ
@@ -316,8 +315,7 @@ module _ (g : Geometry) where
       go v (by_end_program i z x y) = sim end-program tt (match_end is_program e j x (program_top e x y s.order) s.match, order_resting true (stack e) s.order) (none z _ _)
       go v (by_end_erase i z x y w) = sim end-erase tt (match_end is_erase e j x (erase_top e x y w s.order) s.match, order_resting true (stack e) s.order) (none z _ _)
       go v (by_setup t f) = sim (setup_is t) tt (s.match, s.order) (f sound ready)
-      go v (by_protection b k x) = sim (protect b k) tt (s.match, s.order) tt
-      go v (by_pin high z) = sim (pin_is high) tt (s.match, s.order) s.ready
+      go v (by_protection b p x) = sim (unprotected_is b p) tt (s.match, s.order) tt
       go v (by_accept k a w z x y) = let f = accepted_fits sound o.conditions.setup e j k a w x ready y.2 (s.match, s.order) in sim (accept k) f.0 f.1 tt
 
   -- ---- the words keep up with the journal

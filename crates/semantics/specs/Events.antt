@@ -1,12 +1,12 @@
 -- What each of the recorder's events changes, in one list, which every walk over the events goes by. Of the journal an
--- event adds an entry, works on it, or changes phases alone; of supply, pin and locks it switches the supply, resets, is
--- a protection command, sets the pin, or leaves all three. Assumes nothing.
+-- event adds an entry, works on it, or changes phases alone; of supply and protection it switches the supply, resets,
+-- protects or unprotects a block, or leaves both. Assumes nothing.
 use Rattle.std.specs.Prelude.{◌≡◌, refl, List, [], ◌∷◌, map, Bool, true, false, ℕ}
 use Rattle.std.proofs.Common.{ap, ◌∙◌}
 use Rattle.geometry.specs.declared.Geometry.{Geometry}
 use Rattle.semantics.specs.Entries.{Entry, Rephases, paused, resumed, paused_rephases, resumed_rephases, broken_rephases}
 use Rattle.semantics.specs.Recorder.{Operation, kinds, is_program, is_erase, is_any, is_none, Conditions, conditions_after, journal_after, all_broken, running_broken, suspended_broken}
-use Rattle.semantics.specs.Recorder.{Event, nothing, supplied, was_reset, units, suspend, resume-program, resume-erase, end-program, end-erase, setup_is, protect, pin_is, accept, Protection}
+use Rattle.semantics.specs.Recorder.{Event, nothing, supplied, was_reset, units, suspend, resume-program, resume-erase, end-program, end-erase, setup_is, unprotected_is, accept}
 
 pub data OnJournal (g : Geometry) : Event → Type 0 where
   adds : (k : Operation) → OnJournal g (accept k)
@@ -16,12 +16,8 @@ pub data OnJournal (g : Geometry) : Event → Type 0 where
 pub data OnConditions : Event → Type 0 where
   switches : (on : Bool) → OnConditions (supplied on)
   resets : OnConditions was_reset
-  protects : (b : ℕ) (k : Protection) → OnConditions (protect b k)
-  pins : (high : Bool) → OnConditions (pin_is high)
-  leaves : (v : Event)
-      → ((d : Conditions) → ((conditions_after v d).supply ≡ d.supply) × ((conditions_after v d).lock ≡ d.lock)
-      × ((conditions_after v d).pin ≡ d.pin))
-      → OnConditions v
+  protects : (b : ℕ) (o : Bool) → OnConditions (unprotected_is b o)
+  leaves : (v : Event) → ((d : Conditions) → ((conditions_after v d).supply ≡ d.supply) × ((conditions_after v d).unprotected ≡ d.unprotected)) → OnConditions v
 
 pub map_same : (j : List (Entry Operation)) → j ≡ map (λ e. e) j
 map_same [] = refl
@@ -33,17 +29,16 @@ module _ (g : Geometry) where
   stays v h = rephases v (λ e. e) (λ k u t. (refl, refl)) (λ j. h j ∙ map_same j)
 
   abbrev pub changes : (v : Event) → OnJournal g v × OnConditions v
-  changes nothing = (stays nothing (λ j. refl), leaves nothing (λ d. (refl, refl, refl)))
+  changes nothing = (stays nothing (λ j. refl), leaves nothing (λ d. (refl, refl)))
   changes (supplied true) = (stays (supplied true) (λ j. refl), switches true)
   changes (supplied false) = (rephases (supplied false) running_broken (broken_rephases (kinds g) true is_none) (λ j. refl), switches false)
   changes was_reset = (rephases was_reset all_broken (broken_rephases (kinds g) true is_any) (λ j. refl), resets)
-  changes (units n) = (works n, leaves (units n) (λ d. (refl, refl, refl)))
-  changes suspend = (rephases suspend paused (paused_rephases (kinds g)) (λ j. refl), leaves suspend (λ d. (refl, refl, refl)))
-  changes resume-program = (rephases resume-program (resumed is_program) (resumed_rephases (kinds g) is_program) (λ j. refl), leaves resume-program (λ d. (refl, refl, refl)))
-  changes resume-erase = (rephases resume-erase (resumed is_erase) (resumed_rephases (kinds g) is_erase) (λ j. refl), leaves resume-erase (λ d. (refl, refl, refl)))
-  changes end-program = (rephases end-program (suspended_broken is_program) (broken_rephases (kinds g) false is_program) (λ j. refl), leaves end-program (λ d. (refl, refl, refl)))
-  changes end-erase = (rephases end-erase (suspended_broken is_erase) (broken_rephases (kinds g) false is_erase) (λ j. refl), leaves end-erase (λ d. (refl, refl, refl)))
-  changes (setup_is s) = (stays (setup_is s) (λ j. refl), leaves (setup_is s) (λ d. (refl, refl, refl)))
-  changes (protect b k) = (stays (protect b k) (λ j. refl), protects b k)
-  changes (pin_is high) = (stays (pin_is high) (λ j. refl), pins high)
-  changes (accept k) = (adds k, leaves (accept k) (λ d. (refl, refl, refl)))
+  changes (units n) = (works n, leaves (units n) (λ d. (refl, refl)))
+  changes suspend = (rephases suspend paused (paused_rephases (kinds g)) (λ j. refl), leaves suspend (λ d. (refl, refl)))
+  changes resume-program = (rephases resume-program (resumed is_program) (resumed_rephases (kinds g) is_program) (λ j. refl), leaves resume-program (λ d. (refl, refl)))
+  changes resume-erase = (rephases resume-erase (resumed is_erase) (resumed_rephases (kinds g) is_erase) (λ j. refl), leaves resume-erase (λ d. (refl, refl)))
+  changes end-program = (rephases end-program (suspended_broken is_program) (broken_rephases (kinds g) false is_program) (λ j. refl), leaves end-program (λ d. (refl, refl)))
+  changes end-erase = (rephases end-erase (suspended_broken is_erase) (broken_rephases (kinds g) false is_erase) (λ j. refl), leaves end-erase (λ d. (refl, refl)))
+  changes (setup_is s) = (stays (setup_is s) (λ j. refl), leaves (setup_is s) (λ d. (refl, refl)))
+  changes (unprotected_is b o) = (stays (unprotected_is b o) (λ j. refl), protects b o)
+  changes (accept k) = (adds k, leaves (accept k) (λ d. (refl, refl)))

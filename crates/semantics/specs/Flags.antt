@@ -11,7 +11,7 @@ use Rattle.semantics.specs.declared.Flags.{Flags}
 use Rattle.semantics.specs.declared.Control.{Control}
 use Rattle.semantics.specs.declared.State.{State}
 use Rattle.semantics.specs.declared.Step.{Step}
-use Rattle.semantics.specs.declared.Step.TheVariants.{Read, Write, Work, Supply, Reset, Pin}
+use Rattle.semantics.specs.declared.Step.TheVariants.{Read, Write, Work, Supply, Reset}
 use Rattle.semantics.specs.declared.Answer.{Answer}
 use Rattle.semantics.specs.declared.Answer.TheVariants.{Word, Units, Done, Refused}
 use Rattle.semantics.specs.declared.Next.{Next}
@@ -22,12 +22,12 @@ use Rattle.semantics.specs.State.{geometry, set_flags, set_supply, with_control,
 use Rattle.semantics.specs.View as view
 use Rattle.semantics.specs.View.{place_of, view_at, with_view}
 use Rattle.semantics.specs.Supply.{ended, switched}
-use Rattle.semantics.specs.Cycles.{own_pin, of_cycle, both_cycle}
+use Rattle.semantics.specs.Cycles.{of_cycle, both_cycle}
 use Rattle.semantics.specs.Supplied.{of_switched, switched_on, switched_off}
 use Rattle.semantics.specs.WellFormed.{runs_supplied, well_formed}
 use Rattle.semantics.specs.Writing.{command_of, settle, cycle, loaded_at, written_at, written}
 use Rattle.semantics.specs.Working.{buffer_after, worked_on, worked, worked_array}
-use Rattle.semantics.specs.Steps.{reset_of, refusal_of, switched_to, accepted, accepted_array, step_of, array_of, number_of}
+use Rattle.semantics.specs.Steps.{refusal_of, switched_to, accepted, accepted_array, step_of, array_of, number_of}
 use Rattle.semantics.specs.Refusals.{of_step, answer_number}
 
 -- each flag that is set in f is set in g
@@ -48,17 +48,17 @@ unfolding ended
 stay_switched c on = of_switched (λ (x : Control). Stay c.flags x.flags) c on (stay_same _) (stay_joined _ _)
 
 -- the write is 50h with no set-up pending
-abbrev pub ClearCommand : Geometry → Setup → ℕ → Type 0
-ClearCommand g setup.Nothing w = command_of g (w % 256) ≡ command.ClearStatus
-ClearCommand g setup.Program w = ⊥
-ClearCommand g setup.Erase w = ⊥
-ClearCommand g setup.Lock w = ⊥
-ClearCommand g (setup.BufferCount b) w = ⊥
-ClearCommand g (setup.BufferFirst b n) w = ⊥
-ClearCommand g (setup.BufferWords l n due) w = ⊥
+abbrev pub ClearCommand : Setup → ℕ → Type 0
+ClearCommand setup.Nothing w = command_of (w % 256) ≡ command.ClearStatus
+ClearCommand setup.Program w = ⊥
+ClearCommand setup.Erase w = ⊥
+ClearCommand setup.Lock w = ⊥
+ClearCommand (setup.BufferCount b) w = ⊥
+ClearCommand (setup.BufferFirst b n) w = ⊥
+ClearCommand (setup.BufferWords l n due) w = ⊥
 
 -- flags are only set, but by 50h
-stay_cycle : (g : Geometry) (v : View) (c : Setup) (p : Place) (w : ℕ) → (ClearCommand g c w → ⊥) → Stay v.control.flags (cycle g v c p w).control.flags
+stay_cycle : (g : Geometry) (v : View) (c : Setup) (p : Place) (w : ℕ) → (ClearCommand c w → ⊥) → Stay v.control.flags (cycle g v c p w).control.flags
 unfolding ended settle
 stay_cycle g v c p w n =
     of_cycle (λ (x : View). Stay v.control.flags x.control.flags) v p g c w
@@ -67,11 +67,11 @@ stay_cycle g v c p w n =
       suspends = λ i. same;
       resumes = λ i r t. same;
       ends = λ i r t. stay_joined _ _;
-      clears = λ i r. absurd (n (subst (λ (x : Setup). ClearCommand g x w) (sym e) i));
+      clears = λ i r. absurd (n (subst (λ (x : Setup). ClearCommand x w) (sym e) i));
       sets_up = λ i x z. same;
       stays = same;
     })
-    (record { raises = λ f. stay_joined _ _; starts = λ r t. same; relocks = λ b. same; downs = λ i. same; stores = λ i l n. same; loads = λ x. same })
+    (record { raises = λ f. stay_joined _ _; starts = λ r t. same; protects = λ b. same; stores = λ i l n. same; loads = λ x. same })
   where
     same : Stay v.control.flags v.control.flags
     same = stay_same _
@@ -79,11 +79,10 @@ stay_cycle g v c p w n =
 -- the step may clear the flags: a reset, or 50h with no set-up pending. (Refused, neither does; nor does 50h while something runs.)
 abbrev pub MayClear : State → Step → Type 0
 MayClear s (Read a) = ⊥
-MayClear s (Write a w) = ClearCommand (geometry s) s.control.activity.setup w
+MayClear s (Write a w) = ClearCommand s.control.activity.setup w
 MayClear s (Work n) = ⊥
 MayClear s (Supply on) = ⊥
 MayClear s Reset = Unit {0}
-MayClear s (Pin high) = ⊥
 
 stay_accepted : (s : State) (xs : List ℕ) (x : Step) → (MayClear s x → ⊥) → Stay s.control.flags (accepted s xs x).state.control.flags
 unfolding accepted switched_to written written_at worked_on worked
@@ -92,7 +91,6 @@ stay_accepted s xs (Write a w) n = stay_cycle (geometry s) (view_at s (place_of 
 stay_accepted s xs (Work k) n = stay_same _
 stay_accepted s xs (Supply on) n = stay_switched s.control on
 stay_accepted s xs Reset n = absurd (n tt)
-stay_accepted s xs (Pin high) n = stay_same _
 
 -- "Flags once set stay until 50h or reset"
 pub flags_stay : (s : State) (xs : List ℕ) (x : Step) → (MayClear s x → ⊥) → Stay s.control.flags (step_of s xs x).state.control.flags
@@ -124,9 +122,9 @@ alike_switched c f false = rw (switched_off c, switched_off (set_flags c f)) (al
 alike_cycle : (g : Geometry) (v : View) (f : Flags) (c : Setup) (p : Place) (w : ℕ) → unflagged_view (cycle g (view.with_flags v f) c p w) ≡ unflagged_view (cycle g v c p w)
 unfolding ended settle
 alike_cycle g v f c p w =
-    both_cycle (λ x y. unflagged_view y ≡ unflagged_view x) g v f v.control.pin (own_pin v) p w c
+    both_cycle (λ x y. unflagged_view y ≡ unflagged_view x) g v f p w c
     (λ e. record { modes = λ i m. refl; suspends = λ i. refl; resumes = λ i r t. refl; ends = λ i r t. refl; clears = λ i r. refl; sets_up = λ i x z. refl; stays = refl })
-    (record { raises = λ x. refl; starts = λ r t. refl; relocks = λ b. refl; downs = λ i. refl; stores = λ i l n. refl; loads = λ x. refl })
+    (record { raises = λ x. refl; starts = λ r t. refl; protects = λ b. refl; stores = λ i l n. refl; loads = λ x. refl })
 
 alike_refusal : (s : State) (f : Flags) (n : ℕ) (x : Step) → refusal_of (with_flags s f) n x ≡ refusal_of s n x
 unfolding refusal_of well_formed runs_supplied
@@ -144,7 +142,7 @@ alike_accepted : (s : State) (f : Flags) (xs : List ℕ) (x : Step)
     → (unflagged (accepted (with_flags s f) xs x).state ≡ unflagged (accepted s xs x).state)
     × (accepted_array (with_flags s f) xs x ≡ accepted_array s xs x)
     × (told_by (accepted (with_flags s f) xs x).answer ≡ told_by (accepted s xs x).answer)
-unfolding accepted accepted_array switched_to reset_of written written_at worked_on worked worked_array
+unfolding accepted accepted_array switched_to written written_at worked_on worked worked_array
 alike_accepted s f xs (Read a) = (refl, refl, refl)
 alike_accepted s f xs (Write a w) = let p : Place = place_of (geometry s) a in
     (ap (λ (v : View). with_buffer (with_view s p v) (loaded_at s p w v.control.activity)) (alike_cycle (geometry s) (view_at s p) f s.control.activity.setup p w), refl, refl)
@@ -152,7 +150,6 @@ alike_accepted s f xs (Work n) = (refl, refl, refl)
 alike_accepted s f xs (Supply on) = let r : Running = s.control.activity.running in
     (ap (λ (c : Control). with_buffer (with_control s c) (buffer_after r c.activity.running s.buffer)) (alike_switched s.control f on), refl, refl)
 alike_accepted s f xs Reset = (refl, refl, refl)
-alike_accepted s f xs (Pin high) = (refl, refl, refl)
 
 -- whatever the flags are, a step does the same, but for the flags themselves: the same state, the same array, the same refusal and as many units told
 pub flags_never_block : (s : State) (f : Flags) (xs : List ℕ) (x : Step)

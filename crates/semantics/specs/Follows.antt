@@ -1,17 +1,17 @@
 -- The device goes, in what bears on the array, by the recorder's rules: each of its writes is one event of the recorder
 -- on what is under way. Only this file goes through the cycles of both.
 -- Assumes nothing.
-use Rattle.std.specs.Prelude.{◌≡◌, ◌&&◌, ◌||◌, ℕ, ◌+◌, ◌-◌, ◌≤◌, ◌<◌, ◌%◌, length, set, replicate}
+use Rattle.std.specs.Prelude.{◌≡◌, ◌&&◌, ◌||◌, length, set, replicate}
 use Rattle.std.proofs.Math.Path.{refl, sym, ap, fun_ext}
 use Rattle.std.proofs.Common.{◌∙◌, true≢false, arith}
 use mathlib.Core.List.{List}
 use Rattle.std.proofs.Math.Bool.{Bool, true, false, cond, not}
+use Prim.Native.Nat.{ℕ, ◌+◌, ◌-◌, ◌≤◌, ◌<◌, ◌%◌}
 use Rattle.std.proofs.Math.Dec.{leb, eqb}
 use borrow.Author.Tests.{eqb-true}
 use Rattle.geometry.specs.declared.Geometry.{Geometry}
-use Rattle.geometry.specs.Blocks.{location, blocks, block_of, start_of, size_of}
-use Rattle.protection.specs.declared.Lock.{Lock}
-use Rattle.protection.specs.Words.{lock_of}
+use Rattle.geometry.specs.Blocks.{location, block_of, start_of, size_of}
+use Rattle.protection.specs.Words.{is_unprotected}
 use Rattle.protection.specs.Laws as protection
 use Rattle.semantics.specs.declared.Setup.{Setup}
 use Rattle.semantics.specs.declared.Setup.TheVariants as setup
@@ -28,8 +28,7 @@ use Rattle.semantics.specs.declared.Step.{Step}
 use Rattle.semantics.specs.declared.Place.{Place}
 use Rattle.semantics.specs.declared.View.{View}
 use Rattle.semantics.specs.Branches.{of_cond, by_cond}
-use Rattle.semantics.specs.Tests.{or_false_l, or_false_r, and_true_l}
-use Rattle.semantics.specs.Cycles.{down_known, of_cycle}
+use Rattle.semantics.specs.Tests.{or_false_l, or_false_r}
 use Rattle.semantics.specs.Numbers.{within, within_true}
 use Rattle.semantics.specs.State as state
 use Rattle.semantics.specs.State.{activity, with_buffer, runs, program_suspended, erase_suspended, empty_buffer}
@@ -39,8 +38,8 @@ use Rattle.semantics.specs.Supply.{ended, ended_if_unsupplied}
 use Rattle.semantics.specs.Supplied.{is_resume, only_resume, first_holds}
 use Rattle.semantics.specs.WellFormed.{erasing}
 use Rattle.semantics.specs.Writing as writing
-use Rattle.semantics.specs.Writing.{command_of, can_program, suspended, resume, program_free, accepts, set_up, clear_status, first_cycle, program_runs, erase_cycle, lock_command_of, lock_cycle, settle, loads, count_right, first_right, later_right, confirm_right, confirm_cycle, words_cycle, kept_if, first_loaded, words_loaded, held_after, loaded, cycle_at, loaded_at, written_at}
-use Rattle.semantics.specs.Recorder.{Event, nothing, suspend, resume-program, resume-erase, end-program, end-erase, setup_is, protect, accept, Protection, opening, shutting, locking-down, relock, Conditions, conditions_after, rule, is_program, is_erase, first_cycle_event, cycle, no-setup, first_setup, words_setup}
+use Rattle.semantics.specs.Writing.{command_of, suspended, resume, program_free, accepts, set_up, clear_status, first_cycle, program_runs, erase_cycle, lock_command_of, lock_cycle, settle, loads, count_right, first_right, later_right, confirm_right, confirm_cycle, words_cycle, kept_if, first_loaded, words_loaded, held_after, loaded, cycle_at, loaded_at, written_at}
+use Rattle.semantics.specs.Recorder.{Event, nothing, suspend, resume-program, resume-erase, end-program, end-erase, setup_is, unprotected_is, accept, Conditions, conditions_after, rule, is_program, is_erase, first_cycle_event, cycle, no-setup, first_setup, words_setup}
 use Rattle.semantics.specs.Recorder as recorder
 use Rattle.semantics.specs.Engine.{busy, held?, engine_after, words_after_event, Ready}
 pub use Rattle.semantics.specs.UnderWay.{setup_of, conditions, add_erase, add_program, add_running, under_way_of, under_way, Together, Lacking, under_way_program, under_way_any, under_way_worked, under_way_off, words_under_way}
@@ -81,12 +80,7 @@ module _ (g : Geometry) where
   module _ (s : State) (p : Place) where
     -- what the recorder would see of the state with this buffer, and this view at the place
     abbrev seen : List ℕ → View → Conditions
-    seen bs x = record {
-      supply = x.control.supply;
-      pin = x.control.pin;
-      lock = λ c. cond (eqb c p.block) x.lock (lock_of (state.geometry s) s.locks c);
-      setup = setup_of bs x.control.activity.setup;
-    }
+    seen bs x = record { supply = x.control.supply; unprotected = λ c. cond (eqb c p.block) x.unprotected (is_unprotected s.unprotected c); setup = setup_of bs x.control.activity.setup }
 
     -- the same of a view: y, with the buffer bs, is what the event v makes of x
     abbrev FollowsTo : Event → View → View → List ℕ → Type 0
@@ -100,24 +94,16 @@ module _ (g : Geometry) where
 
     seen_own : conditions s ≡ seen s.buffer (view_at s p)
     seen_own =
-        ap (λ (u : ℕ → Lock). record { supply = s.control.supply; pin = s.control.pin; lock = u; setup = setup_of s.buffer s.control.activity.setup })
-        (fun_ext (λ c. by_cond (λ (x : Lock). lock_of (state.geometry s) s.locks c ≡ x) (eqb c p.block) _ _
-        (λ e. ap (lock_of (state.geometry s) s.locks) (eqb-true c p.block e)) (λ e. refl)))
+        ap (λ (u : ℕ → Bool). record { supply = s.control.supply; unprotected = u; setup = setup_of s.buffer s.control.activity.setup })
+        (fun_ext (λ c. by_cond (λ (x : Bool). is_unprotected s.unprotected c ≡ x) (eqb c p.block) _ _ (λ e. ap (is_unprotected s.unprotected) (eqb-true c p.block e)) (λ e. refl)))
 
-    -- a view has no block locked down where the part has no lock-down
-    abbrev Lockable : View → Type 0
-    Lockable y = (state.geometry s).lockdown ≡ false → y.lock.down ≡ false
-
-    seen_put : length s.locks ≡ 5 → p.block < blocks (state.geometry s) → (y : View) → Lockable y → (bs : List ℕ)
-        → conditions (with_buffer (with_view s p y) bs) ≡ seen bs y
-    seen_put h i y n bs =
-        ap (λ (u : ℕ → Lock). record { supply = y.control.supply; pin = y.control.pin; lock = u; setup = setup_of bs y.control.activity.setup })
-        (fun_ext (λ c. protection.with_each (state.geometry s) (protection.stored s.part) s.locks p.block c y.lock h i n))
+    seen_put : length s.unprotected ≡ 5 → p.block < 259 → (y : View) (bs : List ℕ) → conditions (with_buffer (with_view s p y) bs) ≡ seen bs y
+    seen_put h i y bs =
+        ap (λ (u : ℕ → Bool). record { supply = y.control.supply; unprotected = u; setup = setup_of bs y.control.activity.setup }) (fun_ext (λ c. protection.with_each s.unprotected p.block c y.unprotected h i))
 
     -- what is put back at the place follows where the view does
-    follows_put : length s.locks ≡ 5 → p.block < blocks (state.geometry s) → (v : Event) (y : View) → Lockable y → (bs : List ℕ)
-        → FollowsTo v (view_at s p) y bs → Follows v s (with_buffer (with_view s p y) bs)
-    follows_put h i v y n bs f = (seen_put h i y n bs ∙ f.0 ∙ ap (conditions_after v) (sym seen_own), f.1, f.2)
+    follows_put : length s.unprotected ≡ 5 → p.block < 259 → (v : Event) (y : View) (bs : List ℕ) → FollowsTo v (view_at s p) y bs → Follows v s (with_buffer (with_view s p y) bs)
+    follows_put h i v y bs f = (seen_put h i y bs ∙ f.0 ∙ ap (conditions_after v) (sym seen_own), f.1, f.2)
 
     -- a view with these under way: every view is one, by its own
     abbrev at : View → Setup → Running → SuspendedProgram → SuspendedErase → View
@@ -201,38 +187,25 @@ module _ (g : Geometry) where
 
     -- ---- second cycles
 
-    -- a protection command's lock, given to the block at the place
-    relocked_at : (k : Protection) (x : View)
-        → ◌≡◌ {A = ℕ → Lock} (λ c. cond (eqb c p.block) (relock k x.lock x.control.pin) (lock_of (state.geometry s) s.locks c))
-        (λ c. cond (eqb c p.block)
-        (relock k (cond (eqb c p.block) x.lock (lock_of (state.geometry s) s.locks c)) x.control.pin)
-        (cond (eqb c p.block) x.lock (lock_of (state.geometry s) s.locks c)))
-    relocked_at k x = fun_ext (λ c. go (eqb c p.block) (lock_of (state.geometry s) s.locks c))
+    -- of two changes of one block's protection the later counts
+    twice : (v u : Bool)
+        → ◌≡◌ {A = ℕ → Bool} (λ c. cond (eqb c p.block) v (is_unprotected s.unprotected c)) (λ c. cond (eqb c p.block) v (cond (eqb c p.block) u (is_unprotected s.unprotected c)))
+    twice v u = fun_ext (λ c. go (eqb c p.block) (is_unprotected s.unprotected c))
       where
-        go : (b : Bool) (i : Lock) → cond b (relock k x.lock x.control.pin) i
-            ≡ cond b (relock k (cond b x.lock i) x.control.pin) (cond b x.lock i)
+        go : (b i : Bool) → cond b v i ≡ cond b v (cond b u i)
         go true i = refl
         go false i = refl
 
-    locked : (k : Protection) (x : View) → ◌≡◌ {A = Conditions}
-        (record { supply = x.control.supply; pin = x.control.pin; lock = λ c. cond (eqb c p.block) (relock k x.lock x.control.pin) (lock_of (state.geometry s) s.locks c); setup = no-setup })
-        (conditions_after (protect p.block k) (seen s.buffer x))
-    locked k x = ap (λ (u : ℕ → Lock). record { supply = x.control.supply; pin = x.control.pin; lock = u; setup = no-setup }) (relocked_at k x)
-
-    follows_lock : (x : View) (c : Setup) (r : Running) (q : SuspendedProgram) (e : SuspendedErase) (d : ℕ) (h k z n : Bool)
-        → eqb d 0x01 ≡ h → eqb d 0xD0 ≡ k → eqb d 0x03 ≡ z → (eqb d 0x2F && g.lockdown) ≡ n
-        → FollowsAt (cond k (protect p.block opening) (cond h (protect p.block shutting)
-        (cond n (protect p.block locking-down) (setup_is no-setup)))) (at x c r q e)
-        (lock_cycle (settle (at x c r q e)) p (lock_command_of g d))
+    follows_lock : (x : View) (c : Setup) (r : Running) (q : SuspendedProgram) (e : SuspendedErase) (d : ℕ) (h k z : Bool) → eqb d 0x01 ≡ h → eqb d 0xD0 ≡ k → eqb d 0x03 ≡ z
+        → FollowsAt (cond k (unprotected_is p.block true) (cond h (unprotected_is p.block false) (setup_is no-setup))) (at x c r q e) (lock_cycle (settle (at x c r q e)) p (lock_command_of d))
     unfolding lock_cycle lock_command_of settle
-    follows_lock x c r q e d true true z n hh hk hz hn = absurd (omega (arith, eqb-true d 0x01 hh, eqb-true d 0xD0 hk))
-    follows_lock x c r q e d true false z n hh hk hz hn = rw hh (locked shutting x, refl, λ m. refl)
-    follows_lock x c r q e d false true z n hh hk hz hn = rw (hh, hk) (locked opening x, refl, λ m. refl)
-    follows_lock x c r q e d false false true true hh hk hz hn =
-        absurd (omega (arith, eqb-true d 0x03 hz, eqb-true d 0x2F (and_true_l (eqb d 0x2F) _ hn)))
-    follows_lock x c r q e d false false true false hh hk hz hn = rw (hh, hk, hz) (refl, refl, λ m. refl)
-    follows_lock x c r q e d false false false true hh hk hz hn = rw (hh, hk, hz, hn) (locked locking-down x, refl, λ m. refl)
-    follows_lock x c r q e d false false false false hh hk hz hn = rw (hh, hk, hz, hn) (refl, refl, λ m. refl)
+    follows_lock x c r q e d true true z hh hk hz = absurd (omega (arith, eqb-true d 0x01 hh, eqb-true d 0xD0 hk))
+    follows_lock x c r q e d true false z hh hk hz =
+        rw hh (ap (λ (u : ℕ → Bool). record { supply = x.control.supply; unprotected = u; setup = no-setup }) (twice false x.unprotected), refl, λ m. refl)
+    follows_lock x c r q e d false true z hh hk hz =
+        rw (hh, hk) (ap (λ (u : ℕ → Bool). record { supply = x.control.supply; unprotected = u; setup = no-setup }) (twice true x.unprotected), refl, λ m. refl)
+    follows_lock x c r q e d false false true hh hk hz = rw (hh, hk, hz) (refl, refl, λ m. refl)
+    follows_lock x c r q e d false false false hh hk hz = rw (hh, hk, hz) (refl, refl, λ m. refl)
 
     -- ---- the cycles of a load. Nothing else is under way but a suspended erase, so that the buffer is the load's alone
 
@@ -243,11 +216,7 @@ module _ (g : Geometry) where
     follows_loads : (x : View) (c : Setup) (e : SuspendedErase) (t : Setup) (d : recorder.Setup) (f : Bool → List ℕ) (b : Bool) → (b ≡ true → setup_of (f true) t ≡ d)
         → FollowsTo (cond b (setup_is d) (setup_is no-setup)) (loading x c e) (loads b (loading x c e) t) (f b)
     unfolding loads settle
-    follows_loads x c e t d f true z = (
-      ap (λ (i : recorder.Setup). record { supply = x.control.supply; pin = x.control.pin; lock = (seen s.buffer x).lock; setup = i }) (z refl),
-      refl,
-      λ m. refl,
-    )
+    follows_loads x c e t d f true z = (ap (λ (i : recorder.Setup). record { supply = x.control.supply; unprotected = (seen s.buffer x).unprotected; setup = i }) (z refl), refl, λ m. refl)
     follows_loads x c e t d f false z = (refl, refl, λ m. refl)
 
   -- a write, by the set-up that is pending
@@ -282,7 +251,7 @@ module _ (g : Geometry) where
     lone_erase : (e : SuspendedErase) → erase_suspended e ≡ false → Goes setup.Erase running.Idle program.Nothing e
     unfolding writing.cycle loaded held_after erase_cycle settle
     lone_erase erase.Nothing k =
-        let u : Bool = can_program (view_at s (place_of g a)) in
+        let u : Bool = is_unprotected s.unprotected (block_of g (location g a)) in
         accepting (λ (v : Event) (y : View). FollowsTo s (place_of g a) v (seen_as setup.Erase running.Idle program.Nothing erase.Nothing) y s.buffer)
         (eqb (w % 256) 0xD0) s.control.supply (not u) (u && true) (and_not u)
         (accept (recorder.erase (block_of g (location g a)))) (setup_is no-setup) (refl, refl, λ m. refl) (refl, refl, λ m. refl) (refl, refl, λ m. refl) (refl, refl, λ m. refl)
@@ -294,7 +263,7 @@ module _ (g : Geometry) where
     goes_words l n due e h k true z =
         rw (z, under_way_erasing g s.buffer running.Idle program.Nothing e (block_of g (location g a)))
         (guarded Confirmed (eqb (w % 256) 0xD0 && eqb (block_of g (location g a)) (block_of g l)) _ accepted (setup_is no-setup) (refl, refl, λ m. refl)
-        (accepting Confirmed s.control.supply (can_program (view_at s (place_of g a))) (erasing e (block_of g (location g a))) _ refl
+        (accepting Confirmed s.control.supply (is_unprotected s.unprotected (block_of g (location g a))) (erasing e (block_of g (location g a))) _ refl
         accepted (setup_is no-setup) (refl, refl, λ m. refl) (refl, refl, λ m. refl) (refl, refl, λ m. refl) (refl, refl, λ m. refl)))
       where
         accepted : Event
@@ -311,18 +280,17 @@ module _ (g : Geometry) where
     follows_cycle : (c : Setup) (r : Running) (q : SuspendedProgram) (e : SuspendedErase) → Together r q e → ReadyAt c r q e → length s.buffer ≡ 32 → Goes c r q e
     unfolding writing.cycle loaded held_after count_right first_right program_runs settle
     follows_cycle setup.Nothing r q e m y h =
-        rw (commands_agree g (w % 256)) (follows_first s (place_of g a) (view_at s (place_of g a)) (conditions (state.with_activity s (activity setup.Nothing r q e))) r q e m refl (command_of g (w % 256)))
+        rw (commands_agree (w % 256)) (follows_first s (place_of g a) (view_at s (place_of g a)) (conditions (state.with_activity s (activity setup.Nothing r q e))) r q e m refl (command_of (w % 256)))
     follows_cycle setup.Program r q e m y h = lone setup.Program r q e y.0 (free r q e y.1)
         (rw (under_way_erasing g s.buffer running.Idle program.Nothing e (block_of g (location g a)))
         (accepting (λ (v : Event) (x : View). FollowsTo s (place_of g a) v (seen_as setup.Program running.Idle program.Nothing e) x s.buffer)
-        s.control.supply (can_program (view_at s (place_of g a))) (erasing e (block_of g (location g a))) _ refl
+        s.control.supply (is_unprotected s.unprotected (block_of g (location g a))) (erasing e (block_of g (location g a))) _ refl
         (accept (recorder.program (location g a) w)) (setup_is no-setup) (refl, refl, λ m. refl) (refl, refl, λ m. refl) (refl, refl, λ m. refl) (refl, refl, λ m. refl)))
     follows_cycle setup.Erase r q e m y h =
         let i : (program_suspended q || erase_suspended e) ≡ false = sym (under_way_any s.buffer r q e) ∙ y.1 in
         lone setup.Erase r q e y.0 (or_false_l (program_suspended q) _ i) (lone_erase e (or_false_r (program_suspended q) _ i))
     follows_cycle setup.Lock r q e m y h = lone setup.Lock r q e y.0 (free r q e y.1)
-        (follows_lock s (place_of g a) (view_at s (place_of g a)) setup.Lock running.Idle program.Nothing e (w % 256) (eqb (w % 256) 0x01)
-        (eqb (w % 256) 0xD0) (eqb (w % 256) 0x03) (eqb (w % 256) 0x2F && g.lockdown) refl refl refl refl)
+        (follows_lock s (place_of g a) (view_at s (place_of g a)) setup.Lock running.Idle program.Nothing e (w % 256) (eqb (w % 256) 0x01) (eqb (w % 256) 0xD0) (eqb (w % 256) 0x03) refl refl refl)
     follows_cycle (setup.BufferCount b) r q e m y h = lone (setup.BufferCount b) r q e y.0 (free r q e y.1)
         (follows_loads s (place_of g a) (view_at s (place_of g a)) (setup.BufferCount b) e (setup.BufferFirst b (w + 1)) (first_setup b (w + 1)) (λ o. s.buffer) (eqb (block_of g (location g a)) b && leb w 31) (λ z. refl))
     follows_cycle (setup.BufferFirst b n) r q e m y h = lone (setup.BufferFirst b n) r q e y.0 (free r q e y.1)
@@ -332,26 +300,10 @@ module _ (g : Geometry) where
     follows_cycle (setup.BufferWords l n due) r q e m y h =
         lone (setup.BufferWords l n due) r q e y.0 (free r q e y.1) (goes_words l n due e h (omega (arith, y.3.2, words_length s.buffer n)) (eqb due 0) refl)
 
--- where a part has no lock-down, no cycle locks a block down
-pub cycle_down : (g : Geometry) → g.lockdown ≡ false → (v : View) (c : Setup) (p : Place) (w : ℕ) → v.lock.down ≡ false
-    → (writing.cycle g v c p w).lock.down ≡ false
-unfolding settle ended
-cycle_down g n v c p w h =
-    of_cycle (λ (x : View). x.lock.down ≡ false) v p g c w
-    (λ e. record { modes = λ i m. h; suspends = λ i. h; resumes = λ i r t. h; ends = λ i r t. h; clears = λ i r. h; sets_up = λ i x z. h; stays = h })
-    (record {
-      raises = λ f. h;
-      starts = λ r t. h;
-      relocks = λ b. protection.relocked_down v.lock v.control.pin b ∙ h;
-      downs = λ i. absurd (true≢false (sym (down_known g (w % 256) i) ∙ n));
-      stores = λ i l n. h;
-      loads = λ x. h;
-    })
-
 -- and of the state
 pub follows_written : (s : State) → Together s.control.activity.running s.control.activity.program s.control.activity.erase
     → Ready (state.geometry s) (setup_of s.buffer s.control.activity.setup) (runs s.control.activity.running) (held? (under_way s))
-    → length s.locks ≡ 5 → length s.buffer ≡ 32 → (a w : ℕ) → block_of (state.geometry s) (location (state.geometry s) a) < blocks (state.geometry s)
+    → length s.unprotected ≡ 5 → length s.buffer ≡ 32 → (a w : ℕ) → block_of (state.geometry s) (location (state.geometry s) a) < 259
     → Follows (state.geometry s)
     (cycle (state.geometry s) (conditions s) (runs s.control.activity.running) (held? (under_way s)) (setup_of s.buffer s.control.activity.setup) (location (state.geometry s) a) (w % 256) w)
     s (written_at s (place_of (state.geometry s) a) w)
@@ -359,7 +311,5 @@ unfolding written_at
 follows_written s m y h i a w k =
     follows_put (state.geometry s) s (place_of (state.geometry s) a) h k
     (cycle (state.geometry s) (conditions s) (runs s.control.activity.running) (held? (under_way s)) (setup_of s.buffer s.control.activity.setup) (location (state.geometry s) a) (w % 256) w)
-    (cycle_at s (place_of (state.geometry s) a) w)
-    (λ z. cycle_down (state.geometry s) z (view_at s (place_of (state.geometry s) a)) s.control.activity.setup
-    (place_of (state.geometry s) a) w (protection.never_down (state.geometry s) z s.locks _)) (loaded_at s (place_of (state.geometry s) a) w (cycle_at s (place_of (state.geometry s) a) w).control.activity)
+    (cycle_at s (place_of (state.geometry s) a) w) (loaded_at s (place_of (state.geometry s) a) w (cycle_at s (place_of (state.geometry s) a) w).control.activity)
     (follows_cycle (state.geometry s) s a w s.control.activity.setup s.control.activity.running s.control.activity.program s.control.activity.erase m y i)

@@ -20,7 +20,7 @@ use Rattle.semantics.specs.declared.SuspendedErase.{SuspendedErase}
 use Rattle.semantics.specs.declared.SuspendedErase.TheVariants as erase
 use Rattle.semantics.specs.Layout.{inside, only, fits}
 use Rattle.semantics.specs.State.{activity, runs, program_suspended, erase_suspended}
-use Rattle.semantics.specs.WellFormed.{has_buffer, implies, pending, is_erase_setup, is_erase, erasing, running_alone, program_alone, erase_alone, erase_fits, words_fit, buffer_fits, setup_fits, running_fits, program_fits, suspended_erase_fits, all_fit, running_apart, program_apart, apart, activity_formed}
+use Rattle.semantics.specs.WellFormed.{implies, pending, is_erase_setup, is_erase, erasing, running_alone, program_alone, erase_alone, erase_fits, words_fit, buffer_fits, setup_fits, running_fits, program_fits, suspended_erase_fits, all_fit, running_apart, program_apart, apart, activity_formed}
 use Rattle.semantics.specs.Entries as entries
 use Rattle.semantics.specs.Entries.{Entry, entry, Live}
 use Rattle.semantics.specs.Recorder as recorder
@@ -77,9 +77,7 @@ module _ (g : Geometry) (bs : List ℕ) where
   words_fit_lem l n u x h =
       let e = words_length bs n in
       let y : l + n ≤ start_of g (block_of g l) + size_of g (block_of g l) = rw e at x.1 in
-      and_both
-      (and_both x.3 (and_both (lt-ltb l (words g) x.0) (and_both (le-leb (l + n) (start_of g (block_of g l) + size_of g (block_of g l)) y) (le-leb n 32 (omega (arith, e, x.2))))))
-      (lt-ltb u n (omega (arith, e, h)))
+      and_both (and_both (lt-ltb l (words g) x.0) (and_both (le-leb (l + n) (start_of g (block_of g l) + size_of g (block_of g l)) y) (le-leb n 32 (omega (arith, e, x.2))))) (lt-ltb u n (omega (arith, e, h)))
 
   fits_running : Sound g → (r : Running) (l : List (Live Operation)) → Inside g (add_running bs r l) → Short (add_running bs r l)
       → (running_fits g r ≡ true) × Inside g l × Short l
@@ -195,9 +193,8 @@ module _ (g : Geometry) (bs : List ℕ) where
   fits_setup setup.Program r h y = refl
   fits_setup setup.Erase r h y = refl
   fits_setup setup.Lock r h y = refl
-  fits_setup (setup.BufferCount b) r h y = and_both y.3 (lt-ltb b (blocks g) y.2)
-  fits_setup (setup.BufferFirst b n) r h y =
-      and_both y.5 (and_both (lt-ltb b (blocks g) y.2) (and_both (lt-ltb 0 n y.3) (le-leb n 32 y.4)))
+  fits_setup (setup.BufferCount b) r h y = lt-ltb b (blocks g) y.2
+  fits_setup (setup.BufferFirst b n) r h y = and_both (lt-ltb b (blocks g) y.2) (and_both (lt-ltb 0 n y.3) (le-leb n 32 y.4))
   fits_setup (setup.BufferWords l n k) r h y = words_fit_lem l n k y.3 y.2
 
   -- what is under way, and agrees with a journal, is well formed
@@ -279,13 +276,12 @@ module _ (g : Geometry) (bs : List ℕ) where
   unfolding buffer_fits words_fit
   spanned l n u h =
       let e = words_length bs n in
-      let f = and_true_l (has_buffer g && (ltb l (words g) && (leb (l + n) (start_of g (block_of g l) + size_of g (block_of g l)) && leb n 32))) _ h in
-      let k = and_true_r (has_buffer g) _ f in
+      let k = and_true_l (ltb l (words g) && (leb (l + n) (start_of g (block_of g l) + size_of g (block_of g l)) && leb n 32)) _ h in
       let i = and_true_r (ltb l (words g)) _ k in
       let j = leb-true (l + n) (start_of g (block_of g l) + size_of g (block_of g l)) (and_true_l _ _ i) in
       let o = leb-true n 32 (and_true_r (leb (l + n) (start_of g (block_of g l) + size_of g (block_of g l))) _ i) in
-      let t = ltb-true u n (and_true_r (has_buffer g && (ltb l (words g) && (leb (l + n) (start_of g (block_of g l) + size_of g (block_of g l)) && leb n 32))) _ h) in
-      rw e ((ltb-true l (words g) (and_true_l _ _ k), j, o, and_true_l (has_buffer g) _ f), t)
+      let t = ltb-true u n (and_true_r (ltb l (words g) && (leb (l + n) (start_of g (block_of g l) + size_of g (block_of g l)) && leb n 32)) _ h) in
+      rw e ((ltb-true l (words g) (and_true_l _ _ k), j, o), t)
 
   -- an operation in one block is apart from the suspended erase of another
   own_apart : Sound g → (k : Operation) (b : ℕ) (e : SuspendedErase) → ((L : ℕ) → entries.In (kinds g) k L → block_of g L ≡ b) → not (erasing e b) ≡ true → entries.Apart (kinds g) k (add_erase e)
@@ -410,22 +406,10 @@ module _ (g : Geometry) (bs : List ℕ) where
   ready_own setup.Program r p e x = (quiet_running r p x.running_only, quiet_program r p e x.program_only)
   ready_own setup.Lock r p e x = (quiet_running r p x.running_only, quiet_program r p e x.program_only)
   ready_own setup.Erase r p e x = (quiet_running r p x.running_only, quiet_any r p e x.program_only x.erase_only)
-  ready_own (setup.BufferCount b) r p e x = (
-    quiet_running r p x.running_only,
-    quiet_program r p e x.program_only,
-    ltb-true b (blocks g) (and_true_r (has_buffer g) _ x.fits_c),
-    and_true_l (has_buffer g) _ x.fits_c,
-  )
+  ready_own (setup.BufferCount b) r p e x = (quiet_running r p x.running_only, quiet_program r p e x.program_only, ltb-true b (blocks g) x.fits_c)
   ready_own (setup.BufferFirst b n) r p e x =
-      let f = and_true_r (has_buffer g) _ x.fits_c in
-      let z = and_true_r (ltb b (blocks g)) _ f in (
-        quiet_running r p x.running_only,
-        quiet_program r p e x.program_only,
-        ltb-true b (blocks g) (and_true_l _ _ f),
-        ltb-true 0 n (and_true_l _ _ z),
-        leb-true n 32 (and_true_r (ltb 0 n) _ z),
-        and_true_l (has_buffer g) _ x.fits_c,
-      )
+      let z = and_true_r (ltb b (blocks g)) _ x.fits_c in
+      (quiet_running r p x.running_only, quiet_program r p e x.program_only, ltb-true b (blocks g) (and_true_l _ _ x.fits_c), ltb-true 0 n (and_true_l _ _ z), leb-true n 32 (and_true_r (ltb 0 n) _ z))
   ready_own (setup.BufferWords l n k) r p e x =
       let z = spanned l n k x.fits_c in (quiet_running r p x.running_only, quiet_program r p e x.program_only, z.1, z.0)
 

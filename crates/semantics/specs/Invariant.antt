@@ -9,9 +9,8 @@ use Rattle.std.proofs.Math.Dec.{eqb-suc-zero}
 use Rattle.std.proofs.lemmas.Bool.{lt-leb}
 use Rattle.geometry.specs.declared.Part.{Part}
 use Rattle.geometry.specs.declared.Geometry.{Geometry}
-use Rattle.geometry.specs.Blocks.{Sound, geometry_of, words, blocks, banks, location, block_of}
+use Rattle.geometry.specs.Blocks.{Sound, geometry_of, words, blocks, location, block_of}
 use Rattle.geometry.specs.Laws as laws
-use Rattle.protection.specs.declared.Lock.{Lock}
 use Rattle.protection.specs.Words.{spare_zero}
 use Rattle.protection.specs.Laws as protection
 use Rattle.semantics.specs.declared.Setup.{Setup}
@@ -21,37 +20,36 @@ use Rattle.semantics.specs.declared.Running.TheVariants as running
 use Rattle.semantics.specs.declared.Control.{Control}
 use Rattle.semantics.specs.declared.State.{State}
 use Rattle.semantics.specs.declared.Step.{Step}
-use Rattle.semantics.specs.declared.Step.TheVariants.{Read, Write, Work, Supply, Reset, Pin}
+use Rattle.semantics.specs.declared.Step.TheVariants.{Read, Write, Work, Supply, Reset}
 use Rattle.semantics.specs.declared.Answer.TheVariants.{Refused}
 use Rattle.semantics.specs.declared.Next.{Next}
 use Rattle.semantics.specs.declared.Place.{Place}
 use Rattle.semantics.specs.declared.View.{View}
 use Rattle.semantics.specs.Branches.{by_test}
-use Rattle.semantics.specs.Tests.{and_true_l, and_true_r}
 use Rattle.semantics.specs.Cycles.{nothing_running}
 use Rattle.semantics.specs.Refusals.{of_step, of_array}
-use Rattle.semantics.specs.State.{geometry, set_activity, set_pin, with_running, with_supply, with_pin, with_buffer, power_up, runs}
+use Rattle.semantics.specs.State.{geometry, set_activity, with_running, with_supply, with_buffer, power_up, runs}
 use Rattle.semantics.specs.Supply.{ended, ended_if_unsupplied, switched}
 use Rattle.semantics.specs.Supplied.{of_switched, switched_supplied, cycle_supplied, idle_supplied, on_supplied, unsupplied_idle}
 use Rattle.semantics.specs.View.{place_of, view_at, with_view}
 use Rattle.semantics.specs.Register.{reserved_zero}
 use Rattle.semantics.specs.RegisterBits.{default_zero, cycle_zero}
-use Rattle.semantics.specs.WellFormed.{well_formed, activity_formed, array_from, unused_in, unused_zero, runs_supplied}
+use Rattle.semantics.specs.WellFormed.{well_formed, activity_formed, runs_supplied}
 use Rattle.semantics.specs.Writing.{cycle_at, written, written_at}
 use Rattle.semantics.specs.Working.{units_done, running_after, buffer_after, worked_on, worked, worked_array}
 use Rattle.semantics.specs.Arrays.{array_length, array_word}
 use Rattle.semantics.specs.Card.{given, card}
 use Rattle.semantics.specs.Split.{step_refusal, first_refusal, reset_refused, refused_first, address_good, address_bad, count_good, count_bad}
-use Rattle.semantics.specs.Steps.{refusal_of, next, switched_to, reset_of, accepted, accepted_array, step_of, array_of, Machine, after, after_all, fresh}
+use Rattle.semantics.specs.Steps.{refusal_of, next, switched_to, accepted, accepted_array, step_of, array_of, Machine, after, after_all, fresh}
 use Rattle.semantics.specs.Entries as entries
 use Rattle.semantics.specs.Entries.{Entry}
 use Rattle.semantics.specs.Recorder as recorder
-use Rattle.semantics.specs.Recorder.{Operation, Event, nothing, supplied, was_reset, pin_is, Conditions, conditions_after, Recorder, beginning, recorded, recorded_all, event, journal_after}
+use Rattle.semantics.specs.Recorder.{Operation, Event, nothing, supplied, was_reset, Conditions, conditions_after, Recorder, beginning, recorded, recorded_all, event, journal_after}
 use Rattle.semantics.specs.Engine.{busy, held?, engine_after, words_after_event, Ready, Ok, rule_ok, Sim, sim_do, words_after_ok, rules_agree, After}
 use Rattle.semantics.specs.Follows.{conditions, under_way, setup_of, event_of, Together, Lacking, Follows, follows_written, under_way_worked, under_way_off, words_under_way}
 use Rattle.semantics.specs.Formed.{together, lacking, formed}
 use Rattle.semantics.specs.Buffer.{zero_empty}
-use Rattle.semantics.specs.Spare.{array_set, array_replicate, Spared, length_empty, length_loaded, length_held, length_after, buffer_on, spared_written, spared_worked, spared_ended}
+use Rattle.semantics.specs.Spare.{Spared, length_empty, length_loaded, length_held, length_after, buffer_on, spared_written, spared_worked, spared_ended}
 
 -- ---- refusals
 
@@ -92,7 +90,6 @@ length_accepted s xs (Write a w) = refl
 length_accepted s xs (Work n) = array_length _ _ _ _ xs
 length_accepted s xs (Supply on) = refl
 length_accepted s xs Reset = refl
-length_accepted s xs (Pin high) = refl
 
 pub length_kept : (s : State) (xs : List ℕ) (x : Step) → length (array_of s xs x) ≡ length xs
 length_kept s xs x = of_array (λ (l : List ℕ). length l ≡ length xs) s xs x (length_accepted s xs x) refl
@@ -117,7 +114,7 @@ pub record Fit (s : State) : Type 0 where
   pub alone : Together s.control.activity.running s.control.activity.program s.control.activity.erase
   pub lacks : Lacking (geometry s) s.buffer s.control.activity.running
   pub ready : Ready (geometry s) (setup_of s.buffer s.control.activity.setup) (busy (under_way s)) (held? (under_way s))
-  pub five : length s.locks ≡ 5
+  pub five : length s.unprotected ≡ 5
   pub thirty_two : length s.buffer ≡ 32
 
 -- a load has the buffer to itself: where something runs, none stands, and where nothing runs, work leaves the buffer
@@ -134,11 +131,9 @@ setup_stays g (setup.BufferCount b) (running.Buffer l n d) t bs h y = refl
 setup_stays g (setup.BufferFirst b i) (running.Buffer l n d) t bs h y = refl
 setup_stays g (setup.BufferWords a i k) (running.Buffer l n d) t bs h y = absurd (true≢false y.0)
 
-no_conditions_yet : (s : State) → conditions (reset_of s) ≡ conditions_after was_reset (conditions s)
-unfolding power_up reset_of
-no_conditions_yet s =
-    ap (λ (u : ℕ → Lock). record { supply = s.control.supply; pin = s.control.pin; lock = u; setup = recorder.no-setup })
-    (fun_ext (λ b. protection.all_none (geometry s) b))
+no_conditions_yet : (s : State) → conditions (with_supply (power_up s.part) s.control.supply) ≡ conditions_after was_reset (conditions s)
+unfolding power_up
+no_conditions_yet s = ap (λ (u : ℕ → Bool). record { supply = s.control.supply; unprotected = u; setup = recorder.no-setup }) (fun_ext (λ b. protection.all_none b))
 
 module _ (s : State) (xs : List ℕ) (good : refusal_of s (length xs) Reset ≡ 0) (fit : Fit s) where
   sound : Sound (geometry s)
@@ -157,7 +152,7 @@ module _ (s : State) (xs : List ℕ) (good : refusal_of s (length xs) Reset ≡ 
   steps_write : (a w : ℕ) → (a < 16777216) ⊎ (16777216 ≤ a) → Steps-of (event_of (geometry s) s (Write a w)) s xs (Write a w)
   unfolding given card step_refusal accepted accepted_array written
   steps_write a w (inl h) =
-      let k = laws.block_lt (geometry s) sound (location (geometry s) a) (laws.location_lt (geometry s) sound a) in
+      let k : block_of (geometry s) (location (geometry s) a) < 259 = laws.part_block_lt s.part (location (geometry s) a) (laws.location_lt (geometry s) sound a) in
       rw (lt-ltb a 16777216 h)
       (quiet (recorder.cycle (geometry s) (conditions s) (busy (under_way s)) (held? (under_way s)) (setup_of s.buffer s.control.activity.setup) (location (geometry s) a) (w % 256) w) (Write a w)
       (written s a w) (address_good (geometry s) sound a h) refl refl (follows_written s fit.alone fit.ready fit.five fit.thirty_two a w k))
@@ -173,7 +168,7 @@ module _ (s : State) (xs : List ℕ) (good : refusal_of s (length xs) Reset ≡ 
   steps_work n (inl h) = rw (lt-leb n 65535 h) (refused_nothing (Work n) 3 (count_bad (geometry s) n h))
   steps_work n (inr h) =
       rw (le-leb n 65535 h, step_done s xs good (Work n) (count_good (geometry s) n h), array_done s xs good (Work n) (count_good (geometry s) n h)) (
-        ap (λ (c : recorder.Setup). record { supply = s.control.supply; pin = s.control.pin; lock = (conditions s).lock; setup = c })
+        ap (λ (c : recorder.Setup). record { supply = s.control.supply; unprotected = (conditions s).unprotected; setup = c })
             (setup_stays (geometry s) s.control.activity.setup s.control.activity.running (running_after (geometry s) s.control.activity.running (units_done (geometry s) s.control.activity.running n)) s.buffer
             (held? (under_way s)) fit.ready),
         under_way_worked (geometry s) s.buffer n s.control.activity.running s.control.activity.program s.control.activity.erase fit.lacks fit.alone,
@@ -184,7 +179,7 @@ module _ (s : State) (xs : List ℕ) (good : refusal_of s (length xs) Reset ≡ 
   unfolding switched_to switched ended_if_unsupplied ended
   follows_switched true = rw (buffer_on s.control.activity.running s.buffer) (refl, refl, λ m. refl)
   follows_switched false = (
-    ap (λ (c : recorder.Setup). record { supply = false; pin = s.control.pin; lock = (conditions s).lock; setup = c })
+    ap (λ (c : recorder.Setup). record { supply = false; unprotected = (conditions s).unprotected; setup = c })
         (setup_stays (geometry s) s.control.activity.setup s.control.activity.running running.Idle s.buffer (held? (under_way s)) fit.ready),
     under_way_off (geometry s) s.buffer s.control.activity.running s.control.activity.program s.control.activity.erase fit.alone,
     λ m. refl,
@@ -192,17 +187,16 @@ module _ (s : State) (xs : List ℕ) (good : refusal_of s (length xs) Reset ≡ 
 
   -- every step is the event that the recorder's rule makes of it
   pub steps : (x : Step) → Steps-of (event_of (geometry s) s x) s xs x
-  unfolding given card step_refusal accepted accepted_array power_up reset_of
+  unfolding given card step_refusal accepted accepted_array power_up
   steps (Read a) = steps_read a (laws.order a 16777216)
   steps (Write a w) = steps_write a w (laws.order a 16777216)
   steps (Work n) = steps_work n (laws.order 65535 n)
   steps (Supply on) = quiet (supplied on) (Supply on) (switched_to s on) refl refl refl (follows_switched on)
-  steps Reset = quiet was_reset Reset (reset_of s) refl refl refl (no_conditions_yet s, refl, λ m. refl)
-  steps (Pin high) = quiet (pin_is high) (Pin high) (with_pin s high) refl refl refl (refl, refl, λ m. refl)
+  steps Reset = quiet was_reset Reset (with_supply (power_up s.part) s.control.supply) refl refl refl (no_conditions_yet s, refl, λ m. refl)
 
   -- and leaves no word in a place of the buffer that is not in use
   spared_accepted : (x : Step) → Spared s.control.activity s.buffer → Spared (accepted s xs x).state.control.activity (accepted s xs x).state.buffer
-  unfolding accepted switched_to switched ended_if_unsupplied ended written worked_on worked power_up reset_of
+  unfolding accepted switched_to switched ended_if_unsupplied ended written worked_on worked power_up
   spared_accepted (Read a) h = h
   spared_accepted (Write a w) h = spared_written s fit.alone fit.ready (place_of (geometry s) a) w h
   spared_accepted (Work n) h =
@@ -211,7 +205,6 @@ module _ (s : State) (xs : List ℕ) (good : refusal_of s (length xs) Reset ≡ 
   spared_accepted (Supply true) h = rw (buffer_on s.control.activity.running s.buffer) h
   spared_accepted (Supply false) h = spared_ended s.control.activity.setup s.control.activity.running s.control.activity.program s.control.activity.erase s.buffer h
   spared_accepted Reset h = zero_empty _
-  spared_accepted (Pin high) h = h
 
   pub spared_step : (x : Step) → Spared s.control.activity s.buffer → Spared (step_of s xs x).state.control.activity (step_of s xs x).state.buffer
   spared_step x h =
@@ -219,40 +212,27 @@ module _ (s : State) (xs : List ℕ) (good : refusal_of s (length xs) Reset ≡ 
 
 -- ---- what no step changes
 
--- the part, the banks' number, the protection words' number, and what of them is no bank's and no block's where that is zero, the buffer's length, the register's reserved bits where these are zero,
+-- the part, the banks' number, the protection words' number, and their spare bits where these are zero, the buffer's length, the register's reserved bits where these are zero,
 -- and that something runs only with supply on
 pub record Kept (s t : State) : Type 0 where
   pub part : t.part ≡ s.part
   pub sixteen : length s.banks ≡ 16 → length t.banks ≡ 16
-  pub five : length t.locks ≡ length s.locks
-  pub spare : unused_zero s ≡ true → unused_zero t ≡ true
+  pub five : length t.unprotected ≡ length s.unprotected
+  pub spare : spare_zero s.unprotected ≡ true → spare_zero t.unprotected ≡ true
   pub thirty_two : length s.buffer ≡ 32 → length t.buffer ≡ 32
   pub reserved : reserved_zero s.control.configuration ≡ true → reserved_zero t.control.configuration ≡ true
   pub powered : runs_supplied s.control ≡ true → runs_supplied t.control ≡ true
 
--- a bank of the part is given a mode, and a block a lock
-unused_view : (s : State) (p : Place) → p.bank < banks (geometry s) → (v : View) → unused_zero s ≡ true → unused_zero (with_view s p v) ≡ true
-unfolding unused_in
-unused_view s p k v h =
-    rw (
-      protection.with_spare s.part s.locks p.block v.lock (and_true_l (spare_zero (geometry s) s.locks) _ h),
-      array_set (banks (geometry s)) p.bank (record { mode = v.mode }) s.banks k (and_true_r (spare_zero (geometry s) s.locks) _ h),
-    )
+kept : (s t : State) → t.part ≡ s.part → t.banks ≡ s.banks → t.unprotected ≡ s.unprotected → t.control.configuration ≡ s.control.configuration → (length s.buffer ≡ 32 → length t.buffer ≡ 32) → (runs_supplied s.control ≡ true → runs_supplied t.control ≡ true) → Kept s t
+kept s t p b u r c o = record { part = p; sixteen = λ h. ap length b ∙ h; five = ap length u; spare = λ h. ap spare_zero u ∙ h; thirty_two = c; reserved = λ h. ap reserved_zero r ∙ h; powered = o }
 
-unused_up : (p : Part) → unused_zero (power_up p) ≡ true
-unfolding unused_in power_up
-unused_up p = rw (protection.all_spare (geometry_of p), array_replicate (banks (geometry_of p)) 16)
-
-kept : (s t : State) → t.part ≡ s.part → t.banks ≡ s.banks → t.locks ≡ s.locks → t.control.configuration ≡ s.control.configuration → (length s.buffer ≡ 32 → length t.buffer ≡ 32) → (runs_supplied s.control ≡ true → runs_supplied t.control ≡ true) → Kept s t
-kept s t p b u r c o = record { part = p; sixteen = λ h. ap length b ∙ h; five = ap length u; spare = λ h. rw (p, b, u) h; thirty_two = c; reserved = λ h. ap reserved_zero r ∙ h; powered = o }
-
-kept_view : (s : State) (p : Place) → p.bank < banks (geometry s) → (v : View) (bs : List ℕ) → (length s.buffer ≡ 32 → length bs ≡ 32) → (reserved_zero s.control.configuration ≡ true → reserved_zero v.control.configuration ≡ true)
+kept_view : (s : State) (p : Place) (v : View) (bs : List ℕ) → (length s.buffer ≡ 32 → length bs ≡ 32) → (reserved_zero s.control.configuration ≡ true → reserved_zero v.control.configuration ≡ true)
     → (runs_supplied s.control ≡ true → runs_supplied v.control ≡ true) → Kept s (with_buffer (with_view s p v) bs)
-kept_view s p k v bs c r o = record {
+kept_view s p v bs c r o = record {
   part = refl;
   sixteen = λ h. length-set s.banks p.bank (record { mode = v.mode }) ∙ h;
-  five = protection.with_length (geometry s) s.locks p.block v.lock;
-  spare = unused_view s p k v;
+  five = protection.with_length s.unprotected p.block v.unprotected;
+  spare = protection.with_spare s.unprotected p.block v.unprotected;
   thirty_two = c;
   reserved = r;
   powered = o;
@@ -268,16 +248,11 @@ worked_supplied g c m h =
     by_test c.supply (λ e. on_supplied _ e)
     (λ e. idle_supplied _ (idle_after g c.activity.running m (unsupplied_idle c h e)))
 
-pin_supplied : (c : Control) (high : Bool) → runs_supplied (set_pin c high) ≡ runs_supplied c
-unfolding runs_supplied
-pin_supplied c high = refl
-
-kept_accepted : (s : State) (xs : List ℕ) (x : Step) → length s.locks ≡ 5 → Kept s (accepted s xs x).state
-unfolding accepted switched_to ended written written_at worked_on worked power_up reset_of
+kept_accepted : (s : State) (xs : List ℕ) (x : Step) → length s.unprotected ≡ 5 → Kept s (accepted s xs x).state
+unfolding accepted switched_to ended written written_at worked_on worked power_up
 kept_accepted s xs (Read a) h = kept s s refl refl refl refl (λ z. z) (λ z. z)
 kept_accepted s xs (Write a w) h =
-    kept_view s (place_of (geometry s) a)
-    (laws.bank_lt (geometry s) (laws.sound s.part) _ (laws.location_lt (geometry s) (laws.sound s.part) a)) (cycle_at s (place_of (geometry s) a) w) (written_at s (place_of (geometry s) a) w).buffer
+    kept_view s (place_of (geometry s) a) (cycle_at s (place_of (geometry s) a) w) (written_at s (place_of (geometry s) a) w).buffer
     (λ z. length_held s.control.activity.program (cycle_at s (place_of (geometry s) a) w).control.activity _
     (length_loaded (geometry s) s.control.activity.setup (place_of (geometry s) a) w (cycle_at s (place_of (geometry s) a) w).control.activity.running s.buffer z))
     (cycle_zero (geometry s) (view_at s (place_of (geometry s) a)) s.control.activity.setup (place_of (geometry s) a) w)
@@ -285,10 +260,9 @@ kept_accepted s xs (Write a w) h =
 kept_accepted s xs (Work n) h = kept s (worked s n) refl refl refl refl (length_after s.control.activity.running (worked s n).control.activity.running s.buffer)
     (worked_supplied (geometry s) s.control (units_done (geometry s) s.control.activity.running n))
 kept_accepted s xs (Supply on) h = kept s (switched_to s on) refl refl refl (of_switched (λ (c : Control). c.configuration ≡ s.control.configuration) s.control on refl refl) (length_after s.control.activity.running (switched_to s on).control.activity.running s.buffer) (λ z. switched_supplied s.control on)
-kept_accepted s xs (Pin high) h = kept s (with_pin s high) refl refl refl refl (λ z. z) (λ z. pin_supplied s.control high ∙ z)
-kept_accepted s xs Reset h = record { part = refl; sixteen = λ z. refl; five = protection.all_length ∙ sym h; spare = λ z. unused_up s.part; thirty_two = λ z. length_empty; reserved = λ z. default_zero s.part; powered = λ z. idle_supplied _ refl }
+kept_accepted s xs Reset h = record { part = refl; sixteen = λ z. refl; five = protection.all_length ∙ sym h; spare = λ z. protection.all_spare; thirty_two = λ z. length_empty; reserved = λ z. default_zero s.part; powered = λ z. idle_supplied _ refl }
 
-pub kept_step : (s : State) (xs : List ℕ) (x : Step) → length s.locks ≡ 5 → Kept s (step_of s xs x).state
+pub kept_step : (s : State) (xs : List ℕ) (x : Step) → length s.unprotected ≡ 5 → Kept s (step_of s xs x).state
 kept_step s xs x h =
     of_step (λ (y : Next). Kept s y.state) s xs x (kept_accepted s xs x h)
     (kept s s refl refl refl refl (λ z. z) (λ z. z))
@@ -298,8 +272,8 @@ kept_step s xs x h =
 pub record Agree (p : Part) (xs₀ : List ℕ) (m : Machine) (c : Recorder) : Type 0 where
   pub part : m.state.part ≡ p
   pub size : length m.array ≡ words (geometry_of p)
-  pub five : length m.state.locks ≡ 5
-  pub spare : unused_zero m.state ≡ true
+  pub five : length m.state.unprotected ≡ 5
+  pub spare : spare_zero m.state.unprotected ≡ true
   pub thirty_two : length m.state.buffer ≡ 32
   pub spared : Spared m.state.control.activity m.state.buffer
   pub reserved : reserved_zero m.state.control.configuration ≡ true
@@ -316,8 +290,7 @@ agree_formed p xs₀ m c a =
     let f : activity_formed (geometry_of p) s.control.activity ≡ true =
     formed (geometry_of p) s.buffer (laws.sound p) (conditions s) s.control.activity.setup s.control.activity.running s.control.activity.program s.control.activity.erase c.journal refl a.sim
     in
-    let z : unused_in (geometry_of p) s.banks s.locks ≡ true = rw a.part at a.spare in
-    rw (a.part, f, z, a.spared, a.reserved, a.powered)
+    rw (a.part, f, a.spare, a.spared, a.reserved, a.powered)
 
 agree_good : (p : Part) (xs₀ : List ℕ) (m : Machine) (c : Recorder) → Agree p xs₀ m c → refusal_of m.state (length m.array) Reset ≡ 0
 agree_good p xs₀ m c a = state_good m.state (length m.array) (a.size ∙ ap (λ (q : Part). words (geometry_of q)) (sym a.part)) (agree_formed p xs₀ m c a)
@@ -327,7 +300,7 @@ agree_own : (p : Part) (xs₀ : List ℕ) (m : Machine) (c : Recorder) → Agree
 agree_own p xs₀ m c a = subst (λ (q : Part). Agree q xs₀ m c) (sym a.part) a
 
 -- what a step asks for, from the agreement
-pub agree_fit : (s : State) (d : Conditions) (j : List (Entry Operation)) → length s.locks ≡ 5 → length s.buffer ≡ 32 → Sim (geometry s) (conditions s) (under_way s) j → Fit s
+pub agree_fit : (s : State) (d : Conditions) (j : List (Entry Operation)) → length s.unprotected ≡ 5 → length s.buffer ≡ 32 → Sim (geometry s) (conditions s) (under_way s) j → Fit s
 agree_fit s d j h i sim = record {
   alone = together (geometry s) s.buffer s.control.activity.running s.control.activity.program s.control.activity.erase sim.order;
   lacks = lacking (geometry s) s.buffer s.control.activity.running s.control.activity.program s.control.activity.erase j sim.match;
@@ -398,14 +371,12 @@ agree_fresh p xs h = record {
   part = refl;
   size = h;
   five = protection.all_length;
-  spare = unused_up p;
+  spare = protection.all_spare;
   thirty_two = length_empty;
   spared = zero_empty _;
   reserved = default_zero p;
   powered = idle_supplied _ refl;
-  same =
-      ap (λ (u : ℕ → Lock). record { supply = false; pin = false; lock = u; setup = recorder.no-setup })
-      (fun_ext (λ b. protection.all_none (geometry_of p) b));
+  same = ap (λ (u : ℕ → Bool). record { supply = false; unprotected = u; setup = recorder.no-setup }) (fun_ext (λ b. protection.all_none b));
   sim = record { match = entries.start; order = tt; inside = tt; lying = tt; ready = tt };
   word = λ L k. refl;
 }

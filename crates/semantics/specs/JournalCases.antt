@@ -4,7 +4,6 @@ use Rattle.std.specs.Prelude.{ℕ, true, false, List, [], ◌∷◌, ◌++◌, m
 use Rattle.geometry.specs.declared.Part.{Part}
 use Rattle.geometry.specs.declared.Part.TheVariants.{FullBottom, FullTop, BenchBottom, BenchTop}
 use Rattle.geometry.specs.Blocks.{geometry_of, mirror, block_from, block_of, size_of, start_from, start_of}
-use Rattle.protection.specs.Words.{is_held, is_programmable, relocked}
 use Rattle.semantics.specs.declared.Step.{Step}
 use Rattle.semantics.specs.declared.Step.TheVariants.{Write, Work, Supply, Reset}
 use Rattle.semantics.specs.Entries.{Entry, entry, running, suspended, finished, broken-off}
@@ -231,9 +230,9 @@ lasts_so b l =
     ∷ []
 
 pub parts_hold : (lasts FullBottom ≡ lasts_so 0 0xFFFFFF) × (lasts FullTop ≡ lasts_so 258 0xFFFFFF) × (lasts BenchBottom ≡ lasts_so 0 0x3FFF) × (lasts BenchTop ≡ lasts_so 258 0x3FFF)
-unfolding mirror block_from block_of size_of start_from start_of is_held is_programmable relocked
+unfolding mirror block_from block_of size_of start_from start_of
 parts_hold = (refl, refl, refl, refl)
 
 pub journals_hold : map drawn journals ≡ map expected journals
-unfolding mirror block_from block_of size_of start_from start_of is_held is_programmable relocked
+unfolding mirror block_from block_of size_of start_from start_of
 journals_hold = refl

@@ -6,12 +6,13 @@ use Rattle.std.proofs.Common.{sym, ap, ◌∙◌, subst₂, eqb-true}
 use Rattle.std.proofs.lemmas.Bool.{eqb-false}
 use Rattle.geometry.specs.Blocks.{geometry_of, words}
 use Rattle.geometry.specs.Laws as laws
+use Rattle.protection.specs.Words.{spare_zero}
 use Rattle.semantics.specs.declared.State.{State}
 use Rattle.semantics.specs.declared.Step.{Step}
 use Rattle.semantics.specs.declared.Next.{Next}
 use Rattle.semantics.specs.State.{geometry}
 use Rattle.semantics.specs.Register.{reserved_zero}
-use Rattle.semantics.specs.WellFormed.{well_formed, unused_in, unused_zero, activity_formed, places_used, zero_from, runs_supplied}
+use Rattle.semantics.specs.WellFormed.{well_formed, activity_formed, places_used, zero_from, runs_supplied}
 use Rattle.semantics.specs.Steps.{step_of, array_of}
 use Rattle.semantics.specs.Refusals.{refusal_changes_nothing, refusal_1}
 use Rattle.semantics.specs.Entries.{Entry}
@@ -33,10 +34,10 @@ formed_sim s w =
     (and_true_l (activity_formed (geometry s) s.control.activity) _ w)
 
 -- on an array of the part's length
-keeps_good : (s : State) (xs : List ℕ) (x : Step) → length s.locks ≡ 5 → length s.buffer ≡ 32 → length xs ≡ words (geometry s) → well_formed s ≡ true → well_formed (step_of s xs x).state ≡ true
+keeps_good : (s : State) (xs : List ℕ) (x : Step) → length s.unprotected ≡ 5 → length s.buffer ≡ 32 → length xs ≡ words (geometry s) → well_formed s ≡ true → well_formed (step_of s xs x).state ≡ true
 unfolding well_formed
 keeps_good s xs x h b n w =
-    rw (q, z, u, spared_step s xs (state_good s (length xs) n w) fit x (and_true_l used _ more), k.reserved (and_true_l clear _ last), k.powered (and_true_r clear _ last))
+    rw (q, z, k.spare (and_true_l (spare_zero s.unprotected) _ rest), spared_step s xs (state_good s (length xs) n w) fit x (and_true_l used _ more), k.reserved (and_true_l clear _ last), k.powered (and_true_r clear _ last))
   where
     used : Bool
     used = zero_from (places_used s.control.activity) s.buffer
@@ -44,11 +45,11 @@ keeps_good s xs x h b n w =
     clear : Bool
     clear = reserved_zero s.control.configuration
 
-    rest : (unused_zero s && (used && (clear && runs_supplied s.control))) ≡ true
+    rest : (spare_zero s.unprotected && (used && (clear && runs_supplied s.control))) ≡ true
     rest = and_true_r (activity_formed (geometry s) s.control.activity) _ w
 
     more : (used && (clear && runs_supplied s.control)) ≡ true
-    more = and_true_r (unused_zero s) _ rest
+    more = and_true_r (spare_zero s.unprotected) _ rest
 
     last : (clear && runs_supplied s.control) ≡ true
     last = and_true_r used _ more
@@ -79,14 +80,11 @@ keeps_good s xs x h b n w =
         (sim_do (geometry s) (laws.sound s.part) (conditions s) (under_way s) (own_of s) v
         (rule_ok (geometry s) (laws.sound s.part) (conditions s) (busy (under_way s)) (held? (under_way s)) i.ready x) i)
 
-    u : unused_in (geometry s) t.banks t.locks ≡ true
-    u = rw q at (k.spare (and_true_l (unused_zero s) _ rest))
-
     z : activity_formed (geometry s) t.control.activity ≡ true
     z = formed (geometry s) t.buffer (laws.sound s.part) (conditions t) t.control.activity.setup t.control.activity.running t.control.activity.program t.control.activity.erase (journal_after (geometry s) v (own_of s)) refl y
 
 -- on any array: one of another length is refused, and the state given back
-pub keeps : (s : State) (xs : List ℕ) (x : Step) → length s.locks ≡ 5 → length s.buffer ≡ 32 → well_formed s ≡ true → well_formed (step_of s xs x).state ≡ true
+pub keeps : (s : State) (xs : List ℕ) (x : Step) → length s.unprotected ≡ 5 → length s.buffer ≡ 32 → well_formed s ≡ true → well_formed (step_of s xs x).state ≡ true
 keeps s xs x h i w = go (eqb (length xs) (words (geometry s))) refl
   where
     go : (b : Bool) → eqb (length xs) (words (geometry s)) ≡ b → well_formed (step_of s xs x).state ≡ true

@@ -8,19 +8,19 @@ use Rattle.semantics.specs.declared.Command.TheVariants as command
 use Rattle.semantics.specs.declared.Running.TheVariants as running
 use Rattle.semantics.specs.declared.State.{State}
 use Rattle.semantics.specs.declared.Step.{Step}
-use Rattle.semantics.specs.declared.Step.TheVariants.{Read, Write, Work, Supply, Reset, Pin}
+use Rattle.semantics.specs.declared.Step.TheVariants.{Read, Write, Work, Supply, Reset}
 use Rattle.semantics.specs.declared.Answer.TheVariants.{Units}
 use Rattle.semantics.specs.declared.Next.{Next}
 use Rattle.semantics.specs.declared.Place.{Place}
 use Rattle.semantics.specs.declared.View.{View}
-use Rattle.protection.specs.declared.Lock.{Lock}
-use Rattle.semantics.specs.State.{geometry, with_locks, with_supply, with_pin}
+use Rattle.protection.specs.Words.{spare_zero}
+use Rattle.semantics.specs.State.{geometry, with_protection, with_supply}
 use Rattle.semantics.specs.View as view
 use Rattle.semantics.specs.Supply.{end_flags, ended, ended_if_unsupplied, switched}
 use Rattle.semantics.specs.Cycles.{nothing_running}
 use Rattle.semantics.specs.Supplied.{unsupplied_idle}
 use Rattle.semantics.specs.Register.{reserved_zero}
-use Rattle.semantics.specs.WellFormed.{unused_zero, activity_formed, places_used, zero_from, well_formed}
+use Rattle.semantics.specs.WellFormed.{activity_formed, places_used, zero_from, well_formed}
 use Rattle.semantics.specs.Writing.{first_cycle}
 use Rattle.semantics.specs.Working.{units_left, units_done, running_after, buffer_after, worked_on, worked, worked_array}
 use Rattle.semantics.specs.Steps.{next, switched_to, accepted, accepted_array, step_of, array_of}
@@ -37,7 +37,7 @@ unfolding accepted accepted_array
 read_changes_nothing s xs a =
     (of_step (λ (y : Next). y.state ≡ s) s xs (Read a) refl refl, same_array s xs (Read a) refl)
 
--- write, supply, pin and reset change no word
+-- write, supply and reset change no word
 pub write_changes_no_word : (s : State) (xs : List ℕ) (a w : ℕ) → array_of s xs (Write a w) ≡ xs
 unfolding accepted_array
 write_changes_no_word s xs a w = same_array s xs (Write a w) refl
@@ -45,10 +45,6 @@ write_changes_no_word s xs a w = same_array s xs (Write a w) refl
 pub supply_changes_no_word : (s : State) (xs : List ℕ) (on : Bool) → array_of s xs (Supply on) ≡ xs
 unfolding accepted_array
 supply_changes_no_word s xs on = same_array s xs (Supply on) refl
-
-pub pin_changes_no_word : (s : State) (xs : List ℕ) (high : Bool) → array_of s xs (Pin high) ≡ xs
-unfolding accepted_array
-pin_changes_no_word s xs high = same_array s xs (Pin high) refl
 
 pub reset_changes_no_word : (s : State) (xs : List ℕ) → array_of s xs Reset ≡ xs
 unfolding accepted_array
@@ -58,12 +54,12 @@ reset_changes_no_word s xs = same_array s xs Reset refl
 
 -- protection is looked at only when an operation is accepted: whatever it is, work does the same and answers the same
 pub work_ignores_protection : (s : State) (ws : List ℕ) (n : ℕ) (xs : List ℕ)
-    → (worked_array (with_locks s ws) n xs ≡ worked_array s n xs) × (accepted (with_locks s ws) xs (Work n) ≡ next (with_locks (worked s n) ws) (accepted s xs (Work n)).answer)
+    → (worked_array (with_protection s ws) n xs ≡ worked_array s n xs) × (accepted (with_protection s ws) xs (Work n) ≡ next (with_protection (worked s n) ws) (accepted s xs (Work n)).answer)
 unfolding worked_array worked_on worked accepted
 work_ignores_protection s ws n xs = (refl, refl)
 
 -- "Protecting a block whose erase is suspended does not stop that erase when resumed."
-pub resume_ignores_protection : (v : View) (p : Place) (u : Lock) → first_cycle (view.set_lock v u) p command.Resume ≡ view.set_lock (first_cycle v p command.Resume) u
+pub resume_ignores_protection : (v : View) (p : Place) (u : Bool) → first_cycle (view.with_protection v u) p command.Resume ≡ view.with_protection (first_cycle v p command.Resume) u
 unfolding first_cycle
 resume_ignores_protection v p u = refl
 
@@ -77,7 +73,7 @@ supply_on_noted s = rw (buffer_on s.control.activity.running s.buffer)
 -- "Suspended ones stay", and so do a set-up that is pending, the modes, protection and the configuration register
 pub supply_leaves : (s : State) (on : Bool)
     → ((switched_to s on).control.activity.setup ≡ s.control.activity.setup) × ((switched_to s on).control.activity.program ≡ s.control.activity.program)
-    × ((switched_to s on).control.activity.erase ≡ s.control.activity.erase) × ((switched_to s on).banks ≡ s.banks) × ((switched_to s on).locks ≡ s.locks)
+    × ((switched_to s on).control.activity.erase ≡ s.control.activity.erase) × ((switched_to s on).banks ≡ s.banks) × ((switched_to s on).unprotected ≡ s.unprotected)
     × ((switched_to s on).control.configuration ≡ s.control.configuration)
 unfolding switched_to switched ended_if_unsupplied ended
 supply_leaves s true = (refl, refl, refl, refl, refl, refl)
@@ -87,7 +83,7 @@ supply_leaves s false = (refl, refl, refl, refl, refl, refl)
 unsupplied : (s : State) → well_formed s ≡ true → s.control.supply ≡ false → s.control.activity.running ≡ running.Idle
 unfolding well_formed
 unsupplied s w h =
-    let rest = and_true_r (unused_zero s) _ (and_true_r (activity_formed (geometry s) s.control.activity) _ w) in
+    let rest = and_true_r (spare_zero s.unprotected) _ (and_true_r (activity_formed (geometry s) s.control.activity) _ w) in
     let last = and_true_r (reserved_zero s.control.configuration) _ (and_true_r (zero_from (places_used s.control.activity) s.buffer) _ rest) in
     nothing_running s.control.activity.running (unsupplied_idle s.control last h)
 

@@ -32,7 +32,6 @@ pub mod SupplyCases
 pub mod SupplyStates
 pub mod WordByWord
 pub mod FurtherCases
-pub mod LockCases
 pub mod AnswerCases
 pub mod Encoding
 pub mod EncodingCases
@@ -44,7 +43,6 @@ pub mod Causes
 pub mod JournalCases
 pub mod RecorderCases
 pub mod Demand
-pub mod LockTable
 pub mod Layout
 pub mod Engine
 pub mod Buffer
@@ -65,5 +63,4 @@ pub mod Refusals
 pub mod Leaves
 pub mod Modes
 pub mod Flags
-pub mod NoLockDown
 pub mod Progress

@@ -42,15 +42,15 @@ bank_same (x ∷ l) (suc k) = ap (λ (t : List Bank). x ∷ t) (bank_same l k)
 
 -- a view that is put back as it was changes nothing
 pub view_back : (s : State) (p : Place) → with_view s p (view_at s p) ≡ s
-view_back s p = rw (bank_same s.banks p.bank, protection.with_own (geometry s) s.locks p.block)
+view_back s p = rw (bank_same s.banks p.bank, protection.with_own_block s.unprotected p.block)
 
 -- "no other write but FFh, 70h, 90h and 98h changes a mode": with no set-up pending, B0h, D0h, 50h, a set-up that is not accepted and any other command change none
-pub modes_all_stay : (s : State) (xs : List ℕ) (a w : ℕ) → s.control.activity.setup ≡ setup.Nothing → (ChangesMode s.control.activity (command_of (geometry s) (w % 256)) → ⊥)
+pub modes_all_stay : (s : State) (xs : List ℕ) (a w : ℕ) → s.control.activity.setup ≡ setup.Nothing → (ChangesMode s.control.activity (command_of (w % 256)) → ⊥)
     → (step_of s xs (Write a w)).state.banks ≡ s.banks
 unfolding accepted written written_at cycle
 modes_all_stay s xs a w e n =
     of_step (λ (y : Next). y.state.banks ≡ s.banks) s xs (Write a w)
-    (ap (λ (m : Mode). set s.banks p.bank (record { mode = m })) (ap (λ (c : Setup). (cycle (geometry s) (view_at s p) c p w).mode) e ∙ mode_first (view_at s p) p (command_of (geometry s) (w % 256)) n)
+    (ap (λ (m : Mode). set s.banks p.bank (record { mode = m })) (ap (λ (c : Setup). (cycle (geometry s) (view_at s p) c p w).mode) e ∙ mode_first (view_at s p) p (command_of (w % 256)) n)
     ∙ bank_same s.banks p.bank) refl
   where
     p : Place

@@ -19,7 +19,7 @@ use Rattle.semantics.specs.declared.SuspendedErase.{SuspendedErase}
 use Rattle.semantics.specs.declared.SuspendedErase.TheVariants as erase
 use Rattle.semantics.specs.declared.State.{State}
 use Rattle.semantics.specs.declared.Step.{Step}
-use Rattle.semantics.specs.declared.Step.TheVariants.{Read, Write, Work, Supply, Reset, Pin}
+use Rattle.semantics.specs.declared.Step.TheVariants.{Read, Write, Work, Supply, Reset}
 use Rattle.semantics.specs.declared.Answer.TheVariants.{Refused}
 use Rattle.semantics.specs.declared.Next.{Next}
 use Rattle.semantics.specs.State.{geometry, program_suspended, erase_suspended}
@@ -32,7 +32,7 @@ use Rattle.semantics.specs.Entries as entries
 use Rattle.semantics.specs.Entries.{Live, live, any_live}
 use Rattle.semantics.specs.Recorder as recorder
 use Rattle.semantics.specs.Recorder.{Operation, Event, nothing, units, Conditions, conditions_after, len, kinds, is_program, is_erase, is_any}
-use Rattle.semantics.specs.Causes.{Ready, Cause, by_nothing, by_supply, by_reset, by_work, by_suspend, by_resume_program, by_resume_erase, by_end_program, by_end_erase, by_setup, by_protection, by_pin, by_accept, cause, accept_free, supply_kept}
+use Rattle.semantics.specs.Causes.{Ready, Cause, by_nothing, by_supply, by_reset, by_work, by_suspend, by_resume_program, by_resume_erase, by_end_program, by_end_erase, by_setup, by_protection, by_accept, cause, accept_free, supply_kept}
 use Rattle.semantics.specs.Since.{supply_or_not}
 use Rattle.semantics.specs.Tests.{or_false_l, or_false_r}
 use Rattle.semantics.specs.Engine.{Engine, engine, busy, stack, held?, engine_after, engine_worked, Order, Sim}
@@ -98,7 +98,6 @@ offered k s (Write a w) = 0
 offered k s (Work n) = cond (runs_now k s.control.activity.running) (cond (leb n 65535) n 0) 0
 offered k s (Supply on) = 0
 offered k s Reset = 0
-offered k s (Pin high) = 0
 
 -- the units that a step's answer tells of, while it runs
 abbrev pub told : Followed → Machine → Step → ℕ
@@ -127,7 +126,7 @@ Lasting (x ∷ l) = (x ≡ Reset → ⊥) × (x ≡ Supply false → ⊥) × Las
 -- a device's state, on an array, with nothing wrong
 pub record Good (m : Machine) : Type 0 where
   pub size : length m.array ≡ words (geometry m.state)
-  pub five : length m.state.locks ≡ 5
+  pub five : length m.state.unprotected ≡ 5
   pub thirty_two : length m.state.buffer ≡ 32
   pub formed : well_formed m.state ≡ true
 
@@ -162,7 +161,6 @@ Mild (Work n) = ⊥
 Mild (Supply true) = Unit {0}
 Mild (Supply false) = ⊥
 Mild Reset = ⊥
-Mild (Pin high) = Unit {0}
 
 module _ (g : Geometry) where
   -- the units that it lacks
@@ -220,7 +218,6 @@ module _ (g : Geometry) where
   mild_lacks k d e x v on y m (by_end_erase u z r p q) h = absurd (true≢false (sym on ∙ u))
   mild_lacks k d e x v on y m (by_setup t f) h = refl
   mild_lacks k d e x v on y m (by_protection b o z) h = refl
-  mild_lacks k d e x v on y m (by_pin t z) h = refl
   mild_lacks k d e x v on y m (by_accept o a w z c u) h = accept_lacks k e o (accept_free g d.setup (busy e) (held? e) a w o c y) h
 
   -- the one below it is of the other kind
@@ -365,7 +362,6 @@ module _ (m : Machine) (o : Good m) where
   left_step k (Supply true) on a₁ a₂ h = mild_left k (Supply true) on tt h ∙ omega arith
   left_step k (Supply false) on a₁ a₂ h = absurd (a₂ refl)
   left_step k Reset on a₁ a₂ h = absurd (a₁ refl)
-  left_step k (Pin high) on a₁ a₂ h = mild_left k (Pin high) on tt h ∙ omega arith
 
   -- the supply stays on
   supply_after : (x : Step) → m.state.control.supply ≡ true → (x ≡ Supply false → ⊥) → (after m x).state.control.supply ≡ true
@@ -402,7 +398,6 @@ module _ (m : Machine) (o : Good m) where
   told_here k (Work n) = told_work k n (laws.order 65535 n) (runs_now k m.state.control.activity.running) refl
   told_here k (Supply on) = omega (arith, told_none k (Supply on) refl)
   told_here k Reset = omega (arith, told_none k Reset refl)
-  told_here k (Pin high) = omega (arith, told_none k (Pin high) refl)
 
 -- what it lacks after such a step
 pub left_after : (m : Machine) (k : Followed) (x : Step) → Good m → m.state.control.supply ≡ true → (x ≡ Reset → ⊥) → (x ≡ Supply false → ⊥) → 0 < left_in k m.state

@@ -1,16 +1,12 @@
 -- A block that no step unprotected keeps its words (protected_keeps): every entry lies in one block, and was accepted
 -- with that block unprotected.
 -- Assumes nothing.
-use Rattle.std.specs.Prelude.{◌≡◌, List, [], ◌∷◌, ◌++◌, Bool, true, false, cond, ℕ, ◌-◌, ◌<◌, length, get_or}
-use Rattle.std.proofs.Math.Path.{refl}
+use Rattle.std.specs.Prelude.{◌≡◌, refl, List, [], ◌∷◌, ◌++◌, Bool, true, cond, ℕ, ◌-◌, ◌<◌, length, get_or}
 use Rattle.std.proofs.Common.{sym, ap, ◌∙◌, subst, inl, inr, arith}
-use Rattle.std.proofs.Math.Bool.{false≢true}
 use Rattle.geometry.specs.declared.Part.{Part}
 use Rattle.geometry.specs.declared.Geometry.{Geometry}
 use Rattle.geometry.specs.Blocks.{Sound, geometry_of, words, block_of}
 use Rattle.geometry.specs.Laws as laws
-use Rattle.protection.specs.declared.Lock.{Lock}
-use Rattle.protection.specs.Words.{is_held, is_programmable, relocked}
 use Rattle.semantics.specs.declared.Step.{Step}
 use Rattle.semantics.specs.declared.Step.TheVariants.{Write}
 use Rattle.semantics.specs.Numbers.{within_out}
@@ -18,52 +14,28 @@ use Rattle.semantics.specs.Layout.{only}
 use Rattle.semantics.specs.Steps.{after_all, fresh}
 use Rattle.semantics.specs.Entries as entries
 use Rattle.semantics.specs.Entries.{Entry, entry, is_finished}
-use Rattle.semantics.specs.Recorder.{Operation, program, erase, buffer, base, put, kinds, block_in, opening, shutting, locking-down, Recorder, beginning, recorded, recorded_all, journal_of}
-use Rattle.semantics.specs.Demand.{ProtectionCommand, Holds, LeftProgrammable}
+use Rattle.semantics.specs.Recorder.{Operation, program, erase, buffer, base, put, kinds, block_in, Recorder, beginning, recorded, journal_of}
+use Rattle.semantics.specs.Demand.{ProtectionCommand, Holds, LastUnprotected, at_this, at_later}
 use Rattle.semantics.specs.Engine.{Lies, InK, buffer_in_lem, Lying, After}
 use Rattle.semantics.specs.Theorem.{reached}
 use Rattle.semantics.specs.Standing.{every_entry_stands}
-use Rattle.semantics.specs.Branches.{of_cond}
-use Rattle.semantics.specs.Since.{Touches, shuts, sets, misses, touches, command_sets, reset_locks, left_programmable_only}
 
 module _ (g : Geometry) where
   -- no step unprotects b; c is the recorder before them
   abbrev pub NeverUnprotected : ℕ → List Step → Recorder → Type 0
   NeverUnprotected b [] c = Unit {0}
-  NeverUnprotected b (s ∷ l) c = (ProtectionCommand g b opening c.conditions.setup s → ⊥) × NeverUnprotected b l (recorded g c s)
+  NeverUnprotected b (s ∷ l) c = (ProtectionCommand g b true c.conditions.setup s → ⊥) × NeverUnprotected b l (recorded g c s)
 
-  never_before : (b : ℕ) (m l : List Step) (c : Recorder) → NeverUnprotected b (m ++ l) c → NeverUnprotected b m c
-  never_before b [] l c n = tt
-  never_before b (s ∷ m) l c n = (n.0, never_before b m l (recorded g c s) n.1)
-
-  -- a block that is protected stays so: a raised pin alone opens none that no step unprotected
-  still : (x : Lock) (pin : Bool) → x.unprotected ≡ false → (relocked x pin false).unprotected ≡ false
-  unfolding relocked
-  still x pin h = of_cond (λ (y : Lock). y.unprotected ≡ false) (is_held x pin) _ _ h refl
-
-  never_open : (b : ℕ) (l : List Step) (c : Recorder) → NeverUnprotected b l c → (c.conditions.lock b).unprotected ≡ false
-      → ((recorded_all g c l).conditions.lock b).unprotected ≡ false
-  never_open b [] c n h = h
-  never_open b (s ∷ l) c n h = never_open b l (recorded g c s) n.1 (go (touches g b c s))
-    where
-      go : Touches g b c s → ((recorded g c s).conditions.lock b).unprotected ≡ false
-      go (shuts e) = ap (λ (x : Lock). x.unprotected) (reset_locks g b c s e)
-      go (sets opening p) = absurd (n.0 p)
-      go (sets shutting p) = ap (λ (x : Lock). x.unprotected) (command_sets g b shutting c s p) ∙ still _ _ h
-      go (sets locking-down p) = ap (λ (x : Lock). x.unprotected) (command_sets g b locking-down c s p)
-      go (misses i m q) = ap (λ (x : Lock). x.unprotected) q ∙ h
-
-  shut : (x : Lock) (pin : Bool) → x.unprotected ≡ false → is_programmable x pin ≡ true → ⊥
-  unfolding is_programmable
-  shut x pin h e = false≢true (rw h at e)
+  never_last : (b : ℕ) (m l : List Step) (c : Recorder) → NeverUnprotected b (m ++ l) c → LastUnprotected g b c m → ⊥
+  never_last b _ l c n (at_this _ s m p u) = n.0 p
+  never_last b _ l c n (at_later _ s m x) = never_last b m l (recorded g c s) n.1 x
 
   -- an operation of the block was never accepted
   never_held : (b : ℕ) (l : List Step) → NeverUnprotected b l beginning → (k : Operation) (n : ℕ) → Holds g k n (journal_of g l) → block_in g k ≡ b → ⊥
   never_held b l u k n x e =
       let r = every_entry_stands g k n l x in
-      let v = never_before b r.before (Write r.address r.word ∷ r.later) beginning (subst (λ (i : List Step). NeverUnprotected b i beginning) r.whole u) in
-      shut _ _ (never_open b r.before beginning v refl)
-      (left_programmable_only g b r.before (subst (λ (i : ℕ). LeftProgrammable g i r.before) e r.left_programmable))
+      never_last b r.before (Write r.address r.word ∷ r.later) beginning (subst (λ (i : List Step). NeverUnprotected b i beginning) r.whole u)
+      (subst (λ (i : ℕ). LastUnprotected g i beginning r.before) e r.last_unprotected)
 
   -- an operation that lies in the array changes words of its block alone
   lies_in : Sound g → (k : Operation) → Lies g k → (L : ℕ) → InK g k L → block_of g L ≡ block_in g k

@@ -3,8 +3,6 @@
 use Rattle.std.specs.Prelude.{ℕ, ◌+◌, Bool, true, false, not, cond, ◌&&◌, List, eqb, get_or}
 use Rattle.geometry.specs.declared.Geometry.{Geometry}
 use Rattle.geometry.specs.Blocks.{bank_of, bank_of_block, block_offset, bank_offset}
-use Rattle.protection.specs.declared.Lock.{Lock}
-use Rattle.protection.specs.Words.{is_held}
 use Rattle.semantics.specs.declared.Mode.{Mode}
 use Rattle.semantics.specs.declared.Mode.TheVariants.{Array, Status, Signature, Query}
 use Rattle.semantics.specs.declared.Running.{Running}
@@ -43,14 +41,9 @@ status_word g a f k =
     + bit_if f.sr1 0x02  -- SR1 block protection status
     + bit_if (runs a.running && not (runs_in g a.running k)) 0x01  -- SR0 bank write status
 
--- "885Eh (top) or 885Fh (bottom)"; document 02, item 8, of M58WT032KB, the part that has lock-down: "device code 8867h"
+-- "885Eh (top) or 885Fh (bottom)"
 abbrev pub device_code : Geometry → ℕ
-device_code g = cond g.lockdown 0x8867 (cond g.top 0x885E 0x885F)
-
--- "at block offset 2 0001h protected or 0000h open"; document 02, item 8: "Block offset 2 shows 0001h, 0000h, 0003h or
--- 0002h": bit 0 the lock bit, bit 1 lock-down; "a locked-down block's bit while the pin is low, when it shows 0003h (H)"
-unfoldable pub lock_word : Lock → Bool → ℕ
-lock_word x pin = cond (is_held x pin) 0x0003 (bit_if x.down 0x0002 + bit_if (not x.unprotected) 0x0001)
+device_code g = cond g.top 0x885E 0x885F
 
 -- "signature, 0020h at bank offset 0, 885Eh (top) or 885Fh (bottom) at bank offset 1, the configuration register at bank offset 5, and at block
 -- offset 2 0001h protected or 0000h open; all other offsets 0000h"
@@ -59,7 +52,7 @@ signature_word g v l =
     cond (eqb (bank_offset g l) 0) 0x0020
     (cond (eqb (bank_offset g l) 1) (device_code g)
     (cond (eqb (bank_offset g l) 5) v.control.configuration
-    (cond (eqb (block_offset g l) 2) (lock_word v.lock v.control.pin)
+    (cond (eqb (block_offset g l) 2) (bit_if (not v.unprotected) 0x0001)
     0x0000)))
 
 -- "query, 51h, 52h, 59h at bank offsets 10h, 11h, 12h and 0000h elsewhere"

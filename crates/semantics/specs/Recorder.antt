@@ -1,6 +1,5 @@
--- The recorder (document 01: clerk) and the journal that it draws up: document 01, "The journal", and document 02, item 1,
--- for a buffer program, item 5, for the supply, and item 8, for lock-down and the pin, and nothing else. It is told the
--- part and, of each step, which of the six it is and its numbers. No device, array or answer enters: the device's definitions are not
+-- The recorder (document 01: clerk) and the journal that it draws up: document 01, "The journal", and document 02, item 1, for a buffer program, and item 5, for the
+-- supply, and nothing else. It is told the part and, of each step, which of the five it is and its numbers. No device, array or answer enters: the device's definitions are not
 -- used here.
 -- Of `base`, `len` and `put` the recorder uses `len` alone, for the units that an entry lacks; `base` and `put` serve the proof. What an entry makes of a word is
 -- said by `reading`.
@@ -10,11 +9,9 @@ use Rattle.std.specs.Prelude.{Bool, true, false, cond, not, ◌&&◌, ◌||◌, 
 use Rattle.std.specs.Int.Bits.{bit_and}
 use Rattle.geometry.specs.declared.Geometry.{Geometry}
 use Rattle.geometry.specs.Blocks.{location, block_of, start_of, size_of}
-use Rattle.protection.specs.declared.Lock.{Lock}
-use Rattle.protection.specs.Words.{lock, is_programmable, relocked, locked_down}
 use Rattle.semantics.specs.Numbers.{within}
 use Rattle.semantics.specs.declared.Step.{Step}
-use Rattle.semantics.specs.declared.Step.TheVariants.{Read, Write, Work, Supply, Reset, Pin}
+use Rattle.semantics.specs.declared.Step.TheVariants.{Read, Write, Work, Supply, Reset}
 use Rattle.semantics.specs.Entries.{Entry, entry, running, is_finished, Kinds, worked, paused, resumed, broken_off, any_runs, any_suspended}
 
 -- ---- the journal, and what it makes of a word
@@ -79,36 +76,25 @@ pub data Setup : Type 0 where
   first_setup : ℕ → ℕ → Setup
   words_setup : ℕ → List ℕ → ℕ → Setup
 
--- "supply, the open blocks, the set-up"; document 02, item 8: the lock of each block, and whether the pin is high
+-- "supply, the open blocks, the set-up"
 pub record Conditions : Type 0 where
   pub supply : Bool
-  pub pin : Bool
-  pub lock : ℕ → Lock
+  pub unprotected : ℕ → Bool
   pub setup : Setup
 
 pub record Recorder : Type 0 where
   pub conditions : Conditions
   pub journal : List (Entry Operation)
 
--- "He begins with supply off, no block open, no set-up and no entry."; "The pin starts low"
+-- "He begins with supply off, no block open, no set-up and no entry."
 abbrev pub no_conditions : Conditions
-no_conditions = record { supply = false; pin = false; lock = λ b. lock false false; setup = no-setup }
+no_conditions = record { supply = false; unprotected = λ b. false; setup = no-setup }
 
 abbrev pub beginning : Recorder
 beginning = record { conditions = no_conditions; journal = [] }
 
--- the protection commands: D0h, 01h, and document 02, item 8, "lock-down by 60h and 2Fh"
-pub data Protection : Type 0 where
-  opening shutting locking-down : Protection
-
--- what they make of a block's lock, by the pin
-abbrev pub relock : Protection → Lock → Bool → Lock
-relock opening x pin = relocked x pin true
-relock shutting x pin = relocked x pin false
-relock locking-down x pin = locked_down
-
--- what a step comes to for the recorder. `setup_is s`: the pending set-up is s from here on. `protect b k`: the command k for
--- block b, and the set-up ends. `pin_is high`: the pin is high, or low, from here on. `accept k`: an entry of k is added, and the set-up ends. `end-program`, `end-erase`: the suspended one is broken off
+-- what a step comes to for the recorder. `setup_is s`: the pending set-up is s from here on. `unprotected_is b v`: block b is unprotected (v true) or protected
+-- (v false) from here on, and the set-up ends. `accept k`: an entry of k is added, and the set-up ends. `end-program`, `end-erase`: the suspended one is broken off
 pub data Event : Type 0 where
   nothing : Event
   supplied : Bool → Event
@@ -117,8 +103,7 @@ pub data Event : Type 0 where
   suspend : Event
   resume-program resume-erase end-program end-erase : Event
   setup_is : Setup → Event
-  protect : ℕ → Protection → Event
-  pin_is : Bool → Event
+  unprotected_is : ℕ → Bool → Event
   accept : Operation → Event
 
 abbrev pub is_erase : Operation → Bool
@@ -135,18 +120,18 @@ is_any k = true
 abbrev pub is_none : Operation → Bool
 is_none k = false
 
--- the commands of a write with no set-up that bear on the journal; document 02, item 8: "E8h is ignored there"
+-- the commands of a write with no set-up that bear on the journal
 pub data Command : Type 0 where
   suspend-command resume-command program-command lock-command erase-command buffer-command other-command : Command
 
-abbrev pub command_of : Geometry → ℕ → Command
-command_of g c =
+abbrev pub command_of : ℕ → Command
+command_of c =
     cond (eqb c 0xB0) suspend-command
     (cond (eqb c 0xD0) resume-command
     (cond (eqb c 0x10 || eqb c 0x40) program-command
     (cond (eqb c 0x60) lock-command
     (cond (eqb c 0x20) erase-command
-    (cond (eqb c 0xE8 && not g.lockdown) buffer-command other-command)))))
+    (cond (eqb c 0xE8) buffer-command other-command)))))
 
 module _ (g : Geometry) where
   -- the block that an operation lies in
@@ -160,9 +145,9 @@ module _ (g : Geometry) where
 
   -- The rules. `runs`: an entry is running. `held p`: an entry whose operation is p is suspended.
   module _ (d : Conditions) (runs : Bool) (held : (Operation → Bool) → Bool) where
-    -- "if supply is on, the block open and no erase of it suspended"; document 02, item 8: "had left it programmable"
+    -- "if supply is on, the block open and no erase of it suspended"
     abbrev pub acceptable : ℕ → Bool
-    acceptable b = d.supply && (is_programmable (d.lock b) d.pin && not (held (is_erase_of b)))
+    acceptable b = d.supply && (d.unprotected b && not (held (is_erase_of b)))
 
     -- "Write, no set-up: B0h suspends what runs. If nothing runs, D0h sets the suspended program running, else the suspended erase; 10h and 40h
     -- (program) and 60h (lock) become the set-up if no program is suspended, 20h (erase) if nothing is. Else nothing." "E8h is taken when 40h is": with its block b. Document 02,
@@ -200,12 +185,8 @@ module _ (g : Geometry) where
     -- "Write, set-up: it ends. Lock: the protection commands D0h and 01h open and shut the block. Program with any data, erase with D0h: if supply is
     -- on, the block open and no erase of it suspended, a running entry with 0 units is added. Else nothing.": at location l, command c, data w
     abbrev pub cycle : Setup → ℕ → ℕ → ℕ → Event
-    cycle no-setup l c w = first_cycle_event (block_of g l) (command_of g c)
-    cycle lock-setup l c w =
-        cond (eqb c 0xD0) (protect (block_of g l) opening)
-        (cond (eqb c 0x01) (protect (block_of g l) shutting)
-        (cond (eqb c 0x2F && g.lockdown) (protect (block_of g l) locking-down)
-        (setup_is no-setup)))
+    cycle no-setup l c w = first_cycle_event (block_of g l) (command_of c)
+    cycle lock-setup l c w = cond (eqb c 0xD0) (unprotected_is (block_of g l) true) (cond (eqb c 0x01) (unprotected_is (block_of g l) false) (setup_is no-setup))
     cycle program-setup l c w = cond (acceptable (block_of g l)) (accept (program l w)) (setup_is no-setup)
     cycle erase-setup l c w = cond (eqb c 0xD0 && acceptable (block_of g l)) (accept (erase (block_of g l))) (setup_is no-setup)
     cycle (count_setup b) l c w = count_cycle b l w
@@ -219,30 +200,21 @@ module _ (g : Geometry) where
     rule (Work n) = cond (leb n 65535) (units n) nothing
     rule (Supply on) = supplied on
     rule Reset = was_reset
-    rule (Pin high) = pin_is high
 
--- what an event makes of the conditions. "Supply: noted." "Reset: every block is shut, the set-up ends"; document 02, item
--- 8: "The pin starts low and reset keeps it"
+-- what an event makes of the conditions. "Supply: noted." "Reset: every block is shut, the set-up ends"
 abbrev pub conditions_after : Event → Conditions → Conditions
 conditions_after nothing d = d
-conditions_after (supplied on) d = record { supply = on; pin = d.pin; lock = d.lock; setup = d.setup }
-conditions_after was_reset d =
-    record { supply = d.supply; pin = d.pin; lock = λ b. lock false false; setup = no-setup }
+conditions_after (supplied on) d = record { supply = on; unprotected = d.unprotected; setup = d.setup }
+conditions_after was_reset d = record { supply = d.supply; unprotected = λ b. false; setup = no-setup }
 conditions_after (units n) d = d
 conditions_after suspend d = d
 conditions_after resume-program d = d
 conditions_after resume-erase d = d
 conditions_after end-program d = d
 conditions_after end-erase d = d
-conditions_after (setup_is s) d = record { supply = d.supply; pin = d.pin; lock = d.lock; setup = s }
-conditions_after (protect b k) d = record {
-  supply = d.supply;
-  pin = d.pin;
-  lock = λ c. cond (eqb c b) (relock k (d.lock c) d.pin) (d.lock c);
-  setup = no-setup;
-}
-conditions_after (pin_is high) d = record { supply = d.supply; pin = high; lock = d.lock; setup = d.setup }
-conditions_after (accept k) d = record { supply = d.supply; pin = d.pin; lock = d.lock; setup = no-setup }
+conditions_after (setup_is s) d = record { supply = d.supply; unprotected = d.unprotected; setup = s }
+conditions_after (unprotected_is b v) d = record { supply = d.supply; unprotected = λ c. cond (eqb c b) v (d.unprotected c); setup = no-setup }
+conditions_after (accept k) d = record { supply = d.supply; unprotected = d.unprotected; setup = no-setup }
 
 -- all that is under way is broken off; what runs; and what is suspended and is p
 abbrev pub all_broken : Entry Operation → Entry Operation
@@ -270,8 +242,7 @@ module _ (g : Geometry) where
   journal_after end-program j = map (suspended_broken is_program) j
   journal_after end-erase j = map (suspended_broken is_erase) j
   journal_after (setup_is s) j = j
-  journal_after (protect b k) j = j
-  journal_after (pin_is high) j = j
+  journal_after (unprotected_is b v) j = j
   journal_after (accept k) j = entry k 0 running ∷ j
 
   -- the event of a step, from the recorder's own journal

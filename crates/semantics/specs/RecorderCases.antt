@@ -7,7 +7,6 @@ use Rattle.std.specs.Prelude.{ℕ, Bool, true, false, ◌&&◌, List, [], ◌∷
 use Rattle.geometry.specs.declared.Part.{Part}
 use Rattle.geometry.specs.declared.Part.TheVariants.{BenchBottom, BenchTop}
 use Rattle.geometry.specs.Blocks.{geometry_of, mirror, block_from, block_of, size_of, start_from, start_of}
-use Rattle.protection.specs.Words.{is_held, is_programmable, relocked}
 use Rattle.semantics.specs.declared.Step.{Step}
 use Rattle.semantics.specs.declared.Step.TheVariants.{Read, Write}
 use Rattle.semantics.specs.Exactly.{exactly}
@@ -96,7 +95,7 @@ recorders =
     ∷ []
 
 pub recorders_hold : map drawn recorders ≡ map expected recorders
-unfolding mirror block_from block_of size_of start_from start_of is_held is_programmable relocked
+unfolding mirror block_from block_of size_of start_from start_of
 recorders_hold = refl
 
 -- ---- every code
@@ -167,7 +166,7 @@ commands =
     ∷ []
 
 pub commands_hold : T (all_codes commands)
-unfolding mirror block_from block_of size_of start_from start_of is_held is_programmable relocked
+unfolding mirror block_from block_of size_of start_from start_of
 commands_hold = tt
 
 -- ---- what a journal makes of a word

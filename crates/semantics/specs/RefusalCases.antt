@@ -4,7 +4,7 @@
 use Rattle.std.specs.Prelude.{ℕ, true, false, List, [], ◌∷◌, ◌++◌, replicate}
 use Rattle.geometry.specs.declared.Part.{Part}
 use Rattle.geometry.specs.declared.Part.TheVariants.{BenchBottom, BenchTop}
-use Rattle.semantics.specs.declared.Step.TheVariants.{Read, Write, Work, Supply, Reset, Pin}
+use Rattle.semantics.specs.declared.Step.TheVariants.{Read, Write, Work, Supply, Reset}
 use Rattle.semantics.specs.declared.Answer.TheVariants.{Word, Units, Done, Refused}
 use Rattle.semantics.specs.declared.State.{State}
 use Rattle.semantics.specs.declared.Setup.{Setup}
@@ -15,7 +15,7 @@ use Rattle.semantics.specs.declared.SuspendedProgram.{SuspendedProgram}
 use Rattle.semantics.specs.declared.SuspendedProgram.TheVariants as suspended-program
 use Rattle.semantics.specs.declared.SuspendedErase.{SuspendedErase}
 use Rattle.semantics.specs.declared.SuspendedErase.TheVariants as suspended-erase
-use Rattle.semantics.specs.State.{power_up, activity, runs, with_activity, with_locks, with_supply}
+use Rattle.semantics.specs.State.{power_up, activity, runs, with_activity, with_protection, with_supply}
 use Rattle.semantics.specs.Cases.{◌⟶◌, Exchange, words, Case, plays, starts, unreported, write, shows, works, program, prepared, bench}
 
 -- ---- states that differ from power-up in what is under way, with supply on where something runs, or in the last of the protection words
@@ -24,7 +24,7 @@ abbrev pub under_way : Part → Setup → Running → SuspendedProgram → Suspe
 under_way p s r q e = with_supply (with_activity (power_up p) (activity s r q e)) (runs r)
 
 abbrev pub last_word : ℕ → State
-last_word w = with_locks (power_up BenchBottom) (replicate 4 0 ++ w ∷ [])
+last_word w = with_protection (power_up BenchBottom) (replicate 4 0 ++ w ∷ [])
 
 -- a program and an erase that run: at location l; of block b, with n words done
 abbrev program_runs : ℕ → State
@@ -51,7 +51,7 @@ good s = starts s (bench 0) ((Supply true ⟶ Done) ∷ [])
 -- every step refused r, whatever its own numbers
 abbrev pub all : ℕ → List Exchange
 all r =
-    (Read 0 ⟶ Refused r) ∷ (Write 0 0xFF ⟶ Refused r) ∷ (Work 1 ⟶ Refused r) ∷ (Supply true ⟶ Refused r) ∷ (Supply false ⟶ Refused r) ∷ (Reset ⟶ Refused r) ∷ (Pin true ⟶ Refused r) ∷ (Pin false ⟶ Refused r) ∷ (Read 0x1000000 ⟶ Refused r)
+    (Read 0 ⟶ Refused r) ∷ (Write 0 0xFF ⟶ Refused r) ∷ (Work 1 ⟶ Refused r) ∷ (Supply true ⟶ Refused r) ∷ (Supply false ⟶ Refused r) ∷ (Reset ⟶ Refused r) ∷ (Read 0x1000000 ⟶ Refused r)
     ∷ (Write 0x1000000 0xFF ⟶ Refused r) ∷ (Work 65536 ⟶ Refused r) ∷ []
 
 abbrev pub refusal_cases : List Case

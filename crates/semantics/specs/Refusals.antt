@@ -5,17 +5,17 @@ use Rattle.std.proofs.Common.{sym, ◌∙◌, arith, eqb-true, eq-eqb, ne_eqb}
 use Rattle.std.proofs.Math.Bool.{and-false}
 use Rattle.std.proofs.Math.Dec.{eqb-suc-zero}
 use Rattle.geometry.specs.Blocks.{words}
-use Rattle.protection.specs.Words.{bit}
+use Rattle.protection.specs.Words.{bit, spare_zero}
 use Rattle.semantics.specs.declared.State.{State}
 use Rattle.semantics.specs.declared.Step.{Step}
-use Rattle.semantics.specs.declared.Step.TheVariants.{Read, Write, Work, Supply, Reset, Pin}
+use Rattle.semantics.specs.declared.Step.TheVariants.{Read, Write, Work, Supply, Reset}
 use Rattle.semantics.specs.declared.Answer.TheVariants.{Refused}
 use Rattle.semantics.specs.declared.Next.{Next}
 use Rattle.semantics.specs.Branches.{of_cond, by_cond, by_cond₂, by_test}
 use Rattle.semantics.specs.State.{geometry, runs}
 use Rattle.semantics.specs.Register.{is_reserved, reserved_zero}
 use Rattle.semantics.specs.RegisterBits.{zero_each}
-use Rattle.semantics.specs.WellFormed.{unused_zero, activity_formed, places_used, zero_from, runs_supplied, well_formed}
+use Rattle.semantics.specs.WellFormed.{activity_formed, places_used, zero_from, runs_supplied, well_formed}
 use Rattle.semantics.specs.Reading.{read_word}
 use Rattle.semantics.specs.Working.{units_done}
 use Rattle.semantics.specs.Split.{first_refusal, reset_refused, refused_first}
@@ -44,7 +44,6 @@ value_given s xs (Write a w) = 0
 value_given s xs (Work n) = units_done (geometry s) s.control.activity.running n
 value_given s xs (Supply on) = 0
 value_given s xs Reset = 0
-value_given s xs (Pin high) = 0
 
 module _ (s : State) (xs : List ℕ) (x : Step) (r : ℕ) where
   told : (x : Step) → (number_of (accepted s xs x).answer ≡ 0) × (value_of (accepted s xs x).answer ≡ value_given s xs x)
@@ -54,7 +53,6 @@ module _ (s : State) (xs : List ℕ) (x : Step) (r : ℕ) where
   told (Work n) = (refl, refl)
   told (Supply on) = (refl, refl)
   told Reset = (refl, refl)
-  told (Pin high) = (refl, refl)
 
   pub number_by : number_of (cond (eqb r 0) (accepted s xs x) (next s (Refused r))).answer ≡ r
   number_by =
@@ -80,7 +78,7 @@ refusal_1 s n x h =
     refused_first (geometry s) (well_formed s) n x
     ∙ rw (reset_refused (geometry s) (well_formed s) n, ne_eqb n (words (geometry s)) h)
 
--- "state not well made", on an array of the part's length: every step is refused 2, and so is the report
+-- "state not well made", on an array of the part's length: every step is refused 2, and so is the report of unprotected blocks
 pub refusal_2 : (s : State) (n : ℕ) (x : Step) → n ≡ words (geometry s) → well_formed s ≡ false → refusal_of s n x ≡ 2
 unfolding refusal_of first_refusal
 refusal_2 s n x h f =
@@ -99,7 +97,7 @@ unfolding well_formed
 reserved_unformed s i e h =
     by_test (reserved_zero s.control.configuration)
     (λ z. absurd (omega (arith, h, zero_each s.control.configuration z i e)))
-    (λ z. rw (z, and-false (zero_from (places_used s.control.activity) s.buffer), and-false (unused_zero s), and-false (activity_formed (geometry s) s.control.activity)))
+    (λ z. rw (z, and-false (zero_from (places_used s.control.activity) s.buffer), and-false (spare_zero s.unprotected), and-false (activity_formed (geometry s) s.control.activity)))
 
 -- so every step is refused 2 on it, and gives state and array back as they were, and the report is refused 2
 pub reserved_refused : (s : State) (xs : List ℕ) (x : Step) (i : ℕ) → length xs ≡ words (geometry s) → is_reserved i ≡ true → bit s.control.configuration i ≡ 1
@@ -115,7 +113,7 @@ reserved_refused s xs x i n e h =
 pub unsupplied_unformed : (s : State) → runs s.control.activity.running ≡ true → s.control.supply ≡ false → well_formed s ≡ false
 unfolding well_formed runs_supplied
 unsupplied_unformed s r h =
-    rw (r, h, and-false (reserved_zero s.control.configuration), and-false (zero_from (places_used s.control.activity) s.buffer), and-false (unused_zero s), and-false (activity_formed (geometry s) s.control.activity))
+    rw (r, h, and-false (reserved_zero s.control.configuration), and-false (zero_from (places_used s.control.activity) s.buffer), and-false (spare_zero s.unprotected), and-false (activity_formed (geometry s) s.control.activity))
 
 -- so every step is refused 2 on it, a supply step too, and gives state and array back as they were, and the report is refused 2
 pub unsupplied_refused : (s : State) (xs : List ℕ) (x : Step) → length xs ≡ words (geometry s) → runs s.control.activity.running ≡ true → s.control.supply ≡ false

@@ -121,21 +121,20 @@ abbrev pub is_configure : LockCommand → Bool
 is_configure lock.Protect = false
 is_configure lock.Unprotect = false
 is_configure lock.Configure = true
-is_configure lock.LockDown = false
 is_configure lock.Unknown = false
 
 -- the cycle of a word w is 03h after a lock set-up
-abbrev pub configures : Geometry → Setup → ℕ → Bool
-configures g setup.Nothing w = false
-configures g setup.Program w = false
-configures g setup.Erase w = false
-configures g setup.Lock w = is_configure (lock_command_of g (w % 256))
-configures g (setup.BufferCount b) w = false
-configures g (setup.BufferFirst b n) w = false
-configures g (setup.BufferWords l n due) w = false
+abbrev pub configures : Setup → ℕ → Bool
+configures setup.Nothing w = false
+configures setup.Program w = false
+configures setup.Erase w = false
+configures setup.Lock w = is_configure (lock_command_of (w % 256))
+configures (setup.BufferCount b) w = false
+configures (setup.BufferFirst b n) w = false
+configures (setup.BufferWords l n due) w = false
 
 module _ (g : Geometry) (v : View) (p : Place) (w : ℕ) where
-  register_stays : (c : Setup) → configures g c w ≡ false
+  register_stays : (c : Setup) → configures c w ≡ false
       → (cycle g v c p w).control.configuration ≡ v.control.configuration
   unfolding ended settle
   register_stays c h =
@@ -144,9 +143,8 @@ module _ (g : Geometry) (v : View) (p : Place) (w : ℕ) where
       (record {
         raises = λ f. refl;
         starts = λ r t. refl;
-        relocks = λ b. refl;
-        downs = λ i. refl;
-        stores = λ i l n. absurd (false≢true (sym h ∙ ap (λ (x : Setup). configures g x w) i ∙ ap is_configure l));
+        protects = λ b. refl;
+        stores = λ i l n. absurd (false≢true (sym h ∙ ap (λ (x : Setup). configures x w) i ∙ ap is_configure l));
         loads = λ x. refl;
       })
 
@@ -157,16 +155,15 @@ module _ (g : Geometry) (v : View) (p : Place) (w : ℕ) where
   lock_register lock.Protect = refl
   lock_register lock.Unprotect = refl
   lock_register lock.Configure = refl
-  lock_register lock.LockDown = refl
   lock_register lock.Unknown = refl
 
 -- only 03h after a lock set-up writes the register: what it stores is the address modulo 65,536 without its reserved bits
-pub cycle_register : (g : Geometry) (v : View) (c : Setup) (p : Place) (w : ℕ) → (cycle g v c p w).control.configuration ≡ cond (configures g c w) (without_reserved (p.address % 65536)) v.control.configuration
+pub cycle_register : (g : Geometry) (v : View) (c : Setup) (p : Place) (w : ℕ) → (cycle g v c p w).control.configuration ≡ cond (configures c w) (without_reserved (p.address % 65536)) v.control.configuration
 unfolding cycle
 cycle_register g v setup.Nothing p w = register_stays g v p w setup.Nothing refl
 cycle_register g v setup.Program p w = register_stays g v p w setup.Program refl
 cycle_register g v setup.Erase p w = register_stays g v p w setup.Erase refl
-cycle_register g v setup.Lock p w = lock_register g v p w (lock_command_of g (w % 256))
+cycle_register g v setup.Lock p w = lock_register g v p w (lock_command_of (w % 256))
 cycle_register g v (setup.BufferCount b) p w = register_stays g v p w (setup.BufferCount b) refl
 cycle_register g v (setup.BufferFirst b n) p w = register_stays g v p w (setup.BufferFirst b n) refl
 cycle_register g v (setup.BufferWords l n due) p w = register_stays g v p w (setup.BufferWords l n due) refl
@@ -174,5 +171,5 @@ cycle_register g v (setup.BufferWords l n due) p w = register_stays g v p w (set
 -- so the reserved bits stay 0
 pub cycle_zero : (g : Geometry) (v : View) (c : Setup) (p : Place) (w : ℕ) → reserved_zero v.control.configuration ≡ true → reserved_zero (cycle g v c p w).control.configuration ≡ true
 cycle_zero g v c p w h =
-    ap reserved_zero (cycle_register g v c p w) ∙ of_cond (λ (x : ℕ). reserved_zero x ≡ true) (configures g c w) _ _
+    ap reserved_zero (cycle_register g v c p w) ∙ of_cond (λ (x : ℕ). reserved_zero x ≡ true) (configures c w) _ _
     (masked_zero (p.address % 65536) (omega arith)) h

@@ -16,7 +16,7 @@ use Rattle.semantics.specs.declared.SuspendedProgram.{SuspendedProgram}
 use Rattle.semantics.specs.declared.SuspendedProgram.TheVariants as suspended-program
 use Rattle.semantics.specs.declared.SuspendedErase.{SuspendedErase}
 use Rattle.semantics.specs.declared.SuspendedErase.TheVariants as suspended-erase
-use Rattle.semantics.specs.State.{power_up, with_control, with_locks, with_buffer, with_flags, with_supply, set_configuration, flags_of}
+use Rattle.semantics.specs.State.{power_up, with_control, with_protection, with_buffer, with_flags, with_supply, set_configuration, flags_of}
 use Rattle.semantics.specs.Writing.{written}
 use Rattle.semantics.specs.Steps.{step_of}
 use Rattle.semantics.specs.Cases.{◌⟶◌, Exchange, words, Case, plays, starts, reports, counted, unreported, write, cycles, shows, works, supply, reset, unprotect, protect, program, erase, prepared, bench}
@@ -66,7 +66,7 @@ erase_waits w = busy setup.Nothing running.Idle suspended-program.Nothing (suspe
 
 -- a state of any part, taken for one of the bench bottom part, whose array a case has room for
 abbrev on_bench : State → State
-on_bench s = record { part = BenchBottom; banks = s.banks; locks = s.locks; control = s.control; buffer = s.buffer }
+on_bench s = record { part = BenchBottom; banks = s.banks; unprotected = s.unprotected; control = s.control; buffer = s.buffer }
 
 -- power-up of any part, and then 60h and 03h at an address
 abbrev configures : Part → ℕ → State
@@ -81,7 +81,7 @@ back s = (step_of s (replicate 16384 0) Reset).state
 
 -- power-up with register 4000h and every bank in one mode
 abbrev in_mode : Mode → State
-in_mode m = record { part = BenchBottom; banks = replicate 16 (record { mode = m }); locks = (registered 0x4000).locks; control = (registered 0x4000).control; buffer = (registered 0x4000).buffer }
+in_mode m = record { part = BenchBottom; banks = replicate 16 (record { mode = m }); unprotected = (registered 0x4000).unprotected; control = (registered 0x4000).control; buffer = (registered 0x4000).buffer }
 
 -- all four flags: an erase refused for supply, then a program refused for protection
 abbrev all_flags : List Exchange
@@ -170,7 +170,7 @@ register_cases =
     -- supply on, each flag, a block unprotected, each mode of a bank; and on the full parts, by the report
     ∷ bad (with_supply (registered 0x4000) true) ∷ bad (with_flags (registered 0x4000) (flags_of true false false false)) ∷ bad (with_flags (registered 0x4000) (flags_of false true false false))
     ∷ bad (with_flags (registered 0x4000) (flags_of false false true false)) ∷ bad (with_flags (registered 0x4000) (flags_of false false false true))
-    ∷ bad (with_locks (registered 0x4000) (0x11 ∷ replicate 4 0)) ∷ bad (in_mode Status) ∷ bad (in_mode Signature) ∷ bad (in_mode Query)
+    ∷ bad (with_protection (registered 0x4000) (0x11 ∷ replicate 4 0)) ∷ bad (in_mode Status) ∷ bad (in_mode Signature) ∷ bad (in_mode Query)
     ∷ unreported (configured (power_up FullBottom) 0x4000) 2 ∷ unreported (configured (power_up FullTop) 0x4000) 2
     -- a state that is refused comes back as it was: refused 1, it is refused 2 still, or has its register still; refused 2, it has the register that it had, which shows where its bit 14 is taken off
     ∷ unreported (back1 (registered 0x4000)) 2 ∷ starts (back1 (registered 0x8041)) (bench 0) (has 0x8041)

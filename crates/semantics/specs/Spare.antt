@@ -1,14 +1,12 @@
 -- "Spare storage, if any, is zero": no step leaves a word in a place of the buffer that is not in use.
 -- Assumes nothing.
-use Rattle.std.specs.Prelude.{◌≡◌, List, [], ◌∷◌, Bool, ◌||◌, ℕ, zero, suc, ◌+◌, ◌-◌, ◌<◌, ◌%◌, ltb, eqb, length, set, replicate}
+use Rattle.std.specs.Prelude.{◌≡◌, List, Bool, ◌||◌, ℕ, ◌+◌, ◌-◌, ◌%◌, ltb, eqb, length, set}
 use Rattle.std.proofs.Math.Path.{refl, ap, subst}
 use Rattle.std.proofs.Common.{sym, ◌∙◌, subst₂, true≢false, arith, length-set}
 use Rattle.std.proofs.Math.Bool.{true, false, cond}
 use Rattle.std.proofs.lemmas.Bool.{false≢true}
 use Rattle.geometry.specs.declared.Geometry.{Geometry}
 use Rattle.geometry.specs.Blocks.{size_of}
-use Rattle.semantics.specs.declared.Mode.TheVariants.{Array}
-use Rattle.semantics.specs.declared.Bank.{Bank}
 use Rattle.semantics.specs.declared.Setup.{Setup}
 use Rattle.semantics.specs.declared.Setup.TheVariants as setup
 use Rattle.semantics.specs.declared.Running.{Running}
@@ -31,7 +29,7 @@ use Rattle.semantics.specs.View.{view_at, with_activity}
 use Rattle.semantics.specs.Supply.{ended}
 use Rattle.semantics.specs.Cycles.{nothing_pending, nothing_running, nothing_suspended, of_first, of_program, of_erase, of_lock}
 use Rattle.semantics.specs.Supplied.{held_left}
-use Rattle.semantics.specs.WellFormed.{array_from, pending, setup_places, running_places, program_places, places_used, zero_from}
+use Rattle.semantics.specs.WellFormed.{pending, setup_places, running_places, program_places, places_used, zero_from}
 use Rattle.semantics.specs.Writing.{command_of, suspended, resumed, first_cycle, lock_command_of, settle, loads, count_right, first_right, later_right, confirm_right, confirm_cycle, words_cycle, cycle, kept_if, first_loaded, words_loaded, held_after, loaded, written_at}
 use Rattle.semantics.specs.Working.{running_after, buffer_after}
 use Rattle.semantics.specs.Engine.{held?, Ready}
@@ -219,8 +217,8 @@ module _ (g : Geometry) (s : State) (p : Place) (w : ℕ) where
   spared_second setup.Erase e z y h =
       of_erase Plain (settle (seen setup.Erase running.Idle program.Nothing e)) p (w % 256) (λ f. h) h
   spared_second setup.Lock e z y h =
-      of_lock Plain (settle (seen setup.Lock running.Idle program.Nothing e)) p (lock_command_of g (w % 256)) (λ f. h)
-      (λ x. h) (λ n. h)
+      of_lock Plain (settle (seen setup.Lock running.Idle program.Nothing e)) p (lock_command_of (w % 256)) (λ f. h)
+      (λ b. h) (λ n. h)
   spared_second (setup.BufferCount b) e z y h =
       spared_loads (view_at s p) (setup.BufferCount b) e (setup.BufferFirst b (w + 1)) (λ o. s.buffer)
       (count_right b p w) (λ i. h) (λ i. h)
@@ -246,24 +244,7 @@ module _ (g : Geometry) (s : State) (p : Place) (w : ℕ) where
   spared_cycle c r q e m y h =
       by_test (pending c) (λ z. alone c z r q e y h)
       (λ z. subst (λ (x : Setup). Spared (activity x r q e) s.buffer → After x r q e) (sym (nothing_pending c z))
-      (spared_first r q e m (command_of g (w % 256))) h)
-
--- ---- the banks that a part does not have
-
--- one that it has is given a mode
-pub array_set : (n i : ℕ) (x : Bank) (bs : List Bank) → i < n → array_from n bs ≡ true → array_from n (set bs i x) ≡ true
-unfolding array_from
-array_set n i x [] h k = k
-array_set zero i x (b ∷ bs) h k = absurd (omega arith)
-array_set (suc n) zero x (b ∷ bs) h k = k
-array_set (suc n) (suc i) x (b ∷ bs) h k = array_set n i x bs (omega arith) k
-
--- all are in array mode at power-up
-pub array_replicate : (n m : ℕ) → array_from n (replicate m (record { mode = Array })) ≡ true
-unfolding array_from
-array_replicate n zero = refl
-array_replicate zero (suc m) = array_replicate zero m
-array_replicate (suc n) (suc m) = array_replicate n m
+      (spared_first r q e m (command_of (w % 256))) h)
 
 -- ---- the steps
 

@@ -1,15 +1,13 @@
--- DEMAND 3 whole (demand_3_whole): the words, and that every entry of the journal was accepted with supply on and its block programmable, which is said of
--- the steps before its acceptance.
+-- DEMAND 3 whole (demand_3_whole): the words, and that every entry of the journal was accepted with supply on and its block unprotected, which is said of the
+-- steps before its acceptance.
 -- Assumes nothing.
-use Rattle.std.specs.Prelude.{◌≡◌, refl, List, [], ◌∷◌, Bool, true, false, ◌⊎◌, ℕ, length}
+use Rattle.std.specs.Prelude.{◌≡◌, List, [], ◌∷◌, true, false, ◌⊎◌, ℕ, length}
 use Rattle.std.proofs.Common.{sym, ap, ◌∙◌, subst, inl, inr}
 use Rattle.std.proofs.lemmas.Bool.{false≢true}
 use Rattle.geometry.specs.declared.Part.{Part}
 use Rattle.geometry.specs.declared.Geometry.{Geometry}
 use Rattle.geometry.specs.Blocks.{Sound, geometry_of, words, block_of}
 use Rattle.geometry.specs.Laws as laws
-use Rattle.protection.specs.declared.Lock.{Lock}
-use Rattle.protection.specs.Words.{is_programmable}
 use Rattle.semantics.specs.declared.Step.{Step}
 use Rattle.semantics.specs.Numbers.{within_true}
 use Rattle.semantics.specs.Steps.{after_all, fresh}
@@ -19,8 +17,7 @@ use Rattle.semantics.specs.Demand.{NoSupply, SupplyOn, Covers, Holds, Undisturbe
 use Rattle.semantics.specs.Engine.{Lies, buffer_in_lem, Lying}
 use Rattle.semantics.specs.Theorem.{demand_3, reached, reached_length}
 use Rattle.semantics.specs.Accepted.{Accepted, accepted}
-use Rattle.semantics.specs.Since.{supply_since, programmable_since, unprotected_since}
-use Rattle.semantics.specs.Tests.{and_true_l}
+use Rattle.semantics.specs.Since.{supply_since, unprotected_since}
 
 module _ (g : Geometry) where
   -- an operation that lies in the array covers words of its block alone
@@ -36,7 +33,6 @@ module _ (g : Geometry) where
 
 -- every entry of the journal stands so
 pub every_entry_stands : (g : Geometry) (k : Operation) (n : ℕ) (l : List Step) → Holds g k n (journal_of g l) → Stands g k n l
-unfolding is_programmable
 every_entry_stands g k n l h = go (accepted g k n l beginning h)
   where
     last : (b : ℕ) (i : List Step) → LastUnprotected g b beginning i ⊎ ((false ≡ true) × Undisturbed g b beginning i) → LastUnprotected g b beginning i
@@ -46,9 +42,6 @@ every_entry_stands g k n l h = go (accepted g k n l beginning h)
     on : (i : List Step) → SupplyOn i ⊎ ((false ≡ true) × NoSupply i) → SupplyOn i
     on i (inl x) = x
     on i (inr x) = absurd (false≢true x.0)
-
-    unprotected : (x : Lock) (pin : Bool) → is_programmable x pin ≡ true → x.unprotected ≡ true
-    unprotected x pin e = and_true_l x.unprotected _ e
 
     go : ⊥ ⊎ Accepted g k n beginning l → Stands g k n l
     go (inl x) = absurd x
@@ -62,12 +55,10 @@ every_entry_stands g k n l h = go (accepted g k n l beginning h)
       accepts = r.accepts;
       place = r.place;
       supply_on = on r.before (supply_since g r.before beginning r.supply_on);
-      left_programmable = programmable_since g (block_in g k) r.before r.programmable;
-      last_unprotected = λ z. last (block_in g k) r.before
-          (unprotected_since g z (block_in g k) r.before beginning refl (unprotected _ _ r.programmable));
+      last_unprotected = last (block_in g k) r.before (unprotected_since g (block_in g k) r.before beginning r.unprotected);
     }
 
--- DEMAND 3, as one claim: for every part p, every list l of the six steps, refused ones included, and every array xs of the part's length
+-- DEMAND 3, as one claim: for every part p, every list l of the five steps, refused ones included, and every array xs of the part's length
 pub demand_3_whole : (p : Part) (l : List Step) (xs : List ℕ) → length xs ≡ words (geometry_of p) → Demand3 p l xs (after_all (fresh p xs) l).array
 demand_3_whole p l xs h = record {
   length_same = reached_length p l xs h ∙ sym h;

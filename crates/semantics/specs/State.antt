@@ -28,33 +28,25 @@ geometry s = geometry_of s.part
 -- ---- one field changed
 
 abbrev pub set_activity : Control → Activity → Control
-set_activity c x =
-    record { activity = x; flags = c.flags; configuration = c.configuration; supply = c.supply; pin = c.pin }
+set_activity c x = record { activity = x; flags = c.flags; configuration = c.configuration; supply = c.supply }
 
 abbrev pub set_flags : Control → Flags → Control
-set_flags c x =
-    record { activity = c.activity; flags = x; configuration = c.configuration; supply = c.supply; pin = c.pin }
+set_flags c x = record { activity = c.activity; flags = x; configuration = c.configuration; supply = c.supply }
 
 abbrev pub set_configuration : Control → ℕ → Control
-set_configuration c x =
-    record { activity = c.activity; flags = c.flags; configuration = x; supply = c.supply; pin = c.pin }
+set_configuration c x = record { activity = c.activity; flags = c.flags; configuration = x; supply = c.supply }
 
 abbrev pub set_supply : Control → Bool → Control
-set_supply c x =
-    record { activity = c.activity; flags = c.flags; configuration = c.configuration; supply = x; pin = c.pin }
-
-abbrev pub set_pin : Control → Bool → Control
-set_pin c x =
-    record { activity = c.activity; flags = c.flags; configuration = c.configuration; supply = c.supply; pin = x }
+set_supply c x = record { activity = c.activity; flags = c.flags; configuration = c.configuration; supply = x }
 
 abbrev pub with_control : State → Control → State
-with_control s x = record { part = s.part; banks = s.banks; locks = s.locks; control = x; buffer = s.buffer }
+with_control s x = record { part = s.part; banks = s.banks; unprotected = s.unprotected; control = x; buffer = s.buffer }
 
-abbrev pub with_locks : State → List ℕ → State
-with_locks s x = record { part = s.part; banks = s.banks; locks = x; control = s.control; buffer = s.buffer }
+abbrev pub with_protection : State → List ℕ → State
+with_protection s x = record { part = s.part; banks = s.banks; unprotected = x; control = s.control; buffer = s.buffer }
 
 abbrev pub with_buffer : State → List ℕ → State
-with_buffer s x = record { part = s.part; banks = s.banks; locks = s.locks; control = s.control; buffer = x }
+with_buffer s x = record { part = s.part; banks = s.banks; unprotected = s.unprotected; control = s.control; buffer = x }
 
 abbrev pub with_activity : State → Activity → State
 with_activity s x = with_control s (set_activity s.control x)
@@ -64,9 +56,6 @@ with_flags s x = with_control s (set_flags s.control x)
 
 abbrev pub with_supply : State → Bool → State
 with_supply s x = with_control s (set_supply s.control x)
-
-abbrev pub with_pin : State → Bool → State
-with_pin s x = with_control s (set_pin s.control x)
 
 -- the read mode of bank k
 abbrev pub mode_in : List Bank → ℕ → Mode
@@ -124,12 +113,12 @@ joined f g = flags_of (f.sr5 || g.sr5) (f.sr4 || g.sr4) (f.sr3 || g.sr3) (f.sr1 
 -- ---- power-up
 
 -- "supply off, every bank in array mode, nothing pending, running or suspended, flags clear, all blocks protected"; of the configuration register document 02, item 4: "The default becomes BFCFh"; and
--- the buffer empty. Document 02, item 8: "The pin starts low"
+-- the buffer empty
 unfoldable pub power_up : Part → State
 power_up p = record {
   part = p;
   banks = replicate 16 (record { mode = Array });
-  locks = all_protected;
-  control = record { activity = activity setup.Nothing running.Idle program.Nothing erase.Nothing; flags = no_flags; configuration = 0xBFCF; supply = false; pin = false };
+  unprotected = all_protected;
+  control = record { activity = activity setup.Nothing running.Idle program.Nothing erase.Nothing; flags = no_flags; configuration = 0xBFCF; supply = false };
   buffer = empty_buffer;
 }

@@ -1,18 +1,16 @@
--- The six steps whole, with their refusals, and a list of them played: document 01, "The five steps" and "Refusal card", and document 02, item 5, for the supply step, and item 8, for the
--- pin step.
+-- The five steps whole, with their refusals, and a list of them played: document 01, "The five steps" and "Refusal card", and document 02, item 5, for the supply step.
 -- Assumes nothing.
 use Rattle.std.specs.Prelude.{ℕ, Bool, cond, List, [], ◌∷◌, eqb, length}
 use Rattle.geometry.specs.declared.Part.{Part}
-use Rattle.protection.specs.declared.Report.{Report}
 use Rattle.protection.specs.Words.{report_of}
 use Rattle.semantics.specs.declared.State.{State}
 use Rattle.semantics.specs.declared.Step.{Step}
-use Rattle.semantics.specs.declared.Step.TheVariants.{Read, Write, Work, Supply, Reset, Pin}
+use Rattle.semantics.specs.declared.Step.TheVariants.{Read, Write, Work, Supply, Reset}
 use Rattle.semantics.specs.declared.Answer.{Answer}
 use Rattle.semantics.specs.declared.Answer.TheVariants.{Word, Units, Done, Refused}
 use Rattle.semantics.specs.declared.Next.{Next}
 use Rattle.semantics.specs.declared.Reported.{Reported}
-use Rattle.semantics.specs.State.{geometry, with_control, with_buffer, with_supply, with_pin, power_up}
+use Rattle.semantics.specs.State.{geometry, with_control, with_buffer, with_supply, power_up}
 use Rattle.semantics.specs.Supply.{switched}
 use Rattle.semantics.specs.WellFormed.{well_formed}
 use Rattle.semantics.specs.Card.{given, card}
@@ -34,18 +32,13 @@ unfoldable pub switched_to : State → Bool → State
 switched_to s on =
     with_buffer (with_control s (switched s.control on)) (buffer_after s.control.activity.running (switched s.control on).activity.running s.buffer)
 
--- "Reset gives the power-up state but keeps the supply"; document 02, item 8: "The pin starts low and reset keeps it"
-unfoldable pub reset_of : State → State
-reset_of s = with_pin (with_supply (power_up s.part) s.control.supply) s.control.pin
-
--- the state after, and the answer of, a step that is accepted, that is, not refused
+-- the state after, and the answer of, a step that is accepted, that is, not refused. "Reset gives the power-up state but keeps the supply"
 unfoldable pub accepted : State → List ℕ → Step → Next
 accepted s xs (Read address) = next s (Word (read_word s xs address))
 accepted s xs (Write address w) = next (written s address w) Done
 accepted s xs (Work n) = next (worked s n) (Units (units_done (geometry s) s.control.activity.running n))
 accepted s xs (Supply on) = next (switched_to s on) Done
-accepted s xs Reset = next (reset_of s) Done
-accepted s xs (Pin high) = next (with_pin s high) Done
+accepted s xs Reset = next (with_supply (power_up s.part) s.control.supply) Done
 
 -- the array after a step that is not refused: only work touches it
 unfoldable pub accepted_array : State → List ℕ → Step → List ℕ
@@ -54,7 +47,6 @@ accepted_array s xs (Write address w) = xs
 accepted_array s xs (Work n) = worked_array s n xs
 accepted_array s xs (Supply on) = xs
 accepted_array s xs Reset = xs
-accepted_array s xs (Pin high) = xs
 
 -- "A refusal gives its number beside the answer 0, gives back the state it got and leaves all lent memory."
 unfoldable pub step_of : State → List ℕ → Step → Next
@@ -76,17 +68,13 @@ value_of (Units n) = n
 value_of Done = 0
 value_of (Refused n) = 0
 
--- ---- the report of blocks that can be programmed (document 01: open report)
+-- ---- the report of unprotected blocks (document 01: open report)
 
--- "how many blocks are open and the lowest open one, 259 if none"; document 02, item 8: "The open report counts
--- programmable blocks, 71 if none"; refused 2 where the state is not well formed, with 0 beside the number
-abbrev pub reported : State → Report
-reported s = report_of (geometry s) s.locks s.control.pin
-
+-- "how many blocks are open and the lowest open one, 259 if none"; refused 2 where the state is not well formed, with 0 beside the number
 unfoldable pub reported_of : State → Reported
 reported_of s =
     cond (well_formed s)
-    (record { refusal = 0; count = (reported s).count; lowest = (reported s).lowest })
+    (record { refusal = 0; count = (report_of s.unprotected).count; lowest = (report_of s.unprotected).lowest })
     (record { refusal = 2; count = 0; lowest = 0 })
 
 -- ---- a list of steps

@@ -99,7 +99,7 @@ cycle_supplied g v c p w h =
       sets_up = λ i x z. h;
       stays = h;
     })
-    (record { raises = λ f. h; starts = λ r t. on_supplied (started v r).control t; relocks = λ b. h; downs = λ i. h; stores = λ i l n. h; loads = λ x. h })
+    (record { raises = λ f. h; starts = λ r t. on_supplied (started v r).control t; protects = λ b. h; stores = λ i l n. h; loads = λ x. h })
   where
     suspended_supplied : (r : Running) → v.control.activity.running ≡ r
         → runs_supplied (set_activity v.control (suspended v.control.activity r)) ≡ true

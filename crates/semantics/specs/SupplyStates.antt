@@ -3,7 +3,7 @@
 -- Assumes nothing.
 use Rattle.std.specs.Prelude.{ℕ, Bool, true, false, cond, List, [], ◌∷◌, ◌++◌, map, ◌≡◌, refl, replicate}
 use Rattle.geometry.specs.Blocks.{mirror, block_from, block_of, bank_of, size_of, start_from, start_of}
-use Rattle.protection.specs.Words.{bit, bit_at, is_set, with_set, is_held, is_programmable, relocked, lock_of, with_down, with_lock, spare_zero, all_protected}
+use Rattle.protection.specs.Words.{bit, bit_at, is_unprotected, with_unprotected, spare_zero, all_protected}
 use Rattle.geometry.specs.declared.Part.{Part}
 use Rattle.geometry.specs.declared.Part.TheVariants.{FullBottom, FullTop, BenchBottom, BenchTop}
 use Rattle.semantics.specs.declared.Setup.{Setup}
@@ -21,13 +21,13 @@ use Rattle.semantics.specs.declared.Bank.{Bank}
 use Rattle.semantics.specs.declared.Step.{Step}
 use Rattle.semantics.specs.declared.Step.TheVariants.{Write, Supply, Reset}
 use Rattle.semantics.specs.declared.State.{State}
-use Rattle.semantics.specs.State.{with_supply, with_pin, activity, flags_of, no_flags, empty_buffer, power_up}
+use Rattle.semantics.specs.State.{with_supply, activity, flags_of, no_flags, empty_buffer, power_up}
 use Rattle.semantics.specs.Register.{reserved_zero}
-use Rattle.semantics.specs.WellFormed.{running_alone, program_alone, erase_alone, erase_fits, words_fit, buffer_fits, setup_fits, running_fits, program_fits, suspended_erase_fits, all_fit, running_apart, program_apart, apart, activity_formed, setup_places, running_places, program_places, places_used, zero_from, array_from, unused_in, runs_supplied, well_formed}
+use Rattle.semantics.specs.WellFormed.{running_alone, program_alone, erase_alone, erase_fits, words_fit, buffer_fits, setup_fits, running_fits, program_fits, suspended_erase_fits, all_fit, running_apart, program_apart, apart, activity_formed, setup_places, running_places, program_places, places_used, zero_from, runs_supplied, well_formed}
 use Rattle.semantics.specs.Supply.{end_flags, ended, ended_if_unsupplied, switched}
 use Rattle.semantics.specs.Writing.{command_of, resume, accepts, set_up, clear_status, first_cycle, cycle, kept_if, held_after, loaded, written_at, written}
 use Rattle.semantics.specs.Working.{buffer_after}
-use Rattle.semantics.specs.Steps.{switched_to, reset_of, accepted}
+use Rattle.semantics.specs.Steps.{switched_to, accepted}
 
 abbrev none : SuspendedErase
 none = suspended-erase.Nothing
@@ -57,8 +57,8 @@ abbrev stands : Part → Bool → Activity → Flags → Bool → List ℕ → S
 stands p o a f t bs = record {
   part = p;
   banks = turned o ++ turned o ++ turned o ++ turned o;
-  locks = cond o (replicate 4 0xFFFFFFFFFFFFFFFF ++ 7 ∷ []) (replicate 5 0);
-  control = record { activity = a; flags = f; configuration = 0x1204; supply = t; pin = o };
+  unprotected = cond o (replicate 4 0xFFFFFFFFFFFFFFFF ++ 7 ∷ []) (replicate 5 0);
+  control = record { activity = a; flags = f; configuration = 0x1204; supply = t };
   buffer = bs;
 }
 
@@ -80,7 +80,7 @@ abbrev cut : Part → Bool → Running → SuspendedErase → Flags → Flags �
 cut p o r e f h bs =
     leaves (stands p o (activity setup.Nothing r suspended-program.Nothing e) f true bs) (Supply false) (stands p o (activity setup.Nothing running.Idle suspended-program.Nothing e) h false empty)
     ∷ leaves (stands p o (activity setup.Nothing r suspended-program.Nothing e) f true bs) (Supply true) (stands p o (activity setup.Nothing r suspended-program.Nothing e) f true bs)
-    ∷ leaves (stands p o (activity setup.Nothing r suspended-program.Nothing e) f true bs) Reset (with_pin (with_supply (power_up p) true) o)
+    ∷ leaves (stands p o (activity setup.Nothing r suspended-program.Nothing e) f true bs) Reset (with_supply (power_up p) true)
     ∷ []
 
 -- from a state that stands without supply and one that stands with it, supply off and supply on are noted, and no more
@@ -88,7 +88,7 @@ abbrev noted : Part → Bool → Activity → Flags → List ℕ → List Move
 noted p o a f bs =
     leaves (stands p o a f true bs) (Supply false) (stands p o a f false bs) ∷ leaves (stands p o a f false bs) (Supply false) (stands p o a f false bs)
     ∷ leaves (stands p o a f false bs) (Supply true) (stands p o a f true bs) ∷ leaves (stands p o a f true bs) (Supply true) (stands p o a f true bs)
-    ∷ leaves (stands p o a f false bs) Reset (with_pin (with_supply (power_up p) false) o)
+    ∷ leaves (stands p o a f false bs) Reset (with_supply (power_up p) false)
     ∷ []
 
 -- without supply a write leaves b of a, with the flags h and the buffer cs: D0h in three places, with several upper bytes
@@ -165,7 +165,7 @@ moves =
     ++ ends BenchBottom true (waiting (suspended-program.Buffer 0x80 32 0) none) (waiting no_program none) no_flags (program_ended no_flags) (replicate 32 1) empty
 
 pub moves_hold : map left moves ≡ map told moves
-unfolding mirror block_from block_of bank_of bit bit_at is_set with_set is_held is_programmable relocked lock_of with_down with_lock all_protected empty_buffer power_up end_flags ended ended_if_unsupplied switched command_of resume accepts set_up clear_status first_cycle cycle kept_if held_after loaded written_at written buffer_after switched_to reset_of accepted
+unfolding mirror block_from block_of bank_of bit bit_at is_unprotected with_unprotected all_protected empty_buffer power_up end_flags ended ended_if_unsupplied switched command_of resume accepts set_up clear_status first_cycle cycle kept_if held_after loaded written_at written buffer_after switched_to accepted
 moves_hold = refl
 
 -- ---- states that are well formed, on every part: what stands where nothing runs, with supply or without it (t); what runs, with it
@@ -203,5 +203,5 @@ abbrev pub unsupplied : List State
 unsupplied = of_each (all_running false)
 
 pub formed_hold : (map well_formed formed ≡ map (λ s. true) formed) × (map well_formed unsupplied ≡ map (λ s. false) unsupplied)
-unfolding mirror block_from block_of size_of start_from start_of bit spare_zero running_alone program_alone erase_alone erase_fits words_fit buffer_fits setup_fits running_fits program_fits suspended_erase_fits all_fit running_apart program_apart apart activity_formed setup_places running_places program_places places_used zero_from array_from unused_in reserved_zero runs_supplied well_formed
+unfolding mirror block_from block_of size_of start_from start_of bit spare_zero running_alone program_alone erase_alone erase_fits words_fit buffer_fits setup_fits running_fits program_fits suspended_erase_fits all_fit running_apart program_apart apart activity_formed setup_places running_places program_places places_used zero_from reserved_zero runs_supplied well_formed
 formed_hold = (refl, refl)

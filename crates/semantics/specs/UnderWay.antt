@@ -9,7 +9,7 @@ use Rattle.std.specs.Int.Bits.{bit_and}
 use borrow.Author.Tests.{ltb-true, ltb-false, eqb-true, eqb-false, eq-eqb, ne_eqb}
 use Rattle.geometry.specs.declared.Geometry.{Geometry}
 use Rattle.geometry.specs.Blocks.{size_of}
-use Rattle.protection.specs.Words.{lock_of}
+use Rattle.protection.specs.Words.{is_unprotected}
 use Rattle.semantics.specs.declared.Setup.{Setup}
 use Rattle.semantics.specs.declared.Setup.TheVariants as setup
 use Rattle.semantics.specs.declared.Running.{Running}
@@ -22,7 +22,7 @@ use Rattle.semantics.specs.declared.Activity.{Activity}
 use Rattle.semantics.specs.declared.State.{State}
 use Rattle.semantics.specs.Branches.{by_cond}
 use Rattle.semantics.specs.Numbers.{within, within_in, within_out, within_true}
-use Rattle.semantics.specs.State.{geometry, runs, program_suspended, erase_suspended, empty_buffer}
+use Rattle.semantics.specs.State.{runs, program_suspended, erase_suspended, empty_buffer}
 use Rattle.semantics.specs.Buffer.{words_in, words_length, words_word}
 use Rattle.semantics.specs.WellFormed.{erasing}
 use Rattle.semantics.specs.Writing.{kept_if}
@@ -43,12 +43,7 @@ setup_of bs (setup.BufferFirst b n) = first_setup b n
 setup_of bs (setup.BufferWords l n due) = words_setup l (words_in bs n) due
 
 abbrev pub conditions : State → Conditions
-conditions s = record {
-  supply = s.control.supply;
-  pin = s.control.pin;
-  lock = λ b. lock_of (geometry s) s.locks b;
-  setup = setup_of s.buffer s.control.activity.setup;
-}
+conditions s = record { supply = s.control.supply; unprotected = λ b. is_unprotected s.unprotected b; setup = setup_of s.buffer s.control.activity.setup }
 
 -- what is under way as a stack
 abbrev pub add_erase : SuspendedErase → List (Live Operation)

@@ -4,8 +4,7 @@
 use Rattle.std.specs.Prelude.{ℕ, Bool, set}
 use Rattle.geometry.specs.declared.Geometry.{Geometry}
 use Rattle.geometry.specs.Blocks.{location, block_of, bank_of}
-use Rattle.protection.specs.declared.Lock.{Lock}
-use Rattle.protection.specs.Words.{lock_of, with_lock}
+use Rattle.protection.specs.Words.{is_unprotected, with_unprotected}
 use Rattle.semantics.specs.declared.Mode.{Mode}
 use Rattle.semantics.specs.declared.Activity.{Activity}
 use Rattle.semantics.specs.declared.Flags.{Flags}
@@ -13,22 +12,22 @@ use Rattle.semantics.specs.declared.Control.{Control}
 use Rattle.semantics.specs.declared.State.{State}
 use Rattle.semantics.specs.declared.Place.{Place}
 use Rattle.semantics.specs.declared.View.{View}
-use Rattle.semantics.specs.State.{geometry, mode_of, joined, set_activity, set_flags, set_configuration, set_supply}
+use Rattle.semantics.specs.State.{mode_of, joined, set_activity, set_flags, set_configuration, set_supply}
 
 -- an address's location, and the bank and the block that this lies in
 abbrev pub place_of : Geometry → ℕ → Place
 place_of g a = record { address = a; location = location g a; bank = bank_of g (location g a); block = block_of g (location g a) }
 
--- of the modes that of the addressed bank, of the locks that of the addressed block, and all else but the part and the buffer
+-- of the modes that of the addressed bank, of the protection that of the addressed block, and all else but the part and the buffer
 abbrev pub view_at : State → Place → View
-view_at s p = record { mode = mode_of s p.bank; lock = lock_of (geometry s) s.locks p.block; control = s.control }
+view_at s p = record { mode = mode_of s p.bank; unprotected = is_unprotected s.unprotected p.block; control = s.control }
 
 -- the state with that changed
 abbrev pub with_view : State → Place → View → State
 with_view s p v = record {
   part = s.part;
   banks = set s.banks p.bank (record { mode = v.mode });
-  locks = with_lock (geometry s) s.locks p.block v.lock;
+  unprotected = with_unprotected s.unprotected p.block v.unprotected;
   control = v.control;
   buffer = s.buffer;
 }
@@ -36,13 +35,13 @@ with_view s p v = record {
 -- ---- one field changed
 
 abbrev pub with_control : View → Control → View
-with_control v x = record { mode = v.mode; lock = v.lock; control = x }
+with_control v x = record { mode = v.mode; unprotected = v.unprotected; control = x }
 
 abbrev pub with_mode : View → Mode → View
-with_mode v x = record { mode = x; lock = v.lock; control = v.control }
+with_mode v x = record { mode = x; unprotected = v.unprotected; control = v.control }
 
-abbrev pub set_lock : View → Lock → View
-set_lock v x = record { mode = v.mode; lock = x; control = v.control }
+abbrev pub with_protection : View → Bool → View
+with_protection v x = record { mode = v.mode; unprotected = x; control = v.control }
 
 abbrev pub with_activity : View → Activity → View
 with_activity v x = with_control v (set_activity v.control x)

@@ -1,14 +1,10 @@
 -- When a state is well formed (document 01: well made): one test for each part of document 01's sentence, in its order, and what document 02 says:
--- item 1 of a load and of a buffer program, item 4 of the configuration register, item 5 of the supply, item 8 of the part
--- that has no write buffer; no other.
+-- item 1 of a load and of a buffer program, item 4 of the configuration register, item 5 of the supply; no other.
 -- Assumes nothing.
 use Rattle.std.specs.Prelude.{ℕ, zero, suc, ◌+◌, Bool, true, false, not, ◌&&◌, ◌||◌, List, [], ◌∷◌, ltb, leb, eqb}
 use Rattle.geometry.specs.declared.Geometry.{Geometry}
-use Rattle.geometry.specs.Blocks.{words, blocks, banks, block_of, start_of, size_of}
+use Rattle.geometry.specs.Blocks.{words, blocks, block_of, start_of, size_of}
 use Rattle.protection.specs.Words.{spare_zero}
-use Rattle.semantics.specs.declared.Mode.{Mode}
-use Rattle.semantics.specs.declared.Mode.TheVariants.{Array, Status, Signature, Query}
-use Rattle.semantics.specs.declared.Bank.{Bank}
 use Rattle.semantics.specs.declared.Setup.{Setup}
 use Rattle.semantics.specs.declared.Setup.TheVariants as setup
 use Rattle.semantics.specs.declared.Running.{Running}
@@ -68,11 +64,6 @@ program_alone a = implies (program_suspended a.program) (not (pending a.setup))
 unfoldable pub erase_alone : Activity → Bool
 erase_alone a = implies (erase_suspended a.erase) (not (is_erase a.running) && not (is_erase_setup a.setup))
 
--- the part has a write buffer. Document 02, item 8, of the one that has lock-down: "E8h is ignored there .. a load, a
--- buffer program .. is refused 2"
-abbrev pub has_buffer : Geometry → Bool
-has_buffer g = not g.lockdown
-
 -- a block of the part, of which fewer words are done than it has
 unfoldable pub erase_fits : Geometry → ℕ → ℕ → Bool
 erase_fits g b n = ltb b (blocks g) && ltb n (size_of g b)
@@ -83,7 +74,7 @@ stays_in g b l n = leb (l + n) (start_of g b + size_of g b)
 
 -- document 02, item 1: "whose words lie in one block": n words from location l on; and the buffer holds them, "up to 32 words at once"
 unfoldable pub words_fit : Geometry → ℕ → ℕ → Bool
-words_fit g l n = has_buffer g && (ltb l (words g) && (stays_in g (block_of g l) l n && leb n 32))
+words_fit g l n = ltb l (words g) && (stays_in g (block_of g l) l n && leb n 32)
 
 -- "and are more than it has done"
 unfoldable pub buffer_fits : Geometry → ℕ → ℕ → ℕ → Bool
@@ -96,8 +87,8 @@ setup_fits g setup.Nothing = true
 setup_fits g setup.Program = true
 setup_fits g setup.Erase = true
 setup_fits g setup.Lock = true
-setup_fits g (setup.BufferCount b) = has_buffer g && ltb b (blocks g)
-setup_fits g (setup.BufferFirst b n) = has_buffer g && (ltb b (blocks g) && (ltb 0 n && leb n 32))
+setup_fits g (setup.BufferCount b) = ltb b (blocks g)
+setup_fits g (setup.BufferFirst b n) = ltb b (blocks g) && (ltb 0 n && leb n 32)
 setup_fits g (setup.BufferWords l n k) = buffer_fits g l n k
 
 unfoldable pub running_fits : Geometry → Running → Bool
@@ -170,33 +161,14 @@ zero_from n [] = true
 zero_from zero (x ∷ l) = eqb x 0 && zero_from zero l
 zero_from (suc n) (x ∷ l) = zero_from n l
 
-abbrev pub is_array : Mode → Bool
-is_array Array = true
-is_array Status = false
-is_array Signature = false
-is_array Query = false
-
 -- document 02, item 5: "In a well made state something runs only with supply on". What is suspended or pending does not look at it
 unfoldable pub runs_supplied : Control → Bool
 runs_supplied c = implies (runs c.activity.running) c.supply
 
--- the banks from number n on are in array mode, as all are at power-up: of a part with fewer banks the others are spare
-unfoldable pub array_from : ℕ → List Bank → Bool
-array_from n [] = true
-array_from zero (x ∷ l) = is_array x.mode && array_from zero l
-array_from (suc n) (x ∷ l) = array_from n l
-
--- the modes and the protection words have room for more banks and blocks than a part may have
-unfoldable pub unused_in : Geometry → List Bank → List ℕ → Bool
-unused_in g bs ws = spare_zero g ws && array_from (banks g) bs
-
-abbrev pub unused_zero : State → Bool
-unused_zero s = unused_in (geometry s) s.banks s.locks
-
--- and "spare storage, if any, is zero": the modes and the protection words, and of the buffer the places that are not in use. Document 02, item 4, of the reserved bits of the
+-- and "spare storage, if any, is zero": the protection words have more bits than there are blocks, and the buffer more places than are in use. Document 02, item 4, of the reserved bits of the
 -- configuration register: "a well made state has them 0"; and item 5, of the supply
 unfoldable pub well_formed : State → Bool
 well_formed s =
     activity_formed (geometry s) s.control.activity
-    && (unused_zero s
+    && (spare_zero s.unprotected
     && (zero_from (places_used s.control.activity) s.buffer && (reserved_zero s.control.configuration && runs_supplied s.control)))

@@ -16,7 +16,7 @@ use Rattle.semantics.specs.declared.State.{State}
 use Rattle.semantics.specs.declared.Place.{Place}
 use Rattle.semantics.specs.declared.View.{View}
 use Rattle.semantics.specs.declared.Step.{Step}
-use Rattle.semantics.specs.declared.Step.TheVariants.{Read, Write, Work, Supply, Reset, Pin}
+use Rattle.semantics.specs.declared.Step.TheVariants.{Read, Write, Work, Supply, Reset}
 use Rattle.semantics.specs.declared.Answer.{Answer}
 use Rattle.semantics.specs.declared.Answer.TheVariants.{Word, Refused}
 use Rattle.semantics.specs.State.{geometry, mode_of, power_up}
@@ -53,7 +53,6 @@ answer_told n f s (Write a w) = (accepted s [] (Write a w)).answer
 answer_told n f s (Work m) = (accepted s [] (Work m)).answer
 answer_told n f s (Supply on) = (accepted s [] (Supply on)).answer
 answer_told n f s Reset = (accepted s [] Reset).answer
-answer_told n f s (Pin high) = (accepted s [] (Pin high)).answer
 
 -- what follows, k, goes on with the words and the state after a step: only work touches a word
 abbrev onward : ((ℕ → ℕ) → State → Bool) → (ℕ → ℕ) → State → Step → Bool
@@ -63,7 +62,6 @@ onward k f s (Work m) =
     k (λ L. word_after (geometry s) s.buffer s.control.activity.running (units_done (geometry s) s.control.activity.running m) L (f L)) (accepted s [] (Work m)).state
 onward k f s (Supply on) = k f (accepted s [] (Supply on)).state
 onward k f s Reset = k f (accepted s [] Reset).state
-onward k f s (Pin high) = k f (accepted s [] (Pin high)).state
 
 -- each step answers so, and what the last one leaves passes a test
 abbrev plays_told : ℕ → (ℕ → ℕ) → State → List Exchange → (State → Bool) → Bool
@@ -118,7 +116,6 @@ module _ (n : ℕ) (f : ℕ → ℕ) (xs : List ℕ) (w : Told n f xs) (s : Stat
   answer_told_lem (Work m) = refl
   answer_told_lem (Supply on) = refl
   answer_told_lem Reset = refl
-  answer_told_lem (Pin high) = refl
 
   onward_told : (l : List Exchange) (t : State → Bool) (k : (ℕ → ℕ) → State → Bool)
       → ((g : ℕ → ℕ) (ys : List ℕ) (u : State) → Told n g ys → plays_out (record { state = u; array = ys }) l t ≡ k g u)
@@ -129,7 +126,6 @@ module _ (n : ℕ) (f : ℕ → ℕ) (xs : List ℕ) (w : Told n f xs) (s : Stat
   onward_told l t k h (Work m) = h _ _ _ (worked_told _ _ _ _ n f xs w)
   onward_told l t k h (Supply on) = h f xs _ w
   onward_told l t k h Reset = h f xs _ w
-  onward_told l t k h (Pin high) = h f xs _ w
 
 plays_told_lem : (n : ℕ) (f : ℕ → ℕ) (xs : List ℕ) → Told n f xs → (s : State) (l : List Exchange) (t : State → Bool)
     → plays_out (record { state = s; array = xs }) l t ≡ plays_told n f s l t

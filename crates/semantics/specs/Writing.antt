@@ -4,7 +4,6 @@
 use Rattle.std.specs.Prelude.{ℕ, ◌+◌, ◌-◌, ◌%◌, Bool, true, false, not, cond, ◌&&◌, ◌||◌, List, ltb, leb, eqb, set}
 use Rattle.geometry.specs.declared.Geometry.{Geometry}
 use Rattle.geometry.specs.Blocks.{block_of}
-use Rattle.protection.specs.Words.{is_programmable, relocked, locked_down}
 use Rattle.semantics.specs.declared.Mode.TheVariants.{Array, Status, Signature, Query}
 use Rattle.semantics.specs.declared.Setup.{Setup}
 use Rattle.semantics.specs.declared.Setup.TheVariants as setup
@@ -26,16 +25,15 @@ use Rattle.semantics.specs.declared.View.{View}
 use Rattle.semantics.specs.State.{geometry, activity, set_activity, with_setup, with_running, with_buffer, runs, program_suspended, erase_suspended, empty_buffer, flags_of, no_flags}
 use Rattle.semantics.specs.Register.{without_reserved}
 use Rattle.semantics.specs.Supply.{ended_if_unsupplied}
-use Rattle.semantics.specs.View.{place_of, view_at, with_view, with_control, with_activity, with_flags, with_configuration, with_mode, set_lock, raise}
+use Rattle.semantics.specs.View.{place_of, view_at, with_view, with_control, with_activity, with_flags, with_configuration, with_mode, with_protection, raise}
 use Rattle.semantics.specs.Numbers.{within}
 use Rattle.semantics.specs.Tabulate.{tabulate}
-use Rattle.semantics.specs.WellFormed.{has_buffer, erasing, stays_in}
+use Rattle.semantics.specs.WellFormed.{erasing, stays_in}
 
 -- ---- the first cycle: "The command is data modulo 256. With no set-up pending:"
 
--- document 02, item 8, of the part that has lock-down: "E8h is ignored there", as a command that it does not know
-unfoldable pub command_of : Geometry → ℕ → Command
-command_of g c =
+unfoldable pub command_of : ℕ → Command
+command_of c =
     cond (eqb c 0xFF) command.ReadArray
     (cond (eqb c 0x70) command.ReadStatus
     (cond (eqb c 0x90) command.ReadSignature
@@ -47,7 +45,7 @@ command_of g c =
     (cond (eqb c 0x40) command.SetUpProgram
     (cond (eqb c 0x60) command.SetUpLock
     (cond (eqb c 0x20) command.SetUpErase
-    (cond (eqb c 0xE8 && has_buffer g) command.SetUpBuffer
+    (cond (eqb c 0xE8) command.SetUpBuffer
     command.Unknown)))))))))))
 
 -- "B0h, only while something runs: it becomes suspended."
@@ -116,16 +114,11 @@ first_cycle v p command.Unknown = v
 
 -- ---- the second cycle: "it ends the set-up, its address alone names the word or block, and the first rule that applies holds"
 
--- the block can be programmed and erased: "protected" is here that it cannot, by its lock bit or, document 02, item 8, held
--- by a low pin
-abbrev pub can_program : View → Bool
-can_program v = is_programmable v.lock v.control.pin
-
 -- "supply off, set SR4 and SR3; block protected, SR4 and SR1; block of the suspended erase, SR4 (H); else a program runs": the program r
 unfoldable pub program_runs : View → Place → Running → View
 program_runs v p r =
     cond (not v.control.supply) (raise v (flags_of false true true false))
-    (cond (not (can_program v)) (raise v (flags_of false true false true))
+    (cond (not v.unprotected) (raise v (flags_of false true false true))
     (cond (erasing v.control.activity.erase p.block) (raise v (flags_of false true false false))
     (with_activity v (with_running v.control.activity r))))
 
@@ -138,26 +131,18 @@ unfoldable pub erase_cycle : View → Place → ℕ → View
 erase_cycle v p c =
     cond (not (eqb c 0xD0)) (raise v (flags_of true true false false))
     (cond (not v.control.supply) (raise v (flags_of true false true false))
-    (cond (not (can_program v)) (raise v (flags_of true false false true))
+    (cond (not v.unprotected) (raise v (flags_of true false false true))
     (with_activity v (with_running v.control.activity (running.Erase p.block 0)))))
 
--- document 02, item 8: "lock-down by 60h and 2Fh", where the part has it
-unfoldable pub lock_command_of : Geometry → ℕ → LockCommand
-lock_command_of g c =
-    cond (eqb c 0x01) lock.Protect
-    (cond (eqb c 0xD0) lock.Unprotect
-    (cond (eqb c 0x03) lock.Configure
-    (cond (eqb c 0x2F && g.lockdown) lock.LockDown
-    lock.Unknown)))
+unfoldable pub lock_command_of : ℕ → LockCommand
+lock_command_of c = cond (eqb c 0x01) lock.Protect (cond (eqb c 0xD0) lock.Unprotect (cond (eqb c 0x03) lock.Configure lock.Unknown))
 
 -- "01h protects the block, D0h opens it, 03h sets the configuration register to the address modulo 65,536; else SR5 and SR4. Supply is not
--- looked at." Document 02, item 4, of its reserved bits: "03h stores those bits as 0", whatever the address has there, and sets no flag. Item 8: "2Fh also sets the lock
--- bit; 01h and D0h leave a locked-down block's bit while the pin is low", and set no flag
+-- looked at." Document 02, item 4, of its reserved bits: "03h stores those bits as 0", whatever the address has there, and sets no flag
 unfoldable pub lock_cycle : View → Place → LockCommand → View
-lock_cycle v p lock.Protect = set_lock v (relocked v.lock v.control.pin false)
-lock_cycle v p lock.Unprotect = set_lock v (relocked v.lock v.control.pin true)
+lock_cycle v p lock.Protect = with_protection v false
+lock_cycle v p lock.Unprotect = with_protection v true
 lock_cycle v p lock.Configure = with_configuration v (without_reserved (p.address % 65536))
-lock_cycle v p lock.LockDown = set_lock v locked_down
 lock_cycle v p lock.Unknown = raise v (flags_of true true false false)
 
 -- the end of the set-up, with the bank of the cycle's own address in status mode
@@ -205,10 +190,10 @@ words_cycle g v l n due p w = cond (eqb due 0) (confirm_cycle g v l n p w) (load
 
 -- the cycle of a word w, by the set-up that is pending
 unfoldable pub cycle : Geometry → View → Setup → Place → ℕ → View
-cycle g v setup.Nothing p w = first_cycle v p (command_of g (w % 256))
+cycle g v setup.Nothing p w = first_cycle v p (command_of (w % 256))
 cycle g v setup.Program p w = program_cycle (settle v) p w
 cycle g v setup.Erase p w = erase_cycle (settle v) p (w % 256)
-cycle g v setup.Lock p w = lock_cycle (settle v) p (lock_command_of g (w % 256))
+cycle g v setup.Lock p w = lock_cycle (settle v) p (lock_command_of (w % 256))
 cycle g v (setup.BufferCount b) p w = loads (count_right b p w) v (setup.BufferFirst b (w + 1))
 cycle g v (setup.BufferFirst b n) p w = loads (first_right g b n p) v (setup.BufferWords p.location n (n - 1))
 cycle g v (setup.BufferWords l n due) p w = words_cycle g v l n due p w

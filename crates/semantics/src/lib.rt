@@ -1,7 +1,6 @@
-// What a device holds (document 01, "What a device holds"), the six steps, and their answers: the types, and no function. What the
+// What a device holds (document 01, "What a device holds"), the five steps, and their answers: the types, and no function. What the
 // steps mean, the journal, and the theorem that ties the two are in specs/. The code is in the crates above this one.
 use geometry::Part;
-use protection::Lock;
 
 // The read mode of a bank.
 #[derive(Drop)]
@@ -72,24 +71,22 @@ pub struct Flags {
     pub sr1: bool,
 }
 
-// What is held once, and not for each bank or block: what is under way, the flags, the configuration register, whether
-// the supply (VPP) is on, and whether the write-protect pin (document 02, item 8) is high.
+// What is held once, and not for each bank or block: what is under way, the flags, the configuration register, and whether the supply (VPP) is on.
 #[derive(Drop)]
 pub struct Control {
     pub activity: Activity,
     pub flags: Flags,
     pub configuration: u16,
     pub supply: bool,
-    pub pin: bool,
 }
 
-// `locks`: the protection of the blocks, as the crate protection reads it. `buffer`: the words of a load, or of a buffer
-// program, from the lowest location up; a place that is not in use is 0.
+// `unprotected`: bit b % 64 of word b / 64 is 1 where block b is unprotected (document 01: open). `buffer`: the words of a load, or of a buffer program, from the
+// lowest location up; a place that is not in use is 0.
 #[derive(Drop)]
 pub struct State {
     pub part: Part,
     pub banks: [Bank; 16],
-    pub locks: [u64; 5],
+    pub unprotected: [u64; 5],
     pub control: Control,
     pub buffer: [u16; 32],
 }
@@ -103,12 +100,12 @@ pub struct Place {
     pub block: u32,
 }
 
-// What a read or a write at a place sees of a state, and a write may change: of the modes that of the addressed bank, of the locks that of the addressed block. The
+// What a read or a write at a place sees of a state, and a write may change: of the modes that of the addressed bank, of the protection that of the addressed block. The
 // buffer, which only the cycles of a load change, is not among it.
 #[derive(Drop)]
 pub struct View {
     pub mode: Mode,
-    pub lock: Lock,
+    pub unprotected: bool,
     pub control: Control,
 }
 
@@ -119,8 +116,7 @@ pub struct Worked {
     pub units: u32,
 }
 
-// One of the six steps: read an address; write a word to an address; work up to so many units; switch the supply; reset;
-// set the write-protect pin high or low.
+// One of the five steps: read an address; write a word to an address; work up to so many units; switch the supply; reset.
 #[derive(Drop)]
 pub enum Step {
     Read(u32),
@@ -128,7 +124,6 @@ pub enum Step {
     Work(u32),
     Supply(bool),
     Reset,
-    Pin(bool),
 }
 
 // What a step answers: a word that was read, the units that were done, that it was done, or the refusal's number on document 01's card.
@@ -147,8 +142,8 @@ pub struct Next {
     pub answer: Answer,
 }
 
-// The report of blocks that can be programmed (document 01: open report): a refusal's number or 0, how many there are,
-// and the lowest of them, or the number of blocks where there is none; count and lowest are 0 beside a refusal.
+// The report of unprotected blocks (document 01: open report): a refusal's number or 0, how many blocks are unprotected, and the lowest of them, 259 where there
+// is none; count and lowest are 0 beside a refusal.
 #[derive(Drop)]
 pub struct Reported {
     pub refusal: u32,
@@ -179,7 +174,6 @@ pub enum LockCommand {
     Protect,
     Unprotect,
     Configure,
-    LockDown,
     Unknown,
 }
 

@@ -1,17 +1,17 @@
 // A device's state: power-up, the states that differ from another in one field, and whether a state and a step's numbers are refused.
 // Each function takes every state and number. What these mean is in the crate semantics.
-ghost use Rattle.std.specs.Prelude.{◌≡◌, ◌<◌};
+ghost use Rattle.std.specs.Prelude.{List, ◌≡◌, ◌<◌};
 ghost use Rattle.geometry.specs.declared.Geometry.{Geometry};
 ghost use Rattle.geometry.specs.Blocks.{geometry_of};
-ghost use Rattle.semantics.specs.State.{with_locks, with_supply, with_pin, mode_in, flags_of, no_flags, joined, power_up};
+ghost use Rattle.semantics.specs.declared.Bank.{Bank};
+ghost use Rattle.semantics.specs.State.{with_protection, with_supply, mode_in, flags_of, no_flags, joined, power_up};
 ghost use Rattle.semantics.specs.View.{place_of, view_at, with_view};
 ghost use Rattle.semantics.specs.Register.{without_reserved, reserved_zero};
 ghost use Rattle.semantics.specs.Supply.{end_flags, ended, switched};
-ghost use Rattle.semantics.specs.WellFormed.{is_array, array_from, unused_in, runs_supplied, well_formed};
+ghost use Rattle.semantics.specs.WellFormed.{runs_supplied, well_formed};
 ghost use Rattle.semantics.specs.Working.{buffer_after};
 ghost use Rattle.semantics.specs.Card.{given, card};
 ghost use Rattle.semantics.specs.Split.{step_refusal, first_refusal};
-ghost use Rattle.semantics.specs.Steps.{reset_of};
 
 use geometry::Part;
 use semantics::{
@@ -21,10 +21,10 @@ use semantics::{
 
 // ---- one field changed
 
-pub fn with_locks(mut s: State, x: [u64; 5]) -> State
-    ensures { result ≡ with_locks s x }
+pub fn with_protection(mut s: State, x: [u64; 5]) -> State
+    ensures { result ≡ with_protection s x }
 {
-    s.locks = x;
+    s.unprotected = x;
     s
 }
 
@@ -32,13 +32,6 @@ pub fn with_supply(mut s: State, x: bool) -> State
     ensures { result ≡ with_supply s x }
 {
     s.control.supply = x;
-    s
-}
-
-pub fn with_pin(mut s: State, x: bool) -> State
-    ensures { result ≡ with_pin s x }
-{
-    s.control.pin = x;
     s
 }
 
@@ -77,13 +70,12 @@ pub fn mode_of(banks: [Bank; 16], bank: u32) -> Mode
 pub fn view_at(s: State, p: Place) -> View
     ensures { result ≡ view_at s p }
 {
-    let part = s.part;
     let banks = s.banks;
-    let locks = s.locks;
+    let words = s.unprotected;
     let control = s.control;
     View {
         mode: mode_of(banks, p.bank),
-        lock: protection::lock_of(part, &locks, p.block),
+        unprotected: protection::is_unprotected(&words, p.block),
         control,
     }
 }
@@ -92,13 +84,11 @@ pub fn view_at(s: State, p: Place) -> View
 pub fn with_view(mut s: State, p: Place, v: View) -> State
     ensures { result ≡ with_view s p v }
 {
-    let part = s.part;
     let control = v.control;
     let mode = v.mode;
-    let lock = v.lock;
     let bank = p.bank;
     s.control = control;
-    protection::set_lock(part, &mut s.locks, p.block, lock);
+    protection::set_block(&mut s.unprotected, p.block, v.unprotected);
     if bank < 16 {
         let b = Bank { mode };
         s.banks[bank as usize] = b;
@@ -176,7 +166,6 @@ pub fn ended(c: Control) -> Control
         flags: join(flags, end_flags(running)),
         configuration: c.configuration,
         supply: c.supply,
-        pin: c.pin,
     }
 }
 
@@ -227,7 +216,7 @@ pub fn power_up(part: Part) -> State
     State {
         part,
         banks: [Bank { mode: Mode::Array }; 16],
-        locks: protection::all_protected(),
+        unprotected: protection::all_protected(),
         control: Control {
             activity: Activity {
                 setup: Setup::Nothing,
@@ -238,78 +227,34 @@ pub fn power_up(part: Part) -> State
             flags: no_flags(),
             configuration: 0xbfcf,
             supply: false,
-            pin: false,
         },
         buffer: buffer::empty(),
     }
 }
 
-// Reset: the power-up state, but for the supply and the pin.
+// Reset: the power-up state, but for the supply.
 pub fn reset(s: State) -> State
-    ensures { result ≡ reset_of s }
+    ensures { result ≡ with_supply (power_up s.part) s.control.supply }
 {
     let part = s.part;
     let on = s.control.supply;
-    let high = s.control.pin;
-    with_pin(with_supply(power_up(part), on), high)
+    with_supply(power_up(part), on)
 }
 
 // ---- refusals
 
-fn is_array(mode: Mode) -> bool
-    ensures { result ≡ is_array mode }
-{
-    match mode {
-        Mode::Array => true,
-        Mode::Status => false,
-        Mode::Signature => false,
-        Mode::Query => false,
-    }
-}
-
-// The modes of the banks that a part of eight does not have are array.
-fn upper_array(banks: [Bank; 16]) -> bool
-    ensures { result ≡ array_from 8 banks }
-{
-    let mut array = true;
-    let mut i: usize = 8;
-    while i < 16 {
-        let b = banks[i];
-        let mode = b.mode;
-        array = array & is_array(mode);
-        i += 1;
-    }
-    array
-}
-
-// The storage of banks and blocks that the part does not have is zero. An M58LT part has all the banks.
-fn unused_zero(part: Part, banks: [Bank; 16], locks: [u64; 5]) -> bool
-    ensures { result ≡ unused_in (geometry_of part) banks locks }
-{
-    if geometry::has_lockdown(part) {
-        return protection::spare_zero(part, locks) & upper_array(banks);
-    }
-    protection::spare_zero(part, locks)
-}
-
-// Whether a state of these pieces is well formed (document 01: well made). Where nothing runs, is suspended or is loaded,
-// only the spare storage and the register are left to test.
-pub fn formed_of(
-    part: Part,
-    banks: [Bank; 16],
-    locks: [u64; 5],
-    c: Control,
-    buffer: [u16; 32],
-) -> bool
-    ensures { result ≡ well_formed (record { part = part; banks = banks; locks = locks; control = c; buffer = buffer }) }
+// Whether a state of these pieces is well formed (document 01: well made), whatever the modes are. Where nothing runs, is suspended or is loaded, only the spare storage and the
+// register are left to test.
+pub fn formed_of(part: Part, c: Control, words: [u64; 5], buffer: [u16; 32]) -> bool
+    ensures { (bs : List Bank) → result ≡ well_formed (record { part = part; banks = bs; unprotected = words; control = c; buffer = buffer }) }
 {
     let a = c.activity;
     if operation::at_rest(a) {
-        return unused_zero(part, banks, locks)
+        return protection::spare_zero(words)
             & (buffer::zero_from(buffer, 0) & reserved_zero(c.configuration));
     }
     operation::activity_formed(part, a)
-        & (unused_zero(part, banks, locks)
+        & (protection::spare_zero(words)
             & (buffer::zero_from(buffer, operation::places_used(a))
                 & (reserved_zero(c.configuration) & runs_supplied(c))))
 }
@@ -319,11 +264,10 @@ pub fn well_formed(s: State) -> bool
     ensures { result ≡ well_formed s }
 {
     let part = s.part;
-    let banks = s.banks;
-    let locks = s.locks;
     let c = s.control;
+    let words = s.unprotected;
     let buffer = s.buffer;
-    formed_of(part, banks, locks, c, buffer)
+    formed_of(part, c, words, buffer)
 }
 
 // What every step is refused for, and a reset for nothing else, beside an array of n words and a state of the part that
@@ -361,7 +305,6 @@ pub fn step_refusal(part: Part, x: Step) -> u32
         Step::Work(count) => count_refusal(count),
         Step::Supply(on) => 0,
         Step::Reset => 0,
-        Step::Pin(high) => 0,
     }
 }
 

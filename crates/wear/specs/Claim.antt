@@ -7,7 +7,7 @@ use Rattle.geometry.specs.Blocks.{geometry_of, blocks}
 use Rattle.semantics.specs.declared.Step.{Step}
 use Rattle.semantics.specs.Entries.{Entry, entry, is_finished}
 use Rattle.semantics.specs.Recorder.{Operation, program, erase, buffer, journal_of}
-use Rattle.wear.specs.Counts.{Counts, count_of, shared_zero, no_counts}
+use Rattle.wear.specs.Counts.{Counts, count_of, shared_zero}
 
 -- an operation is an erase of block b, and an entry of the journal a finished one
 abbrev pub erases : ℕ → Operation → Bool
@@ -23,11 +23,8 @@ abbrev pub finished_erases : ℕ → List (Entry Operation) → ℕ
 finished_erases b [] = 0
 finished_erases b (e ∷ j) = cond (is_finished_erase b e) (suc (finished_erases b j)) (finished_erases b j)
 
--- "after any steps from power-up that each count is the lesser of 65,535 and the number of finished erases of that
--- block in the journal": of the counts k after the steps l of the part p; and the shared place is 0. Document 02, item
--- 8, of the part with lock-down: "wear is not counted", so that all counts are 0
+-- "after any steps from power-up that each count is the lesser of 65,535 and the number of finished erases of that block in the journal": of the counts k after the steps l of the
+-- part p; and the shared place is 0
 pub record CountsStand (p : Part) (l : List Step) (k : Counts) : Type 0 where
-  pub count : (b : ℕ) → b < blocks (geometry_of p)
-      → count_of k b ≡ cond (geometry_of p).lockdown 0 (min 65535 (finished_erases b (journal_of (geometry_of p) l)))
+  pub count : (b : ℕ) → b < blocks (geometry_of p) → count_of k b ≡ min 65535 (finished_erases b (journal_of (geometry_of p) l))
   pub shared : shared_zero k.main ≡ true
-  pub uncounted : (geometry_of p).lockdown ≡ true → k ≡ no_counts

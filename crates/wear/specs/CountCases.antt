@@ -1,16 +1,12 @@
--- Cases of the counts alone (document 02, items 6 and 8): where each block's count stands, which counts go with a part,
--- one erase more, the counts after work, and the finished erases of a journal. The checker computes them: a rule that
--- is written down wrong makes a case fail.
+-- Cases of the counts alone (document 02, item 6): where each block's count stands, one erase more, the counts after work, and the finished erases of a journal.
+-- The checker computes them: a rule that is written down wrong makes a case fail.
 -- Assumes nothing.
-use Rattle.std.specs.Prelude.{ℕ, zero, suc, ◌+◌, ◌-◌, Bool, true, false, List, [], ◌∷◌, ◌++◌, map, ◌≡◌, refl, replicate}
-use Rattle.geometry.specs.declared.Part.{Part}
-use Rattle.geometry.specs.declared.Part.TheVariants.{FullBottom, FullTop, BenchBottom, BenchTop, Wt032kb}
-use Rattle.geometry.specs.Blocks.{geometry_of}
+use Rattle.std.specs.Prelude.{ℕ, zero, suc, ◌+◌, ◌-◌, true, false, List, [], ◌∷◌, ◌++◌, map, ◌≡◌, refl, replicate}
 use Rattle.semantics.specs.declared.Running.{Running}
 use Rattle.semantics.specs.declared.Running.TheVariants as running
 use Rattle.semantics.specs.Entries.{Entry, entry, running, suspended, finished, broken-off}
 use Rattle.semantics.specs.Recorder.{Operation, program, erase, buffer}
-use Rattle.wear.specs.Counts.{Counts, lent, row_of, place_in, count_at, count_of, shared_zero, every, all_zero, none_counted, counts_formed, no_counts, put_at, with_count, one_more, counted_after, counts_after}
+use Rattle.wear.specs.Counts.{Counts, lent, row_of, place_in, count_at, count_of, shared_zero, no_counts, put_at, with_count, one_more, counts_after}
 use Rattle.wear.specs.Claim.{finished_erases}
 
 -- ---- counts, written out
@@ -107,33 +103,6 @@ pub shared_hold : (map (λ n. shared_zero (at 0 0 n).main) (0 ∷ 1 ∷ 2 ∷ 3 
 unfolding count_at shared_zero no_counts
 shared_hold = (refl, refl)
 
--- ---- document 02, item 8: "wear is not counted: .. a count not 0 is refused 2"
-
--- the four parts whose erases are counted, and the one whose are not
-abbrev pub counted_parts : List Part
-counted_parts = FullBottom ∷ FullTop ∷ BenchBottom ∷ BenchTop ∷ []
-
-abbrev goes : Counts → Part → Bool
-goes k p = counts_formed (geometry_of p) k
-
--- all 0; then one count not 0: of each small block, in the first place of a block, at the ends of the first row, in the
--- middle, at the ends of the last row, in places of blocks that the part does not have
-abbrev pub counts_not_0 : List Counts
-counts_not_0 =
-    smalls 1 0 0 0 ∷ smalls 0 1 0 0 ∷ smalls 0 0 1 0 ∷ smalls 0 0 0 1 ∷ smalls 0 0 0 65535 ∷ at 0 1 1 ∷ at 0 15 1
-    ∷ at 1 0 1 ∷ at 4 3 256 ∷ at 7 9 65535 ∷ at 15 0 1 ∷ at 15 14 1 ∷ at 15 15 1 ∷ at 15 15 65535 ∷ []
-
--- the shared place not 0, and with it others
-abbrev pub shared_not_0 : List Counts
-shared_not_0 = at 0 0 1 ∷ at 0 0 256 ∷ at 0 0 65535 ∷ spread ∷ []
-
--- the part with lock-down has all 0; the others the shared place
-pub formed_hold : (map (goes no_counts) (Wt032kb ∷ counted_parts) ≡ replicate 5 true)
-    × (map (λ k. map (goes k) (Wt032kb ∷ counted_parts)) counts_not_0 ≡ replicate 14 (false ∷ replicate 4 true))
-    × (map (λ k. map (goes k) (Wt032kb ∷ counted_parts)) shared_not_0 ≡ replicate 4 (replicate 5 false))
-unfolding count_at shared_zero every all_zero none_counted counts_formed no_counts
-formed_hold = (refl, refl, refl)
-
 -- ---- "the lesser of 65,535 and the number": one erase more
 
 abbrev more : Put → Counts
@@ -159,8 +128,8 @@ more_hold = refl
 pub data Ran : Type 0 where
   ran : Running → Running → Counts → Ran
 
-abbrev counted : Part → Counts → Ran → Counts
-counted p k (ran r t m) = counts_after (geometry_of p) r t k
+abbrev counted : Counts → Ran → Counts
+counted k (ran r t m) = counts_after r t k
 
 abbrev told : Ran → Counts
 told (ran r t m) = m
@@ -180,16 +149,9 @@ uncounted =
     ran running.Idle running.Idle spread ∷ ran (running.Program 4 19) running.Idle spread ∷ ran (running.Program 4 19) (running.Program 4 19) spread ∷ ran (running.Buffer 4 2 1) running.Idle spread
     ∷ ran (running.Buffer 4 2 0) (running.Buffer 4 2 1) spread ∷ ran (running.Erase 4 10) (running.Erase 4 63) spread ∷ []
 
-pub after_hold : (map (λ p. map (counted p no_counts) rans) counted_parts ≡ replicate 4 (map told rans))
-    × (map (λ p. map (counted p spread) uncounted) counted_parts ≡ replicate 4 (map told uncounted))
-unfolding row_of place_in count_at count_of no_counts put_at with_count one_more counted_after counts_after
+pub after_hold : (map (counted no_counts) rans ≡ map told rans) × (map (counted spread) uncounted ≡ map told uncounted)
+unfolding row_of place_in count_at count_of no_counts put_at with_count one_more counts_after
 after_hold = (refl, refl)
-
--- "wear is not counted": nothing is added, for any of them
-pub uncounted_hold : (map (counted Wt032kb no_counts) rans ≡ replicate 8 no_counts)
-    × (map (counted Wt032kb spread) (rans ++ uncounted) ≡ replicate 14 spread)
-unfolding no_counts counted_after counts_after
-uncounted_hold = (refl, refl)
 
 -- ---- "the number of finished erases of that block in the journal"
 

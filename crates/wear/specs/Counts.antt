@@ -1,9 +1,7 @@
--- The erase counts of the blocks (document 02, item 6: wear counts): where each stands, when one is added, and the most
--- worn block; and item 8: the part whose erases are not counted. Definitions only; the laws are in Places, Zeros and
--- Most.
+-- The erase counts of the blocks (document 02, item 6: wear counts): where each stands, when one is added, and the most worn block. Definitions only; the laws are in Places
+-- and Most.
 -- Assumes nothing.
-use Rattle.std.specs.Prelude.{ℕ, zero, suc, ◌+◌, ◌-◌, ◌/◌, ◌%◌, min, max, Bool, true, cond, ◌&&◌, List, [], eqb, ltb, get_or, set, replicate}
-use Rattle.geometry.specs.declared.Geometry.{Geometry}
+use Rattle.std.specs.Prelude.{ℕ, zero, suc, ◌+◌, ◌-◌, ◌/◌, ◌%◌, min, max, Bool, cond, List, [], eqb, ltb, get_or, set, replicate}
 use Rattle.protection.specs.Words.{least}
 use Rattle.semantics.specs.declared.Running.{Running}
 use Rattle.semantics.specs.declared.Running.TheVariants as running
@@ -39,25 +37,6 @@ count_of k b = cond (ltb b 4) (get_or k.small b 0) (cond (ltb b 259) (count_at k
 unfoldable pub shared_zero : List (List ℕ) → Bool
 shared_zero m = eqb (count_at m 0 0) 0
 
--- f holds of every number below n
-unfoldable pub every : ℕ → (ℕ → Bool) → Bool
-every zero f = true
-every (suc n) f = every n f && f n
-
--- document 02, item 8, of the part with lock-down: "wear is not counted: .. a count not 0 is refused 2". Whether the
--- sixteen places of a row are 0, and all counts: those in the shared place, and in places that are no block's there,
--- are among them
-unfoldable pub all_zero : List ℕ → Bool
-all_zero l = every 16 (λ j. eqb (get_or l j 0) 0)
-
-unfoldable pub none_counted : Counts → Bool
-none_counted k = every 4 (λ b. eqb (get_or k.small b 0) 0) && every 16 (λ i. all_zero (get_or k.main i []))
-
--- whether counts go with a geometry: "2 as before, also when the shared place is not 0", and, where wear is not
--- counted, when any count is not 0
-unfoldable pub counts_formed : Geometry → Counts → Bool
-counts_formed g k = cond g.lockdown (none_counted k) (shared_zero k.main)
-
 -- "power-up starts them at 0"
 unfoldable pub no_counts : Counts
 no_counts = lent (replicate 16 (replicate 16 0)) (replicate 4 0)
@@ -76,15 +55,11 @@ unfoldable pub one_more : Counts → ℕ → Counts
 one_more k b = with_count k b (min 65535 (count_of k b + 1))
 
 -- "the finished erases of each block": the counts after work, where r ran before it and t runs after it. An erase that ran and runs no more has its last word done
-unfoldable pub counted_after : Running → Running → Counts → Counts
-counted_after running.Idle t k = k
-counted_after (running.Program l w) t k = k
-counted_after (running.Erase b done) t k = cond (runs t) k (one_more k b)
-counted_after (running.Buffer l n done) t k = k
-
--- document 02, item 8, of the part with lock-down: "wear is not counted"
-unfoldable pub counts_after : Geometry → Running → Running → Counts → Counts
-counts_after g r t k = cond g.lockdown k (counted_after r t k)
+unfoldable pub counts_after : Running → Running → Counts → Counts
+counts_after running.Idle t k = k
+counts_after (running.Program l w) t k = k
+counts_after (running.Erase b done) t k = cond (runs t) k (one_more k b)
+counts_after (running.Buffer l n done) t k = k
 
 -- ---- the most worn block
 

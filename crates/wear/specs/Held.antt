@@ -10,30 +10,30 @@ use Rattle.geometry.specs.declared.Part.{Part}
 use Rattle.geometry.specs.Blocks.{geometry_of, words}
 use Rattle.semantics.specs.declared.State.{State}
 use Rattle.semantics.specs.declared.Step.{Step}
-use Rattle.semantics.specs.declared.Step.TheVariants.{Read, Write, Work, Supply, Reset, Pin}
+use Rattle.semantics.specs.declared.Step.TheVariants.{Read, Write, Work, Supply, Reset}
 use Rattle.semantics.specs.declared.Answer.{Answer}
 use Rattle.semantics.specs.declared.Answer.TheVariants.{Word, Units, Done, Refused}
 use Rattle.semantics.specs.declared.Place.{Place}
 use Rattle.semantics.specs.declared.Worked.{Worked}
-use Rattle.semantics.specs.State.{geometry, with_control, with_buffer, with_pin}
+use Rattle.semantics.specs.State.{geometry, with_control, with_buffer, with_supply, power_up}
 use Rattle.semantics.specs.View.{place_of}
 use Rattle.semantics.specs.Reading.{read_word}
 use Rattle.semantics.specs.Writing.{written_at, written}
 use Rattle.semantics.specs.Working.{units_done, array_after, buffer_after, worked_on, worked, worked_array}
 use Rattle.semantics.specs.WellFormed.{well_formed}
 use Rattle.semantics.specs.Split.{step_refusal, first_refusal}
-use Rattle.semantics.specs.Steps.{next, switched_to, reset_of, accepted, accepted_array, step_of, array_of}
+use Rattle.semantics.specs.Steps.{next, switched_to, accepted, accepted_array, step_of, array_of}
 use Rattle.semantics.specs.Invariant.{Kept, kept_step, length_accepted, length_kept, state_good}
 use Rattle.semantics.specs.Kept.{keeps}
-use Rattle.wear.specs.Counts.{Counts, counts_formed, counts_after}
+use Rattle.wear.specs.Counts.{Counts, shared_zero, counts_after}
 use Rattle.wear.specs.Steps.{formed_with, refusal_with, accepted_counts, step_with, array_with, counts_with}
-use Rattle.wear.specs.Refused.{formed_kept, reset_with, refusal_first, refusal_alone, step_alone, array_alone, bad_refused}
+use Rattle.wear.specs.Refused.{shared_kept, reset_with, refusal_first, refusal_alone, step_alone, array_alone, bad_refused}
 
 -- a is what every step on the state, its counts and the array is refused for, and a reset for nothing else, or 0
 pub record Held (a : ℕ) (s : State) (k : Counts) (xs : List ℕ) : Type 0 where
   pub same : a ≡ refusal_with s k (length xs) Reset
   pub sixteen : length s.banks ≡ 16
-  pub five : length s.locks ≡ 5
+  pub five : length s.unprotected ≡ 5
   pub thirty_two : length s.buffer ≡ 32
 
 both : (a b c : Bool) → ◌≡◌ {A = ℕ} (cond a (cond (b && c) 0 2) 1) 0 → (a ≡ true) × (b ≡ true) × (c ≡ true)
@@ -42,17 +42,17 @@ both true true false h = absurd (omega (arith, h))
 both true false c h = absurd (omega (arith, h))
 both false b c h = absurd (omega (arith, h))
 
-good_both : (s : State) (k : Counts) (n : ℕ) → refusal_with s k n Reset ≡ 0 → (eqb n (words (geometry s)) ≡ true) × (well_formed s ≡ true) × (counts_formed (geometry s) k ≡ true)
+good_both : (s : State) (k : Counts) (n : ℕ) → refusal_with s k n Reset ≡ 0 → (eqb n (words (geometry s)) ≡ true) × (well_formed s ≡ true) × (shared_zero k.main ≡ true)
 unfolding formed_with
-good_both s k n h = both (eqb n (words (geometry s))) (well_formed s) (counts_formed (geometry s) k) (sym (reset_with s k n) ∙ h)
+good_both s k n h = both (eqb n (words (geometry s))) (well_formed s) (shared_zero k.main) (sym (reset_with s k n) ∙ h)
 
 module _ (s : State) (k : Counts) (xs : List ℕ) (x : Step) where
   -- a state that is not refused is not refused after a step, and keeps its shape
-  good_next : length s.locks ≡ 5 → length s.buffer ≡ 32 → refusal_with s k (length xs) Reset ≡ 0 → refusal_with (step_with s k xs x).state (counts_with s k xs x) (length (array_with s k xs x)) Reset ≡ 0
+  good_next : length s.unprotected ≡ 5 → length s.buffer ≡ 32 → refusal_with s k (length xs) Reset ≡ 0 → refusal_with (step_with s k xs x).state (counts_with s k xs x) (length (array_with s k xs x)) Reset ≡ 0
   good_next f i h =
       let b = good_both s k (length xs) h in
       let q : Kept s (step_of s xs x).state = kept_step s xs x f in
-      rw (step_alone s k b.2 xs x, array_alone s k b.2 xs x, refusal_alone (step_of s xs x).state (counts_with s k xs x) (formed_kept s k xs x (step_of s xs x).state.part q.part ∙ b.2) _ Reset)
+      rw (step_alone s k b.2 xs x, array_alone s k b.2 xs x, refusal_alone (step_of s xs x).state (counts_with s k xs x) (shared_kept s k xs x ∙ b.2) _ Reset)
       (state_good (step_of s xs x).state (length (array_of s xs x))
       (length_kept s xs x ∙ eqb-true (length xs) (words (geometry s)) b.0 ∙ ap (λ (p : Part). words (geometry_of p)) (sym q.part)) (keeps s xs x f i b.1))
 
@@ -61,10 +61,10 @@ module _ (s : State) (k : Counts) (xs : List ℕ) (x : Step) where
   unfolding step_with array_with counts_with first_refusal
   bad_next h = let e = refusal_first s k (length xs) x in (rw (e, h, h), rw (e, h, h), rw (e, h, h))
 
-  kept_with : length s.locks ≡ 5 → Kept s (step_with s k xs x).state
-  kept_with f = go (counts_formed (geometry s) k) refl
+  kept_with : length s.unprotected ≡ 5 → Kept s (step_with s k xs x).state
+  kept_with f = go (shared_zero k.main) refl
     where
-      go : (b : Bool) → counts_formed (geometry s) k ≡ b → Kept s (step_with s k xs x).state
+      go : (b : Bool) → shared_zero k.main ≡ b → Kept s (step_with s k xs x).state
       go true z = rw (step_alone s k z xs x) (kept_step s xs x f)
       go false z = rw (bad_refused s k z xs x) (record { part = refl; sixteen = λ h. h; five = refl; spare = λ h. h; thirty_two = λ h. h; reserved = λ h. h; powered = λ h. h })
 
@@ -114,7 +114,7 @@ module _ (c : ℕ) (s : State) (k : Counts) (xs : List ℕ) (r : Held c s k xs) 
   pub does_work : (n : ℕ) (o : Worked) (bs : List ℕ) → e ≡ 0 → x ≡ Work n → o ≡ worked_on (geometry s) s.control n → bs ≡ buffer_after s.control.activity.running o.control.activity.running s.buffer
       → t ≡ with_buffer (with_control s o.control) bs → a ≡ Units o.units
       → ys ≡ array_after (geometry s) s.buffer s.control.activity.running (units_done (geometry s) s.control.activity.running n) xs
-      → l ≡ counts_after (geometry s) s.control.activity.running o.control.activity.running k → Does s k xs x t a ys l
+      → l ≡ counts_after s.control.activity.running o.control.activity.running k → Does s k xs x t a ys l
   unfolding accepted accepted_array accepted_counts worked_on worked worked_array
   does_work n o bs h q i y j m v z = done (Work n) h q (rw (j, y, m, i)) v (z ∙ rw i)
 
@@ -122,11 +122,6 @@ module _ (c : ℕ) (s : State) (k : Counts) (xs : List ℕ) (r : Held c s k xs) 
   unfolding accepted accepted_array accepted_counts
   does_supply on h q j m n z = done (Supply on) h q (rw (j, m)) n z
 
-  pub does_reset : e ≡ 0 → x ≡ Reset → t ≡ reset_of s → a ≡ Done → ys ≡ xs → l ≡ k → Does s k xs x t a ys l
+  pub does_reset : e ≡ 0 → x ≡ Reset → t ≡ with_supply (power_up s.part) s.control.supply → a ≡ Done → ys ≡ xs → l ≡ k → Does s k xs x t a ys l
   unfolding accepted accepted_array accepted_counts
   does_reset h q j m n z = done Reset h q (rw (j, m)) n z
-
-  pub does_pin : (high : Bool) → e ≡ 0 → x ≡ Pin high → t ≡ with_pin s high → a ≡ Done → ys ≡ xs → l ≡ k
-      → Does s k xs x t a ys l
-  unfolding accepted accepted_array accepted_counts
-  does_pin high h q j m n z = done (Pin high) h q (rw (j, m)) n z

@@ -7,7 +7,6 @@ pub mod WearCases
 pub mod ReportCases
 pub mod Places
 pub mod Most
-pub mod Zeros
 pub mod Refused
 pub mod Held
 pub mod Theorem

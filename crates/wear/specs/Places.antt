@@ -2,34 +2,29 @@
 -- of its block and of no other. A row is a bank.
 -- Assumes nothing.
 use Prim.Native.Nat.{ℕ, zero, suc, ◌+◌, ◌-◌, ◌*◌, ◌≤◌, ◌<◌, min}
-use Rattle.std.specs.Prelude.{Bool, ◌&&◌, ◌||◌, List, [], ◌≡◌, eqb, ltb, length, get_or, set}
-use Rattle.std.proofs.Math.Bool.{true, false, cond}
-use Rattle.std.proofs.Common.{true≢false, ◌∙◌, length-set, get_or-set_same, get_or-set_other, lt-ltb, ltb-true, ltb-false, eq-eqb, ne_eqb, eqb-true}
-use Rattle.std.proofs.Math.Path.{refl, sym, ap}
+use Rattle.std.specs.Prelude.{Bool, true, false, cond, ◌&&◌, List, [], ◌≡◌, refl, eqb, ltb, length, get_or, set}
+use Rattle.std.proofs.Common.{sym, ◌∙◌, length-set, get_or-set_same, get_or-set_other, lt-ltb, ltb-true, ltb-false, eq-eqb, ne_eqb, eqb-true}
+use Rattle.std.proofs.Math.Path.{ap}
 use native.Mathlib.Omega.{arith}
 use Rattle.std.proofs.lemmas.Bool.{eqb-false}
 use Rattle.geometry.specs.declared.Part.{Part}
-use Rattle.geometry.specs.declared.Part.TheVariants.{FullBottom, FullTop, BenchBottom, BenchTop, Wt032kb}
-use Rattle.geometry.specs.declared.Geometry.{Geometry}
+use Rattle.geometry.specs.declared.Part.TheVariants.{FullBottom, FullTop, BenchBottom, BenchTop}
 use Rattle.geometry.specs.Blocks.{geometry_of, block_of, bank_of}
 use Rattle.geometry.specs.Laws as laws
 use Rattle.semantics.specs.declared.Running.{Running}
 use Rattle.semantics.specs.declared.Running.TheVariants as running
 use Rattle.semantics.specs.State.{runs}
-use Rattle.semantics.specs.Branches.{of_cond}
-use Rattle.wear.specs.Counts.{Counts, lent, row_of, place_in, count_at, count_of, put_at, with_count, one_more, counted_after, counts_after}
+use Rattle.wear.specs.Counts.{Counts, lent, row_of, place_in, count_at, count_of, put_at, with_count, one_more, counts_after}
 
 -- ---- rows and places
 
--- a row is the bank of its blocks, on every part whose erases are counted
-pub row_is_bank : (p : Part) → (geometry_of p).lockdown ≡ false → (l : ℕ)
-    → bank_of (geometry_of p) l ≡ row_of (block_of (geometry_of p) l)
+-- a row is the bank of its blocks, on every part
+pub row_is_bank : (p : Part) (l : ℕ) → bank_of (geometry_of p) l ≡ row_of (block_of (geometry_of p) l)
 unfolding row_of
-row_is_bank FullBottom h l = laws.bank_of_block_lem (geometry_of FullBottom) (laws.sound FullBottom) l
-row_is_bank FullTop h l = laws.bank_of_block_lem (geometry_of FullTop) (laws.sound FullTop) l
-row_is_bank BenchBottom h l = laws.bank_of_block_lem (geometry_of BenchBottom) (laws.sound BenchBottom) l
-row_is_bank BenchTop h l = laws.bank_of_block_lem (geometry_of BenchTop) (laws.sound BenchTop) l
-row_is_bank Wt032kb h l = absurd (true≢false h)
+row_is_bank FullBottom l = laws.bank_of_block_lem (geometry_of FullBottom) (laws.sound FullBottom) l
+row_is_bank FullTop l = laws.bank_of_block_lem (geometry_of FullTop) (laws.sound FullTop) l
+row_is_bank BenchBottom l = laws.bank_of_block_lem (geometry_of BenchBottom) (laws.sound BenchBottom) l
+row_is_bank BenchTop l = laws.bank_of_block_lem (geometry_of BenchTop) (laws.sound BenchTop) l
 
 -- a block from 4 on has a place among the sixteen of sixteen rows, which is not the shared one, and which tells the block
 pub record Placed (b : ℕ) : Type 0 where
@@ -133,31 +128,11 @@ module _ (k : Counts) (b n : ℕ) (is : n ≡ count_of k b) where
   unfolding one_more
   more h = let e : n + 1 ≡ min 65535 (count_of k b + 1) = omega arith in ap (λ (x : ℕ). with_count k b x) e
 
--- nothing is counted where nothing is, or where an erase did not run
-module _ (g : Geometry) (k : Counts) (r t : Running) where
-  pub counts_none : g.lockdown ≡ true → counts_after g r t k ≡ k
+module _ (k : Counts) (r t : Running) (b done : ℕ) (erases : r ≡ running.Erase b done) where
+  pub finished : runs t ≡ false → one_more k b ≡ counts_after r t k
   unfolding counts_after
-  counts_none h = rw h
+  finished h = rw (erases, h)
 
-  pub counts_some : g.lockdown ≡ false → counts_after g r t k ≡ counted_after r t k
+  pub unfinished : runs t ≡ true → k ≡ counts_after r t k
   unfolding counts_after
-  counts_some h = rw h
-
-  pub counts_same : counted_after r t k ≡ k → k ≡ counts_after g r t k
-  unfolding counts_after
-  counts_same e = of_cond (λ (m : Counts). k ≡ m) g.lockdown k (counted_after r t k) refl (sym e)
-
-module _ (g : Geometry) (k : Counts) (r t : Running) (b done : ℕ) (erases : r ≡ running.Erase b done) where
-  pub finished : runs t ≡ false → g.lockdown ≡ false → one_more k b ≡ counts_after g r t k
-  unfolding counted_after
-  finished h i = sym (counts_some g k r t i ∙ rw (erases, h))
-
-  pub unfinished : (runs t || g.lockdown) ≡ true → k ≡ counts_after g r t k
-  unfolding counts_after counted_after
-  unfinished h = rw erases (go (runs t) g.lockdown h)
-    where
-      go : (u v : Bool) → (u || v) ≡ true → k ≡ cond v k (cond u k (one_more k b))
-      go true true h = refl
-      go true false h = refl
-      go false true h = refl
-      go false false h = absurd (true≢false (sym h))
+  unfinished h = rw (erases, h)

@@ -1,7 +1,5 @@
--- Where the counts go with the part, they are only looked on: a step is the step of the device alone, in what it
--- answers and in what it makes of the state and the array; and a list of steps is. Where they do not, every step is
--- refused 1 or 2, and the reports 2. They go with it where the shared place is 0, and on the part whose erases are not
--- counted where all are.
+-- Where the shared place is 0, the counts are only looked on: a step is the step of the device alone, in what it answers and in what it makes of the state and the array; and a list
+-- of steps is. Where it is not 0, every step is refused 1 or 2, and the reports 2.
 -- Assumes nothing.
 use Prim.Native.Nat.{ℕ, zero, suc, ◌+◌, ◌≤◌, ◌<◌, min}
 use Rattle.std.specs.Prelude.{Bool, cond, ◌&&◌, List, [], ◌∷◌, ◌⊎◌, ◌≡◌, eqb, ltb, length, get_or, set}
@@ -9,29 +7,22 @@ use Rattle.std.proofs.Math.Bool.{true, false}
 use Rattle.std.proofs.Common.{true≢false, inl, inr, sym, ap, ◌∙◌, subst, arith, get_or-set_other}
 use Rattle.std.proofs.Math.Path.{refl}
 use borrow.Author.Tests.{ltb-true, ltb-false, le-ltb, eq-eqb, ne_eqb}
-use Rattle.geometry.specs.declared.Geometry.{Geometry}
-use Rattle.geometry.specs.declared.Part.{Part}
-use Rattle.geometry.specs.Blocks.{geometry_of, words}
+use Rattle.geometry.specs.Blocks.{words}
 use Rattle.geometry.specs.Laws.{order}
 use Rattle.semantics.specs.declared.State.{State}
 use Rattle.semantics.specs.declared.Step.{Step}
-use Rattle.semantics.specs.declared.Step.TheVariants.{Read, Write, Work, Supply, Reset, Pin}
+use Rattle.semantics.specs.declared.Step.TheVariants.{Read, Write, Work, Supply, Reset}
 use Rattle.semantics.specs.declared.Running.{Running}
 use Rattle.semantics.specs.declared.Running.TheVariants as running
 use Rattle.semantics.specs.declared.Answer.TheVariants.{Refused}
-use Rattle.semantics.specs.declared.Next.{Next}
-use Rattle.semantics.specs.State.{geometry, power_up, runs}
+use Rattle.semantics.specs.State.{geometry, runs}
 use Rattle.semantics.specs.Branches.{of_cond, by_test}
 use Rattle.semantics.specs.WellFormed.{well_formed}
 use Rattle.semantics.specs.Split.{step_refusal, first_refusal, reset_refused, refused_first}
-use Rattle.semantics.specs.Supply.{ended}
-use Rattle.semantics.specs.Writing.{written, written_at}
-use Rattle.semantics.specs.Working.{worked_on, worked}
-use Rattle.semantics.specs.Steps.{refusal_of, next, switched_to, reset_of, accepted, accepted_array, step_of, array_of, reported_of, Machine, after, after_all, answers_of}
-use Rattle.wear.specs.Counts.{Counts, lent, row_of, place_in, count_at, count_of, shared_zero, none_counted, counts_formed, no_counts, put_at, with_count, one_more, counted_after, counts_after}
-use Rattle.wear.specs.Steps.{formed_with, refusal_with, step_with, array_with, counts_with, accepted_counts, reported_with, most_worn_with, erase_count_with, Counted, after_with, after_all_with, answers_with, fresh_with}
-use Rattle.wear.specs.Places.{placed, Shaped, count_with, counts_none}
-use Rattle.wear.specs.Zeros.{fresh_none}
+use Rattle.semantics.specs.Steps.{refusal_of, next, accepted, accepted_array, step_of, array_of, reported_of, Machine, after, after_all, answers_of}
+use Rattle.wear.specs.Counts.{Counts, lent, row_of, place_in, count_at, count_of, shared_zero, no_counts, put_at, with_count, one_more, counts_after}
+use Rattle.wear.specs.Steps.{formed_with, refusal_with, step_with, array_with, counts_with, accepted_counts, reported_with, most_worn_with, erase_count_with, Counted, after_with, after_all_with, answers_with}
+use Rattle.wear.specs.Places.{placed, Shaped, count_with}
 
 -- ---- a step that leaves the array, or the counts, where it is accepted
 
@@ -47,14 +38,13 @@ pub counts_still : (s : State) (k : Counts) (xs : List ℕ) (x : Step) → accep
 unfolding counts_with
 counts_still s k xs x e = cond_still (eqb (refusal_with s k (length xs) x) 0) (accepted_counts s k x) k e
 
--- only work changes a count: no read, write, supply, reset or pin step does. "Reset keeps counts"
+-- only work changes a count: no read, write, supply or reset does. "Reset keeps counts"
 abbrev pub is_work : Step → Bool
 is_work (Read address) = false
 is_work (Write address w) = false
 is_work (Work n) = true
 is_work (Supply on) = false
 is_work Reset = false
-is_work (Pin high) = false
 
 pub only_work : (s : State) (k : Counts) (xs : List ℕ) (x : Step) → is_work x ≡ false → counts_with s k xs x ≡ k
 unfolding accepted_counts
@@ -63,21 +53,6 @@ only_work s k xs (Write address w) h = counts_still s k xs (Write address w) ref
 only_work s k xs (Work n) h = absurd (true≢false h)
 only_work s k xs (Supply on) h = counts_still s k xs (Supply on) refl
 only_work s k xs Reset h = counts_still s k xs Reset refl
-only_work s k xs (Pin high) h = counts_still s k xs (Pin high) refl
-
--- and none does where wear is not counted
-uncounted_step : (s : State) (k : Counts) (x : Step) → (geometry s).lockdown ≡ true → accepted_counts s k x ≡ k
-unfolding accepted_counts
-uncounted_step s k (Read address) h = refl
-uncounted_step s k (Write address w) h = refl
-uncounted_step s k (Work n) h = counts_none (geometry s) k _ _ h
-uncounted_step s k (Supply on) h = refl
-uncounted_step s k Reset h = refl
-uncounted_step s k (Pin high) h = refl
-
-pub uncounted_kept : (s : State) (k : Counts) (xs : List ℕ) (x : Step) → (geometry s).lockdown ≡ true
-    → counts_with s k xs x ≡ k
-uncounted_kept s k xs x h = counts_still s k xs x (uncounted_step s k x h)
 
 -- ---- the shared place
 
@@ -98,32 +73,24 @@ shared_with k b x = go (ltb b 4) refl (ltb b 259) refl
     go false e true f = ap (λ (n : ℕ). eqb n 0) (put_elsewhere k.main (row_of b) (place_in b) x (placed b (ltb-false b 4 e) (ltb-true b 259 f)).own)
     go false e false f = refl
 
-shared_counted : (r t : Running) (k : Counts) → shared_zero (counted_after r t k).main ≡ shared_zero k.main
-unfolding counted_after one_more
-shared_counted running.Idle t k = refl
-shared_counted (running.Program l w) t k = refl
-shared_counted (running.Erase b done) t k = go (runs t)
+shared_after : (r t : Running) (k : Counts) → shared_zero (counts_after r t k).main ≡ shared_zero k.main
+unfolding counts_after one_more
+shared_after running.Idle t k = refl
+shared_after (running.Program l w) t k = refl
+shared_after (running.Erase b done) t k = go (runs t)
   where
     go : (v : Bool) → shared_zero (cond v k (with_count k b (min 65535 (count_of k b + 1)))).main ≡ shared_zero k.main
     go true = refl
     go false = shared_with k b (min 65535 (count_of k b + 1))
-shared_counted (running.Buffer l n done) t k = refl
-
-shared_after : (g : Geometry) (r t : Running) (k : Counts)
-    → shared_zero (counts_after g r t k).main ≡ shared_zero k.main
-unfolding counts_after
-shared_after g r t k =
-    of_cond (λ (m : Counts). shared_zero m.main ≡ shared_zero k.main) g.lockdown k (counted_after r t k) refl
-    (shared_counted r t k)
+shared_after (running.Buffer l n done) t k = refl
 
 shared_accepted : (s : State) (k : Counts) (x : Step) → shared_zero (accepted_counts s k x).main ≡ shared_zero k.main
 unfolding accepted_counts
 shared_accepted s k (Read address) = refl
 shared_accepted s k (Write address w) = refl
-shared_accepted s k (Work n) = shared_after (geometry s) s.control.activity.running _ k
+shared_accepted s k (Work n) = shared_after s.control.activity.running _ k
 shared_accepted s k (Supply on) = refl
 shared_accepted s k Reset = refl
-shared_accepted s k (Pin high) = refl
 
 pub shared_kept : (s : State) (k : Counts) (xs : List ℕ) (x : Step) → shared_zero (counts_with s k xs x).main ≡ shared_zero k.main
 unfolding counts_with
@@ -140,47 +107,6 @@ shared_all c (x ∷ l) = shared_all (after_with c x) l ∙ shared_kept c.machine
 pub fresh_shared : shared_zero no_counts.main ≡ true
 unfolding shared_zero count_at no_counts
 fresh_shared = refl
-
--- ---- whether the counts go with the part
-
--- the part stays
-part_accepted : (s : State) (xs : List ℕ) (x : Step) → (accepted s xs x).state.part ≡ s.part
-unfolding accepted switched_to ended written written_at worked_on worked power_up reset_of
-part_accepted s xs (Read address) = refl
-part_accepted s xs (Write address w) = refl
-part_accepted s xs (Work n) = refl
-part_accepted s xs (Supply on) = refl
-part_accepted s xs Reset = refl
-part_accepted s xs (Pin high) = refl
-
-pub part_with : (s : State) (k : Counts) (xs : List ℕ) (x : Step) → (step_with s k xs x).state.part ≡ s.part
-unfolding step_with
-part_with s k xs x =
-    of_cond (λ (n : Next). n.state.part ≡ s.part) (eqb (refusal_with s k (length xs) x) 0) (accepted s xs x) _
-    (part_accepted s xs x) refl
-
--- no step changes whether the counts go with it
-pub formed_kept : (s : State) (k : Counts) (xs : List ℕ) (x : Step) (p : Part) → p ≡ s.part
-    → counts_formed (geometry_of p) (counts_with s k xs x) ≡ counts_formed (geometry s) k
-unfolding counts_formed
-formed_kept s k xs x p e =
-    rw e
-    (by_test (geometry s).lockdown (λ h. rw (uncounted_kept s k xs x h)) (λ h. rw (h, shared_kept s k xs x)))
-
-pub formed_all : (c : Counted) (l : List Step)
-    → counts_formed (geometry (after_all_with c l).machine.state) (after_all_with c l).counts
-    ≡ counts_formed (geometry c.machine.state) c.counts
-formed_all c [] = refl
-formed_all c (x ∷ l) =
-    formed_all (after_with c x) l
-    ∙ formed_kept c.machine.state c.counts c.machine.array x _
-    (part_with c.machine.state c.counts c.machine.array x)
-
-pub fresh_formed : (p : Part) → counts_formed (geometry_of p) no_counts ≡ true
-unfolding counts_formed
-fresh_formed p =
-    of_cond (λ (b : Bool). b ≡ true) (geometry_of p).lockdown (none_counted no_counts) (shared_zero no_counts.main)
-    fresh_none fresh_shared
 
 -- ---- a refusal in its two parts
 
@@ -199,9 +125,9 @@ module _ (s : State) (k : Counts) (n : ℕ) where
   unfolding first_refusal
   length_refused h x = rw (refusal_first x, reset_with, ne_eqb n (words (geometry s)) h)
 
--- ---- where they do not go with it
+-- ---- where it is not 0
 
-module _ (s : State) (k : Counts) (bad : counts_formed (geometry s) k ≡ false) where
+module _ (s : State) (k : Counts) (bad : shared_zero k.main ≡ false) where
   formed_bad : formed_with s k ≡ false
   unfolding formed_with
   formed_bad = rw bad (go (well_formed s))
@@ -230,9 +156,9 @@ module _ (s : State) (k : Counts) (bad : counts_formed (geometry s) k ≡ false)
   unfolding erase_count_with
   bad_worn b = rw formed_bad
 
--- ---- where they go with it
+-- ---- where it is 0
 
-module _ (s : State) (k : Counts) (zero : counts_formed (geometry s) k ≡ true) where
+module _ (s : State) (k : Counts) (zero : shared_zero k.main ≡ true) where
   pub formed_alone : formed_with s k ≡ well_formed s
   unfolding formed_with
   formed_alone = rw zero (go (well_formed s))
@@ -258,49 +184,27 @@ module _ (s : State) (k : Counts) (zero : counts_formed (geometry s) k ≡ true)
   unfolding reported_with reported_of
   report_alone = rw formed_alone
 
--- on the part whose erases are not counted, a list leaves the counts
-pub uncounted_all : (c : Counted) (l : List Step) → (geometry c.machine.state).lockdown ≡ true
-    → (after_all_with c l).counts ≡ c.counts
-uncounted_all c [] h = refl
-uncounted_all c (x ∷ l) h =
-    uncounted_all (after_with c x) l (rw (part_with c.machine.state c.counts c.machine.array x) h)
-    ∙ uncounted_kept c.machine.state c.counts c.machine.array x h
-
--- the counts of a device with them go with its part
-abbrev pub Goes : Counted → Type 0
-Goes c = counts_formed (geometry c.machine.state) c.counts ≡ true
-
-pub fresh_goes : (p : Part) (xs : List ℕ) → Goes (fresh_with p xs)
-unfolding power_up
-fresh_goes p xs = fresh_formed p
-
-pub goes_after : (c : Counted) (x : Step) → Goes c → Goes (after_with c x)
-goes_after c x z =
-    formed_kept c.machine.state c.counts c.machine.array x _
-    (part_with c.machine.state c.counts c.machine.array x) ∙ z
-
-pub after_alone : (c : Counted) (x : Step) → Goes c → (after_with c x).machine ≡ after c.machine x
+pub after_alone : (c : Counted) (x : Step) → shared_zero c.counts.main ≡ true → (after_with c x).machine ≡ after c.machine x
 after_alone c x z = λ j. record {
   state = (step_alone c.machine.state c.counts z c.machine.array x j).state;
   array = array_alone c.machine.state c.counts z c.machine.array x j;
 }
 
 -- and so is a list of them, with its answers: what is proved of the device alone holds of the device with its counts
-pub all_alone : (c : Counted) (l : List Step) → Goes c → (after_all_with c l).machine ≡ after_all c.machine l
+pub all_alone : (c : Counted) (l : List Step) → shared_zero c.counts.main ≡ true → (after_all_with c l).machine ≡ after_all c.machine l
 all_alone c [] z = refl
 all_alone c (x ∷ l) z =
-    all_alone (after_with c x) l (goes_after c x z) ∙ ap (λ (m : Machine). after_all m l) (after_alone c x z)
+    all_alone (after_with c x) l (shared_kept c.machine.state c.counts c.machine.array x ∙ z) ∙ ap (λ (m : Machine). after_all m l) (after_alone c x z)
 
 -- so what becomes of the device and the array does not depend on the counts
-pub all_same : (c d : Counted) (l : List Step) → Goes c → Goes d → c.machine ≡ d.machine
-    → (after_all_with c l).machine ≡ (after_all_with d l).machine
+pub all_same : (c d : Counted) (l : List Step) → shared_zero c.counts.main ≡ true → shared_zero d.counts.main ≡ true → c.machine ≡ d.machine → (after_all_with c l).machine ≡ (after_all_with d l).machine
 all_same c d l z w e = all_alone c l z ∙ ap (λ (m : Machine). after_all m l) e ∙ sym (all_alone d l w)
 
-pub answers_alone : (c : Counted) (l : List Step) → Goes c → answers_with c l ≡ answers_of c.machine l
+pub answers_alone : (c : Counted) (l : List Step) → shared_zero c.counts.main ≡ true → answers_with c l ≡ answers_of c.machine l
 answers_alone c [] z = refl
 answers_alone c (x ∷ l) z =
     (λ j. (step_alone c.machine.state c.counts z c.machine.array x j).answer
-    ∷ (answers_alone (after_with c x) l (goes_after c x z) ∙ ap (λ (m : Machine). answers_of m l) (after_alone c x z)) j)
+    ∷ (answers_alone (after_with c x) l (shared_kept c.machine.state c.counts c.machine.array x ∙ z) ∙ ap (λ (m : Machine). answers_of m l) (after_alone c x z)) j)
 
 -- ---- a step that is refused, and one that is not
 
@@ -332,18 +236,14 @@ moved_by k s c (inl h) =
 moved_by k s c (inr h) = subst (λ (m : Counts). Moved k m) (sym (no_block k c _ h)) (moved_not k)
 
 pub one_count : (s : State) (k : Counts) → Shaped k → (xs : List ℕ) (x : Step) → Moved k (counts_with s k xs x)
-unfolding counts_with accepted_counts counted_after counts_after
+unfolding counts_with accepted_counts counts_after
 one_count s k f xs x = of_cond (Moved k) (eqb (refusal_with s k (length xs) x) 0) (accepted_counts s k x) k (go x) (moved_not k)
   where
-    counted : (r t : Running) → Moved k (counted_after r t k)
-    counted running.Idle t = moved_not k
-    counted (running.Program l w) t = moved_not k
-    counted (running.Erase b done) t =
-        of_cond (Moved k) (runs t) k (one_more k b) (moved_not k) (moved_by k f b (order b 259))
-    counted (running.Buffer l n done) t = moved_not k
-
-    work : (r t : Running) → Moved k (counts_after (geometry s) r t k)
-    work r t = of_cond (Moved k) (geometry s).lockdown k (counted_after r t k) (moved_not k) (counted r t)
+    work : (r t : Running) → Moved k (counts_after r t k)
+    work running.Idle t = moved_not k
+    work (running.Program l w) t = moved_not k
+    work (running.Erase b done) t = of_cond (Moved k) (runs t) k (one_more k b) (moved_not k) (moved_by k f b (order b 259))
+    work (running.Buffer l n done) t = moved_not k
 
     go : (y : Step) → Moved k (accepted_counts s k y)
     go (Read address) = moved_not k
@@ -351,4 +251,3 @@ one_count s k f xs x = of_cond (Moved k) (eqb (refusal_with s k (length xs) x) 0
     go (Work n) = work s.control.activity.running _
     go (Supply on) = moved_not k
     go Reset = moved_not k
-    go (Pin high) = moved_not k

@@ -1,32 +1,31 @@
--- Cases of the reports, of refused steps whole, and of the full parts: document 02, items 6 and 8. The checker computes
--- them: a rule that is written down wrong makes a case fail.
+-- Cases of the reports, of refused steps whole, and of the full parts: document 02, item 6. The checker computes them: a rule that is written down wrong makes a case fail.
 -- Assumes nothing.
 use Rattle.std.specs.Prelude.{ℕ, ◌<◌, true, false, List, [], ◌∷◌, ◌++◌, map, ◌≡◌, refl, replicate}
 use Rattle.std.proofs.Common.{arith}
 use Rattle.geometry.specs.declared.Part.{Part}
-use Rattle.geometry.specs.declared.Part.TheVariants.{FullBottom, FullTop, BenchBottom, BenchTop, Wt032kb}
+use Rattle.geometry.specs.declared.Part.TheVariants.{FullBottom, FullTop, BenchBottom, BenchTop}
 use Rattle.geometry.specs.Blocks.{geometry_of, blocks, mirror, block_from, block_of, bank_of, size_of, start_from, start_of}
-use Rattle.protection.specs.Words.{bit, bit_at, is_set, with_set, is_held, is_programmable, relocked, lock_of, with_down, with_lock, spare_zero, all_protected, count, least, programmable_count, lowest_programmable, report_of}
+use Rattle.protection.specs.Words.{bit, bit_at, is_unprotected, with_unprotected, spare_zero, all_protected, count, least, unprotected_count, lowest_unprotected, report_of}
 use Rattle.semantics.specs.declared.Step.{Step}
-use Rattle.semantics.specs.declared.Step.TheVariants.{Read, Write, Work, Supply, Reset, Pin}
+use Rattle.semantics.specs.declared.Step.TheVariants.{Read, Write, Work, Supply, Reset}
 use Rattle.semantics.specs.declared.Answer.{Answer}
 use Rattle.semantics.specs.declared.Answer.TheVariants.{Refused}
 use Rattle.semantics.specs.declared.State.{State}
 use Rattle.semantics.specs.declared.Reported.{Reported}
-use Rattle.semantics.specs.State.{empty_buffer, power_up, with_locks, with_pin}
+use Rattle.semantics.specs.State.{empty_buffer, power_up}
 use Rattle.semantics.specs.Register.{without_reserved, reserved_zero}
 use Rattle.semantics.specs.Supply.{end_flags, ended, ended_if_unsupplied, switched}
-use Rattle.semantics.specs.WellFormed.{running_alone, program_alone, erase_alone, erase_fits, words_fit, buffer_fits, setup_fits, running_fits, program_fits, suspended_erase_fits, all_fit, running_apart, program_apart, apart, activity_formed, setup_places, running_places, program_places, places_used, zero_from, array_from, unused_in, runs_supplied, well_formed}
+use Rattle.semantics.specs.WellFormed.{running_alone, program_alone, erase_alone, erase_fits, words_fit, buffer_fits, setup_fits, running_fits, program_fits, suspended_erase_fits, all_fit, running_apart, program_apart, apart, activity_formed, setup_places, running_places, program_places, places_used, zero_from, runs_supplied, well_formed}
 use Rattle.semantics.specs.Writing.{command_of, resume, accepts, set_up, clear_status, first_cycle, program_runs, erase_cycle, lock_command_of, lock_cycle, settle, loads, count_right, first_right, later_right, confirm_right, confirm_cycle, words_cycle, cycle, kept_if, first_loaded, words_loaded, held_after, loaded, written_at, written}
 use Rattle.semantics.specs.Working.{units_left, units_done, running_after, buffer_after, worked_on, worked}
 use Rattle.semantics.specs.Card.{given, card}
-use Rattle.semantics.specs.Steps.{switched_to, reset_of, accepted}
+use Rattle.semantics.specs.Steps.{switched_to, accepted}
 use Rattle.semantics.specs.Recorder.{journal_of}
 use Rattle.wear.specs.declared.Worn.{Worn}
-use Rattle.wear.specs.Counts.{Counts, lent, row_of, place_in, count_at, count_of, shared_zero, every, all_zero, none_counted, counts_formed, no_counts, put_at, with_count, one_more, counted_after, counts_after, greatest, most_worn}
+use Rattle.wear.specs.Counts.{Counts, lent, row_of, place_in, count_at, count_of, shared_zero, no_counts, put_at, with_count, one_more, counts_after, greatest, most_worn}
 use Rattle.wear.specs.Steps.{formed_with, refusal_with, accepted_counts, step_with, array_with, counts_with, reported_with, most_worn_with, erase_count_with, Counted, beside, answer_with, after_with}
 use Rattle.wear.specs.Claim.{finished_erases, CountsStand}
-use Rattle.wear.specs.CountCases.{up, rows, at, smalls, spread, counts_not_0, shared_not_0}
+use Rattle.wear.specs.CountCases.{up, rows, at, smalls, spread}
 use Rattle.wear.specs.WearCases.{zero_four, one_nineteen, none, four, erasing, waiting, unsupplied, unprotected, steps_of, six_a, six_b}
 
 -- ---- "It reports the most worn block, the lowest number on a tie"
@@ -80,10 +79,6 @@ reported r n b = record { refusal = r; count = n; lowest = b }
 abbrev two_unprotected : State
 two_unprotected = unprotected (erasing BenchBottom 4 63)
 
--- of the part with lock-down: blocks 1, 6 and 70 unprotected, and of these 1 locked down
-abbrev pub one_down : State
-one_down = with_locks (power_up Wt032kb) (0x42 ∷ 64 ∷ 2 ∷ 0 ∷ 0 ∷ [])
-
 -- a state with its counts
 pub data Told : Type 0 where
   by : State → Counts → Told
@@ -93,14 +88,6 @@ abbrev pub refusals : List Told
 refusals =
     by unsupplied none ∷ by unsupplied (four 3) ∷ by two_unprotected (at 0 0 1) ∷ by (power_up BenchBottom) (at 0 0 65535) ∷ by (power_up FullTop) spread ∷ by (waiting FullBottom 4 63) spread ∷ by unsupplied (at 0 0 1)
     ∷ by (erasing BenchBottom 4 64) none ∷ by (erasing FullBottom 259 0) none ∷ []
-
--- document 02, item 8: "a count not 0 is refused 2": in the shared place, in the first place and the last, in a small
--- one, in a place that is no block's; and a state that is not well formed for its spare digits
-abbrev pub refusals_down : List Told
-refusals_down =
-    by one_down (at 0 0 1) ∷ by one_down (at 0 1 1) ∷ by one_down (at 15 15 1) ∷ by one_down (smalls 1 0 0 0)
-    ∷ by one_down (smalls 0 0 0 65535) ∷ by (power_up Wt032kb) (at 4 4 1) ∷ by (with_pin one_down true) (four 3)
-    ∷ by (erasing Wt032kb 4 32767) (at 0 1 1) ∷ by (unprotected (power_up Wt032kb)) none ∷ []
 
 abbrev open_of : Told → Reported
 open_of (by s k) = reported_with s k
@@ -113,41 +100,22 @@ counted_of b (by s k) = erase_count_with s k b
 
 -- "A refusal gives its number beside the answer 0": the three reports, of a state that is not well formed and "also when the shared place is not 0"
 pub reports_refused : (map open_of refusals ≡ replicate 9 (reported 2 0 0)) × (map most_of refusals ≡ replicate 9 (worn 2 0 0)) × (map (counted_of 4) refusals ≡ replicate 9 (worn 2 0 0))
-unfolding mirror block_from block_of size_of start_from start_of bit spare_zero all_protected empty_buffer power_up running_alone program_alone erase_alone erase_fits words_fit buffer_fits setup_fits running_fits program_fits suspended_erase_fits all_fit running_apart program_apart apart activity_formed setup_places running_places program_places places_used zero_from array_from unused_in reserved_zero runs_supplied well_formed count_at shared_zero every all_zero none_counted counts_formed no_counts formed_with reported_with most_worn_with erase_count_with
+unfolding mirror block_from block_of size_of start_from start_of bit spare_zero all_protected empty_buffer power_up running_alone program_alone erase_alone erase_fits words_fit buffer_fits setup_fits running_fits program_fits suspended_erase_fits all_fit running_apart program_apart apart activity_formed setup_places running_places program_places places_used zero_from reserved_zero runs_supplied well_formed count_at shared_zero no_counts formed_with reported_with most_worn_with erase_count_with
 reports_refused = (refl, refl, refl)
-
-pub reports_refused_down : (map open_of refusals_down ≡ replicate 9 (reported 2 0 0))
-    × (map most_of refusals_down ≡ replicate 9 (worn 2 0 0))
-    × (map (counted_of 4) refusals_down ≡ replicate 9 (worn 2 0 0))
-unfolding mirror block_from block_of size_of start_from start_of bit spare_zero all_protected empty_buffer power_up running_alone program_alone erase_alone erase_fits words_fit buffer_fits setup_fits running_fits program_fits suspended_erase_fits all_fit running_apart program_apart apart activity_formed setup_places running_places program_places places_used zero_from array_from unused_in reserved_zero runs_supplied well_formed count_at shared_zero every all_zero none_counted counts_formed no_counts formed_with reported_with most_worn_with erase_count_with
-reports_refused_down = (refl, refl, refl)
 
 -- else they report: the unprotected blocks and the lowest of them, 259 if none; the most worn block with its count; the count of the block that is asked for
 pub reports_hold : (map open_of (by two_unprotected none ∷ by two_unprotected (four 9) ∷ by (power_up FullTop) (smalls 1 1 1 1) ∷ by (waiting BenchTop 4 63) (at 1 0 1) ∷ []) ≡ reported 0 2 1 ∷ reported 0 2 1 ∷ reported 0 0 259 ∷ reported 0 0 259 ∷ [])
     × (map most_of (by two_unprotected (four 9) ∷ by (power_up FullTop) (smalls 1 1 1 1) ∷ [])
     ≡ worn 0 4 9 ∷ worn 0 0 1 ∷ [])
-unfolding mirror block_from block_of size_of start_from start_of bit bit_at is_set is_held is_programmable lock_of spare_zero all_protected count least programmable_count lowest_programmable report_of empty_buffer power_up running_alone program_alone erase_alone erase_fits words_fit buffer_fits setup_fits running_fits program_fits suspended_erase_fits all_fit running_apart program_apart apart activity_formed setup_places running_places program_places places_used zero_from array_from unused_in reserved_zero runs_supplied well_formed count_at shared_zero every all_zero none_counted counts_formed no_counts formed_with reported_with most_worn_with row_of place_in count_of greatest most_worn
+unfolding mirror block_from block_of size_of start_from start_of bit bit_at spare_zero all_protected count least unprotected_count lowest_unprotected report_of empty_buffer power_up running_alone program_alone erase_alone erase_fits words_fit buffer_fits setup_fits running_fits program_fits suspended_erase_fits all_fit running_apart program_apart apart activity_formed setup_places running_places program_places places_used zero_from reserved_zero runs_supplied well_formed count_at shared_zero no_counts formed_with reported_with most_worn_with row_of place_in count_of greatest most_worn
 reports_hold = (refl, refl)
-
--- document 02, item 8: "The open report counts programmable blocks, 71 if none", and with the pin high those locked
--- down too; the most worn block is block 0, with 0, and every count asked for is 0
-pub reports_down : (map open_of
-    (by (power_up Wt032kb) none ∷ by (with_pin (power_up Wt032kb) true) none ∷ by one_down none
-    ∷ by (with_pin one_down true) none ∷ [])
-    ≡ reported 0 0 71 ∷ reported 0 0 71 ∷ reported 0 2 6 ∷ reported 0 3 1 ∷ [])
-    × (map most_of (by (power_up Wt032kb) none ∷ by one_down none ∷ by (erasing Wt032kb 70 32767) none ∷ [])
-    ≡ replicate 3 (worn 0 0 0))
-    × (map (λ b. erase_count_with one_down none b) (0 ∷ 3 ∷ 4 ∷ 70 ∷ 71 ∷ 258 ∷ [])
-    ≡ worn 0 0 0 ∷ worn 0 3 0 ∷ worn 0 4 0 ∷ worn 0 70 0 ∷ worn 0 71 0 ∷ worn 0 258 0 ∷ [])
-unfolding mirror block_from block_of size_of start_from start_of bit bit_at is_set is_held is_programmable lock_of spare_zero all_protected count least programmable_count lowest_programmable report_of empty_buffer power_up running_alone program_alone erase_alone erase_fits words_fit buffer_fits setup_fits running_fits program_fits suspended_erase_fits all_fit running_apart program_apart apart activity_formed setup_places running_places program_places places_used zero_from array_from unused_in reserved_zero runs_supplied well_formed count_at shared_zero every all_zero none_counted counts_formed no_counts formed_with reported_with most_worn_with row_of place_in count_of greatest most_worn erase_count_with
-reports_down = (refl, refl, refl)
 
 -- 1000 + b of block b, and 0 of a number that is no block
 abbrev spread_zero : Counts
 spread_zero = lent ((0 ∷ up 15 1004) ∷ rows 15 1019) (up 4 1000)
 
 pub asked_hold : map (erase_count_with two_unprotected spread_zero) (0 ∷ 3 ∷ 4 ∷ 18 ∷ 19 ∷ 258 ∷ 259 ∷ 1000 ∷ []) ≡ worn 0 0 1000 ∷ worn 0 3 1003 ∷ worn 0 4 1004 ∷ worn 0 18 1018 ∷ worn 0 19 1019 ∷ worn 0 258 1258 ∷ worn 0 259 0 ∷ worn 0 1000 0 ∷ []
-unfolding mirror block_from block_of size_of start_from start_of bit spare_zero all_protected empty_buffer power_up running_alone program_alone erase_alone erase_fits words_fit buffer_fits setup_fits running_fits program_fits suspended_erase_fits all_fit running_apart program_apart apart activity_formed setup_places running_places program_places places_used zero_from array_from unused_in reserved_zero runs_supplied well_formed row_of place_in count_at count_of shared_zero every all_zero none_counted counts_formed formed_with erase_count_with
+unfolding mirror block_from block_of size_of start_from start_of bit spare_zero all_protected empty_buffer power_up running_alone program_alone erase_alone erase_fits words_fit buffer_fits setup_fits running_fits program_fits suspended_erase_fits all_fit running_apart program_apart apart activity_formed setup_places running_places program_places places_used zero_from reserved_zero runs_supplied well_formed row_of place_in count_at count_of shared_zero formed_with erase_count_with
 asked_hold = refl
 
 -- ---- "A refusal gives its number beside the answer 0, gives back the state it got and leaves all lent memory": the state, the array and the counts after each kind of step
@@ -167,9 +135,9 @@ number_of (refused r c x) = Refused r
 abbrev pub given_of : Refusal → Counted
 given_of (refused r c x) = c
 
--- each of the six kinds of step, those of one word or more on an erase that has one word left
+-- each of the five kinds of step, those of one word or more on an erase that has one word left
 abbrev each : ℕ → Counted → List Refusal
-each r c = refused r c (Read 0) ∷ refused r c (Write 0 0xB0) ∷ refused r c (Work 1) ∷ refused r c (Work 65536) ∷ refused r c (Supply false) ∷ refused r c Reset ∷ refused r c (Pin true) ∷ refused r c (Pin false) ∷ refused r c (Write 0x1000000 0xB0) ∷ []
+each r c = refused r c (Read 0) ∷ refused r c (Write 0 0xB0) ∷ refused r c (Work 1) ∷ refused r c (Work 65536) ∷ refused r c (Supply false) ∷ refused r c Reset ∷ refused r c (Write 0x1000000 0xB0) ∷ []
 
 abbrev pub refusals_whole : List Refusal
 refusals_whole =
@@ -177,27 +145,10 @@ refusals_whole =
     ++ each 1 (beside two_unprotected (replicate 16385 0x1234) spread_zero) ++ each 1 (beside two_unprotected [] (four 1))
     ++ refused 4 (beside two_unprotected (replicate 16384 0x1234) spread_zero) (Work 65536) ∷ refused 3 (beside two_unprotected (replicate 16384 0x1234) spread_zero) (Read 0x1000000)
     ∷ refused 3 (beside two_unprotected (replicate 16384 0x1234) spread_zero) (Write 0x1000000 0xB0) ∷ []
-    ++ each 1 (beside one_down (replicate 16384 0x1234) (four 1))
 
 pub refusals_hold : (map answer_of refusals_whole ≡ map number_of refusals_whole) × (map left_of refusals_whole ≡ map given_of refusals_whole)
-unfolding mirror block_from block_of size_of start_from start_of bit spare_zero all_protected empty_buffer power_up running_alone program_alone erase_alone erase_fits words_fit buffer_fits setup_fits running_fits program_fits suspended_erase_fits all_fit running_apart program_apart apart activity_formed setup_places running_places program_places places_used zero_from array_from unused_in reserved_zero runs_supplied well_formed given card count_at shared_zero every all_zero none_counted counts_formed formed_with refusal_with step_with array_with counts_with
+unfolding mirror block_from block_of size_of start_from start_of bit spare_zero all_protected empty_buffer power_up running_alone program_alone erase_alone erase_fits words_fit buffer_fits setup_fits running_fits program_fits suspended_erase_fits all_fit running_apart program_apart apart activity_formed setup_places running_places program_places places_used zero_from reserved_zero runs_supplied well_formed given card count_at shared_zero formed_with refusal_with step_with array_with counts_with
 refusals_hold = (refl, refl)
-
--- of the part with lock-down, beside 2,097,152 words: each kind of step is refused 2 for one count that is not 0, and,
--- with all of them 0, for its own numbers alone; 1 first
-abbrev kinds_of : State → Counts → ℕ → List ℕ
-kinds_of s k n =
-    map (refusal_with s k n)
-    (Read 0 ∷ Write 0 0xFF ∷ Work 1 ∷ Supply true ∷ Reset ∷ Pin true ∷ Pin false ∷ Read 0x1000000 ∷ Work 65536 ∷ [])
-
-pub counts_refused : (map (λ k. kinds_of one_down k 2097152) (shared_not_0 ++ counts_not_0)
-    ≡ replicate 18 (replicate 9 2))
-    × (kinds_of one_down none 2097152 ≡ replicate 7 0 ++ 3 ∷ 4 ∷ [])
-    × (kinds_of one_down (four 1) 2097151 ≡ replicate 9 1)
-    × (map (λ k. kinds_of two_unprotected k 16384) counts_not_0 ≡ replicate 14 (replicate 7 0 ++ 3 ∷ 4 ∷ []))
-    × (map (λ k. kinds_of two_unprotected k 16384) shared_not_0 ≡ replicate 4 (replicate 9 2))
-unfolding mirror block_from block_of size_of start_from start_of bit spare_zero all_protected empty_buffer power_up running_alone program_alone erase_alone erase_fits words_fit buffer_fits setup_fits running_fits program_fits suspended_erase_fits all_fit running_apart program_apart apart activity_formed setup_places running_places program_places places_used zero_from array_from unused_in reserved_zero runs_supplied well_formed given card count_at shared_zero every all_zero none_counted counts_formed formed_with refusal_with step_with array_with counts_with no_counts
-counts_refused = (refl, refl, refl, refl, refl)
 
 -- ---- the full parts: no array is needed for the counts of a step that is accepted
 
@@ -215,9 +166,8 @@ abbrev last : Part → ℕ → ℕ → Counts → List Move
 last p b n k =
     moves (erasing p b n) none (Work 1) k ∷ moves (erasing p b n) none (Work 65535) k ∷ moves (erasing p b n) none (Work 0) none ∷ moves (erasing p b n) none (Read 0) none
     ∷ moves (erasing p b n) none (Write 0 0xB0) none ∷ moves (erasing p b n) none (Supply false) none ∷ moves (erasing p b n) none (Supply true) none ∷ moves (erasing p b n) none Reset none
-    ∷ moves (erasing p b n) none (Pin true) none ∷ moves (erasing p b n) none (Pin false) none
     ∷ moves (erasing p b n) spread (Read 0) spread ∷ moves (erasing p b n) spread (Write 0 0xB0) spread ∷ moves (erasing p b n) spread (Supply false) spread ∷ moves (erasing p b n) spread (Supply true) spread
-    ∷ moves (erasing p b n) spread Reset spread ∷ moves (erasing p b n) spread (Pin true) spread
+    ∷ moves (erasing p b n) spread Reset spread
     ∷ moves (waiting p b n) none (Work 1) none ∷ moves (waiting p b n) none (Write 0 0xD0) none ∷ moves (waiting p b n) spread Reset spread ∷ []
 
 abbrev pub fulls : List Move
@@ -229,12 +179,9 @@ fulls =
     ∷ moves (erasing FullBottom 2 0) none (Work 16383) none ∷ moves (erasing FullBottom 2 0) none (Work 16384) (smalls 0 0 1 0) ∷ moves (erasing BenchBottom 2 0) none (Work 15) none ∷ moves (erasing BenchTop 2 0) none (Work 16) (smalls 0 0 1 0)
     ∷ moves (erasing FullTop 258 65535) (at 15 15 65534) (Work 1) (at 15 15 65535) ∷ moves (erasing FullTop 258 65535) (at 15 15 65535) (Work 1) (at 15 15 65535)
     ∷ moves (power_up FullTop) spread (Work 65535) spread ∷ []
-    -- document 02, item 8: "wear is not counted": small blocks and others, to the last
-    ++ last Wt032kb 0 4095 none ++ last Wt032kb 7 4095 none ++ last Wt032kb 8 32767 none ++ last Wt032kb 70 32767 none
-    ++ moves (erasing Wt032kb 8 0) none (Work 32768) none ∷ moves (erasing Wt032kb 70 32767) spread (Work 1) spread ∷ []
 
 pub fulls_hold : map after fulls ≡ map said fulls
-unfolding size_of all_protected empty_buffer power_up units_left units_done running_after row_of place_in count_at count_of put_at with_count one_more counted_after counts_after accepted_counts
+unfolding size_of all_protected empty_buffer power_up units_left units_done running_after row_of place_in count_at count_of put_at with_count one_more counts_after accepted_counts
 fulls_hold = refl
 
 -- steps that are accepted, from power-up with no array
@@ -251,50 +198,23 @@ pub goes_hold : (goes (power_up FullBottom) none (erases 0x100000 ++ Work 65535 
     × (goes (power_up FullTop) none (erases 0xFFFFFF ++ Work 16383 ∷ Write 0 0xB0 ∷ Write 0 0xD0 ∷ Work 65535 ∷ erases 0xFFFFFF ++ Work 65535 ∷ Reset ∷ []) ≡ smalls 2 0 0 0)
     × (goes (power_up FullTop) none (erases 0x0 ++ Work 65535 ∷ Reset ∷ Work 1 ∷ []) ≡ none)
     × (goes (power_up FullTop) none (erases 0x0 ++ Work 65535 ∷ Supply false ∷ Supply true ∷ Work 1 ∷ []) ≡ none)
-    -- the pin changes no count; and 8b of the part with lock-down: the last block erased, small blocks too
-    × (goes (power_up FullTop) none
-    (Pin true ∷ erases 0xFFFFFF ++ Pin false ∷ Work 16383 ∷ Pin true ∷ Work 1 ∷ Pin false ∷ []) ≡ smalls 1 0 0 0)
-    × (goes (power_up Wt032kb) none
-    (Pin true ∷ erases 0x1FFFFF ++ Work 65535 ∷ erases 0x0 ++ Work 65535 ∷ erases 0x8000 ++ Work 65535 ∷ Pin false ∷ [])
-    ≡ none)
-unfolding mirror block_from block_of bank_of size_of start_from start_of bit bit_at is_set with_set is_held is_programmable relocked lock_of with_down with_lock all_protected empty_buffer power_up command_of end_flags ended ended_if_unsupplied resume accepts set_up clear_status first_cycle program_runs erase_cycle lock_command_of without_reserved lock_cycle settle loads count_right first_right later_right confirm_right confirm_cycle words_cycle cycle kept_if first_loaded words_loaded held_after loaded written_at written units_left units_done running_after buffer_after worked_on worked switched switched_to reset_of accepted row_of place_in count_at count_of put_at with_count one_more counted_after counts_after accepted_counts
-goes_hold = (refl, refl, refl, refl, refl, refl, refl)
+unfolding mirror block_from block_of bank_of size_of start_from start_of bit bit_at is_unprotected with_unprotected all_protected empty_buffer power_up command_of end_flags ended ended_if_unsupplied resume accepts set_up clear_status first_cycle program_runs erase_cycle lock_command_of without_reserved lock_cycle settle loads count_right first_right later_right confirm_right confirm_cycle words_cycle cycle kept_if first_loaded words_loaded held_after loaded written_at written units_left units_done running_after buffer_after worked_on worked switched switched_to accepted row_of place_in count_at count_of put_at with_count one_more counts_after accepted_counts
+goes_hold = (refl, refl, refl, refl, refl)
 
 -- ---- the journals of 6a and 6b, and what the claim says of them
 
 pub journals_hold : (map (λ b. finished_erases b (journal_of (geometry_of BenchBottom) (steps_of six_a))) (0 ∷ 1 ∷ 3 ∷ 4 ∷ 5 ∷ 258 ∷ []) ≡ 1 ∷ 0 ∷ 0 ∷ 2 ∷ 0 ∷ 0 ∷ [])
     × (map (λ b. finished_erases b (journal_of (geometry_of BenchBottom) (steps_of six_b))) (0 ∷ 1 ∷ 4 ∷ 18 ∷ 19 ∷ 258 ∷ []) ≡ 0 ∷ 1 ∷ 0 ∷ 0 ∷ 1 ∷ 0 ∷ [])
-unfolding mirror block_from block_of size_of start_from start_of is_held is_programmable relocked
+unfolding mirror block_from block_of size_of start_from start_of
 journals_hold = (refl, refl)
-
--- 8b: the journal has the finished erase, of which there is no count
-abbrev eight_b : List Step
-eight_b =
-    Pin true ∷ Supply true ∷ Reset ∷ Write 0x1FFFFF 0x60 ∷ Write 0x1FFFFF 0x2F
-    ∷ Write 0x1FFFFF 0x60 ∷ Write 0x1FFFFF 0xD0 ∷ Write 0x1FFFFF 0x20 ∷ Write 0x1FFFFF 0xD0 ∷ Work 65535 ∷ []
-
-pub journal_down : map (λ b. finished_erases b (journal_of (geometry_of Wt032kb) eight_b)) (0 ∷ 69 ∷ 70 ∷ [])
-    ≡ 0 ∷ 0 ∷ 1 ∷ []
-unfolding mirror block_from block_of size_of start_from start_of is_held is_programmable relocked
-journal_down = refl
-
-pub claim_down : (k : Counts) → CountsStand Wt032kb eight_b k
-    → (count_of k 0 ≡ 0) × (count_of k 70 ≡ 0) × (shared_zero k.main ≡ true) × (k ≡ no_counts)
-claim_down k c = (c.count 0 (omega arith), c.count 70 (omega arith), c.shared, c.uncounted refl)
 
 -- "each count is the lesser of 65,535 and the number of finished erases of that block in the journal", and the shared place is 0
 pub claim_says : (k : Counts) → CountsStand BenchBottom (steps_of six_a) k → (count_of k 0 ≡ 1) × (count_of k 3 ≡ 0) × (count_of k 4 ≡ 2) × (count_of k 258 ≡ 0) × (shared_zero k.main ≡ true)
-unfolding mirror block_from block_of size_of start_from start_of is_held is_programmable relocked
+unfolding mirror block_from block_of size_of start_from start_of
 claim_says k c = (c.count 0 (omega arith), c.count 3 (omega arith), c.count 4 (omega arith), c.count 258 (omega arith), c.shared)
 
 -- at 65,534, 65,535, 65,536 and 100,000 finished erases in the journal
-pub claim_limit : (p : Part) (l : List Step) (k : Counts) (b : ℕ) → (geometry_of p).lockdown ≡ false
-    → b < blocks (geometry_of p) → CountsStand p l k
+pub claim_limit : (p : Part) (l : List Step) (k : Counts) (b : ℕ) → b < blocks (geometry_of p) → CountsStand p l k
     → (finished_erases b (journal_of (geometry_of p) l) ≡ 65534 → count_of k b ≡ 65534) × (finished_erases b (journal_of (geometry_of p) l) ≡ 65535 → count_of k b ≡ 65535)
     × (finished_erases b (journal_of (geometry_of p) l) ≡ 65536 → count_of k b ≡ 65535) × (finished_erases b (journal_of (geometry_of p) l) ≡ 100000 → count_of k b ≡ 65535)
-claim_limit p l k b d h c = (
-  λ e. rw (d, e) at (c.count b h),
-  λ e. rw (d, e) at (c.count b h),
-  λ e. rw (d, e) at (c.count b h),
-  λ e. rw (d, e) at (c.count b h),
-)
+claim_limit p l k b h c = (λ e. rw e at (c.count b h), λ e. rw e at (c.count b h), λ e. rw e at (c.count b h), λ e. rw e at (c.count b h))

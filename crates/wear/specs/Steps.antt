@@ -1,12 +1,12 @@
--- The six steps of a device with its counts beside it, a list of them, and the reports: document 02, items 6 and 8.
--- What the step makes of the device is the definition of semantics; the counts add one refusal, and count the erases
--- that finish.
+-- The five steps of a device with its counts beside it, a list of them, and the reports: document 02, item 6. What the step makes of the device is the definition of
+-- semantics; the counts add one refusal, and count the erases that finish.
 -- Assumes nothing.
 use Rattle.std.specs.Prelude.{ℕ, Bool, cond, ◌&&◌, List, [], ◌∷◌, eqb, length}
 use Rattle.geometry.specs.declared.Part.{Part}
+use Rattle.protection.specs.Words.{report_of}
 use Rattle.semantics.specs.declared.State.{State}
 use Rattle.semantics.specs.declared.Step.{Step}
-use Rattle.semantics.specs.declared.Step.TheVariants.{Read, Write, Work, Supply, Reset, Pin}
+use Rattle.semantics.specs.declared.Step.TheVariants.{Read, Write, Work, Supply, Reset}
 use Rattle.semantics.specs.declared.Answer.{Answer}
 use Rattle.semantics.specs.declared.Answer.TheVariants.{Refused}
 use Rattle.semantics.specs.declared.Next.{Next}
@@ -15,16 +15,15 @@ use Rattle.semantics.specs.State.{geometry}
 use Rattle.semantics.specs.WellFormed.{well_formed}
 use Rattle.semantics.specs.Working.{units_done, running_after}
 use Rattle.semantics.specs.Card.{given, card}
-use Rattle.semantics.specs.Steps.{next, accepted, accepted_array, reported, Machine, fresh}
+use Rattle.semantics.specs.Steps.{next, accepted, accepted_array, Machine, fresh}
 use Rattle.wear.specs.declared.Worn.{Worn}
-use Rattle.wear.specs.Counts.{Counts, count_of, counts_formed, no_counts, counts_after, most_worn}
+use Rattle.wear.specs.Counts.{Counts, count_of, shared_zero, no_counts, counts_after, most_worn}
 
 -- ---- refusals
 
--- "Refusals: 2 as before, also when the shared place is not 0"; document 02, item 8: "wear is not counted: .. a count
--- not 0 is refused 2". The one rule, by which all that take a device with its counts give 2
+-- "Refusals: 2 as before, also when the shared place is not 0": the one rule, by which all that take a device with its counts give 2
 unfoldable pub formed_with : State → Counts → Bool
-formed_with s k = well_formed s && counts_formed (geometry s) k
+formed_with s k = well_formed s && shared_zero k.main
 
 -- the refusal of a step on an array of n words, 0 where there is none: the card's
 unfoldable pub refusal_with : State → Counts → ℕ → Step → ℕ
@@ -37,10 +36,9 @@ unfoldable pub accepted_counts : State → Counts → Step → Counts
 accepted_counts s k (Read address) = k
 accepted_counts s k (Write address w) = k
 accepted_counts s k (Work n) =
-    counts_after (geometry s) s.control.activity.running (running_after (geometry s) s.control.activity.running (units_done (geometry s) s.control.activity.running n)) k
+    counts_after s.control.activity.running (running_after (geometry s) s.control.activity.running (units_done (geometry s) s.control.activity.running n)) k
 accepted_counts s k (Supply on) = k
 accepted_counts s k Reset = k
-accepted_counts s k (Pin high) = k
 
 -- a refusal "gives back the state it got and leaves all lent memory", the counts among it
 unfoldable pub step_with : State → Counts → List ℕ → Step → Next
@@ -84,11 +82,9 @@ fresh_with p xs = record { machine = fresh p xs; counts = no_counts }
 
 -- ---- the reports: "A refusal gives its number beside the answer 0"
 
--- the report of the blocks that can be programmed
+-- the report of unprotected blocks
 unfoldable pub reported_with : State → Counts → Reported
-reported_with s k =
-    cond (formed_with s k) (record { refusal = 0; count = (reported s).count; lowest = (reported s).lowest })
-    (record { refusal = 2; count = 0; lowest = 0 })
+reported_with s k = cond (formed_with s k) (record { refusal = 0; count = (report_of s.unprotected).count; lowest = (report_of s.unprotected).lowest }) (record { refusal = 2; count = 0; lowest = 0 })
 
 -- "It reports the most worn block, the lowest number on a tie", with its count
 unfoldable pub most_worn_with : State → Counts → Worn

@@ -1,11 +1,9 @@
--- The counts' theorem: after any list of the six steps from power-up, refused ones included, the count of every block
--- is the lesser of 65,535 and the number of its finished erases in the journal, which is drawn up from the steps alone;
--- and 0 on the part whose erases are not counted. No step on the way is refused for a count. It stands on the invariant
--- of demand 3 (semantics, Invariant): the journal's running entry is what the device runs.
+-- The counts' theorem: after any list of the five steps from power-up, refused ones included, the count of every block is the lesser of 65,535 and the number of its finished erases
+-- in the journal, which is drawn up from the steps alone. It stands on the invariant of demand 3 (semantics, Invariant): the journal's running entry is what the device runs.
 -- Assumes nothing.
 use Rattle.std.specs.Prelude.{◌≡◌, List, [], ◌∷◌, map, Bool, true, false, cond, ◌&&◌, ◌⊎◌, ltb, eqb, length, get_or, replicate}
-use Rattle.std.proofs.Math.Path.{refl, ap}
-use Rattle.std.proofs.Common.{sym, ◌∙◌, subst, true≢false, inl, inr, arith, lt-ltb, le-leb, ltb-true, ltb-false, eq-eqb, ne_eqb, eqb-true}
+use Rattle.std.proofs.Math.Path.{refl}
+use Rattle.std.proofs.Common.{sym, ap, ◌∙◌, subst, true≢false, inl, inr, arith, lt-ltb, le-leb, ltb-true, ltb-false, eq-eqb, ne_eqb, eqb-true}
 use Prim.Native.Nat.{ℕ, suc, ◌+◌, ◌-◌, ◌≤◌, ◌<◌, min}
 use Rattle.std.proofs.lemmas.List.{get_or-replicate}
 use Rattle.std.proofs.lemmas.Bool.{lt-leb, eqb-false}
@@ -19,28 +17,25 @@ use Rattle.semantics.specs.declared.Running.TheVariants as running
 use Rattle.semantics.specs.declared.SuspendedProgram.{SuspendedProgram}
 use Rattle.semantics.specs.declared.SuspendedErase.{SuspendedErase}
 use Rattle.semantics.specs.declared.Step.{Step}
-use Rattle.semantics.specs.declared.Step.TheVariants.{Read, Write, Work, Supply, Reset, Pin}
-use Rattle.semantics.specs.State.{geometry, power_up, runs}
-use Rattle.semantics.specs.Branches.{by_test}
+use Rattle.semantics.specs.declared.Step.TheVariants.{Read, Write, Work, Supply, Reset}
+use Rattle.semantics.specs.State.{geometry, runs}
 use Rattle.semantics.specs.Working.{units_left, units_done, running_after}
-use Rattle.semantics.specs.Split.{step_refusal, first_refusal, count_good, count_bad}
-use Rattle.semantics.specs.Steps.{Machine, after_all, fresh}
+use Rattle.semantics.specs.Split.{first_refusal, count_good, count_bad}
+use Rattle.semantics.specs.Steps.{Machine}
 use Rattle.semantics.specs.Entries as entries
 use Rattle.semantics.specs.Entries.{Entry, entry, Live, live, is_finished, idle_worked}
-use Rattle.semantics.specs.Recorder.{Operation, Conditions, Recorder, beginning, recorded, recorded_all, journal_of}
+use Rattle.semantics.specs.Recorder.{Operation, Conditions, Recorder, beginning, recorded, recorded_all}
 use Rattle.semantics.specs.Recorder.{Event, event, journal_after}
 use Rattle.semantics.specs.Recorder.{kinds, len}
 use Rattle.semantics.specs.Engine.{stack, busy, held?, Matches, rules_agree}
 use Rattle.semantics.specs.Events.{OnJournal, adds, works, rephases, changes}
 use Rattle.semantics.specs.Causes.{Cause, by_work, cause}
 use Rattle.semantics.specs.Follows.{conditions, under_way, under_way_of, event_of}
-use Rattle.semantics.specs.Invariant.{Agree, agree_formed, agree_after, agree_all, agree_fresh, state_good}
-use Rattle.wear.specs.Counts.{Counts, row_of, place_in, count_at, count_of, none_counted, counts_formed, no_counts, most_worn, one_more, counted_after, counts_after}
-use Rattle.wear.specs.Steps.{formed_with, refusal_with, accepted_counts, counts_with, Counted, after_with, after_all_with, fresh_with}
-use Rattle.wear.specs.Places.{placed, Shaped, count_with, shape_with, counts_some}
-use Rattle.wear.specs.Refused.{is_work, only_work, uncounted_all, shared_all, fresh_shared, formed_all, fresh_goes}
-use Rattle.wear.specs.Refused.{refusal_first, formed_alone, refusal_alone, Goes, goes_after, after_alone, all_alone}
-use Rattle.wear.specs.Zeros.{none_count, none_most, fresh_none}
+use Rattle.semantics.specs.Invariant.{Agree, agree_formed, agree_after, agree_fresh, state_good}
+use Rattle.wear.specs.Counts.{Counts, row_of, place_in, count_at, count_of, shared_zero, no_counts, one_more, counts_after}
+use Rattle.wear.specs.Steps.{refusal_with, accepted_counts, counts_with, Counted, after_with, after_all_with, fresh_with}
+use Rattle.wear.specs.Places.{placed, Shaped, count_with, shape_with}
+use Rattle.wear.specs.Refused.{is_work, only_work, shared_kept, shared_all, fresh_shared, refusal_first, refusal_alone, after_alone}
 use Rattle.wear.specs.Claim.{erases, is_finished_erase, finished_erases, CountsStand}
 
 -- ---- what an event makes of the number of finished erases
@@ -96,9 +91,22 @@ pub record Right (k : Counts) (j : List (Entry Operation)) : Type 0 where
   pub shaped : Shaped k
   pub count : (b : ℕ) → b < 259 → count_of k b ≡ min 65535 (finished_erases b j)
 
+none_fresh : (b : ℕ) → b < 259 → count_of no_counts b ≡ 0
+unfolding count_of count_at no_counts
+none_fresh b h = rw (lt-ltb b 259 h) (go (ltb b 4) refl)
+  where
+    row : List ℕ
+    row = replicate 16 0
+
+    go : (t : Bool) → ltb b 4 ≡ t → cond t (get_or (replicate {A = ℕ} 4 0) b 0) (get_or (get_or (replicate 16 row) (row_of b) []) (place_in b) 0) ≡ 0
+    go true e = get_or-replicate 4 b 0 0 (ltb-true b 4 e)
+    go false e =
+        let q = placed b (ltb-false b 4 e) h in
+        ap (λ (l : List ℕ). get_or l (place_in b) 0) (get_or-replicate 16 (row_of b) row [] q.row) ∙ get_or-replicate 16 (place_in b) 0 0 q.place
+
 right_fresh : Right no_counts []
 unfolding count_of count_at no_counts
-right_fresh = record { shaped = record { rows = refl; places = λ i h. let e : get_or (replicate 16 (replicate {A = ℕ} 16 0)) i [] ≡ replicate {A = ℕ} 16 0 = get_or-replicate 16 i (replicate {A = ℕ} 16 0) [] h in ap length e; four = refl }; count = λ b h. none_count no_counts fresh_none b }
+right_fresh = record { shaped = record { rows = refl; places = λ i h. let e : get_or (replicate 16 (replicate {A = ℕ} 16 0)) i [] ≡ replicate {A = ℕ} 16 0 = get_or-replicate 16 i (replicate {A = ℕ} 16 0) [] h in ap length e; four = refl }; count = none_fresh }
 
 -- counts that stay beside a journal whose finished erases stay
 right_still : (k : Counts) (i j : List (Entry Operation)) → ((b : ℕ) → finished_erases b j ≡ finished_erases b i) → Right k i → Right k j
@@ -115,7 +123,7 @@ right_more k i j c h f r = record { shaped = shape_with k r.shaped c _; count = 
 
 -- ---- work
 
-module _ (g : Geometry) (sound : Sound g) (limit : blocks g ≤ 259) where
+module _ (g : Geometry) (sound : Sound g) (limit : blocks g ≡ 259) where
   -- an erase has its last word done exactly where it has received all its units
   ends : (b u n : ℕ) → u < size_of g b → ltb (u + min n (size_of g b - u)) (size_of g b) ≡ false → eqb (u + min n (size_of g b - u)) (size_of g b) ≡ true
   ends b u n h e = eq-eqb (u + min n (size_of g b - u)) (size_of g b) (omega (arith, ltb-false (u + min n (size_of g b - u)) (size_of g b) e))
@@ -125,8 +133,8 @@ module _ (g : Geometry) (sound : Sound g) (limit : blocks g ≤ 259) where
 
   right_worked : (bs : List ℕ) (n : ℕ) (r : Running) (p : SuspendedProgram) (e : SuspendedErase) (k : Counts) (j : List (Entry Operation))
       → Matches g (busy (under_way_of bs r p e)) (stack (under_way_of bs r p e)) j → Right k j
-      → Right (counted_after r (running_after g r (units_done g r n)) k) (map (entries.worked (kinds g) n) j)
-  unfolding counted_after running_after units_done units_left
+      → Right (counts_after r (running_after g r (units_done g r n)) k) (map (entries.worked (kinds g) n) j)
+  unfolding counts_after running_after units_done units_left
   right_worked bs n running.Idle p e k j m r = rw (idle_worked (kinds g) n m) r
   right_worked bs n (running.Program l w) p e k j m r = right_still k j _ (λ b. finished_other g b n refl m) r
   right_worked bs n (running.Erase c u) p e k j m r = go (ltb (u + min n (size_of g c - u)) (size_of g c)) refl
@@ -149,17 +157,15 @@ module _ (s : State) (k : Counts) (xs : List ℕ) (n : ℕ) (good : refusal_with
   worked_refused h = rw (refusal_first s k (length xs) (Work n), good, count_bad (geometry s) n h)
 
   worked_counted : n ≤ 65535
-      → counts_with s k xs (Work n) ≡ counts_after (geometry s) s.control.activity.running (running_after (geometry s) s.control.activity.running (units_done (geometry s) s.control.activity.running n)) k
+      → counts_with s k xs (Work n) ≡ counts_after s.control.activity.running (running_after (geometry s) s.control.activity.running (units_done (geometry s) s.control.activity.running n)) k
   unfolding counts_with first_refusal accepted_counts
   worked_counted h = rw (refusal_first s k (length xs) (Work n), good, count_good (geometry s) n h)
 
 -- one step, of a device that agrees with the recorder: the part is the device's own
-right_own : (xs₀ : List ℕ) (m : Machine) (c : Recorder) (k : Counts) (x : Step) → Agree m.state.part xs₀ m c
-    → (geometry m.state).lockdown ≡ false
-    → counts_formed (geometry m.state) k ≡ true → Right k c.journal
+right_own : (xs₀ : List ℕ) (m : Machine) (c : Recorder) (k : Counts) (x : Step) → Agree m.state.part xs₀ m c → shared_zero k.main ≡ true → Right k c.journal
     → Right (counts_with m.state k m.array x) (recorded (geometry m.state) c x).journal
 unfolding accepted_counts
-right_own xs₀ m c k x a d z r = subst (λ (v : Event). Right (counts_with m.state k m.array x) (journal_after (geometry m.state) v c.journal)) (sym same) (go x)
+right_own xs₀ m c k x a z r = subst (λ (v : Event). Right (counts_with m.state k m.array x) (journal_after (geometry m.state) v c.journal)) (sym same) (go x)
   where
     s : State
     s = m.state
@@ -184,12 +190,8 @@ right_own xs₀ m c k x a d z r = subst (λ (v : Event). Right (counts_with m.st
     work : (n : ℕ) → (65535 < n) ⊎ (n ≤ 65535) → Right (counts_with m.state k m.array (Work n)) (journal_after (geometry m.state) (event_of (geometry m.state) m.state (Work n)) c.journal)
     work n (inl h) = rw (lt-leb n 65535 h, worked_refused s k m.array n good h) r
     work n (inr h) =
-        rw (
-          le-leb n 65535 h,
-          worked_counted s k m.array n good h,
-          counts_some g k s.control.activity.running _ d,
-        )
-        (right_worked (geometry m.state) (laws.sound m.state.part) (laws.part_blocks_le m.state.part) s.buffer n s.control.activity.running s.control.activity.program s.control.activity.erase k c.journal a.sim.match r)
+        rw (le-leb n 65535 h, worked_counted s k m.array n good h)
+        (right_worked (geometry m.state) (laws.sound m.state.part) (laws.part_blocks m.state.part) s.buffer n s.control.activity.running s.control.activity.program s.control.activity.erase k c.journal a.sim.match r)
 
     go : (y : Step) → Right (counts_with m.state k m.array y) (journal_after (geometry m.state) (event_of (geometry m.state) m.state y) c.journal)
     go (Read address) = stays (Read address) refl
@@ -197,95 +199,26 @@ right_own xs₀ m c k x a d z r = subst (λ (v : Event). Right (counts_with m.st
     go (Work n) = work n (laws.order 65535 n)
     go (Supply on) = stays (Supply on) refl
     go Reset = stays Reset refl
-    go (Pin high) = stays (Pin high) refl
 
-pub right_after : (p : Part) (xs₀ : List ℕ) (m : Machine) (c : Recorder) (k : Counts) (x : Step) → Agree p xs₀ m c
-    → (geometry_of p).lockdown ≡ false → counts_formed (geometry_of p) k ≡ true → Right k c.journal
+pub right_after : (p : Part) (xs₀ : List ℕ) (m : Machine) (c : Recorder) (k : Counts) (x : Step) → Agree p xs₀ m c → shared_zero k.main ≡ true → Right k c.journal
     → Right (counts_with m.state k m.array x) (recorded (geometry_of p) c x).journal
-right_after p xs₀ m c k x a d z r =
+right_after p xs₀ m c k x a z r =
     subst (λ (q : Part). Right (counts_with m.state k m.array x) (recorded (geometry_of q) c x).journal) a.part
-    (right_own xs₀ m c k x (subst (λ (q : Part). Agree q xs₀ m c) (sym a.part) a)
-    (rw a.part d) (rw a.part z) r)
+    (right_own xs₀ m c k x (subst (λ (q : Part). Agree q xs₀ m c) (sym a.part) a) z r)
 
 -- ---- the theorem
 
-right_all : (p : Part) (xs₀ : List ℕ) (l : List Step) (w : Counted) (c : Recorder) → Agree p xs₀ w.machine c
-    → (geometry_of p).lockdown ≡ false → Goes w → Right w.counts c.journal
+right_all : (p : Part) (xs₀ : List ℕ) (l : List Step) (w : Counted) (c : Recorder) → Agree p xs₀ w.machine c → shared_zero w.counts.main ≡ true → Right w.counts c.journal
     → Right (after_all_with w l).counts (recorded_all (geometry_of p) c l).journal
-right_all p xs₀ [] w c a d z r = r
-right_all p xs₀ (x ∷ l) w c a d z r =
+right_all p xs₀ [] w c a z r = r
+right_all p xs₀ (x ∷ l) w c a z r =
     right_all p xs₀ l (after_with w x) (recorded (geometry_of p) c x)
     (subst (λ (m : Machine). Agree p xs₀ m (recorded (geometry_of p) c x)) (sym (after_alone w x z)) (agree_after p xs₀ w.machine c x a))
-    d (goes_after w x z)
-    (right_after p xs₀ w.machine c w.counts x a d (rw a.part at z) r)
+    (shared_kept w.machine.state w.counts w.machine.array x ∙ z)
+    (right_after p xs₀ w.machine c w.counts x a z r)
 
--- For every part p, every list l of the six steps, refused ones included, and every array xs of the part's length
+-- For every part p, every list l of the five steps, refused ones included, and every array xs of the part's length
 pub counts_stand : (p : Part) (l : List Step) (xs : List ℕ) → length xs ≡ words (geometry_of p) → CountsStand p l (after_all_with (fresh_with p xs) l).counts
-unfolding power_up
-counts_stand p l xs h = record {
-  count = λ b q. by_test (geometry_of p).lockdown (λ d. rw d (zeros b d)) (λ d. rw d (counted d b q));
-  shared = shared_all (fresh_with p xs) l ∙ fresh_shared;
-  uncounted = λ d. uncounted_all (fresh_with p xs) l d;
-}
-  where
-    zeros : (b : ℕ) → (geometry_of p).lockdown ≡ true → count_of (after_all_with (fresh_with p xs) l).counts b ≡ 0
-    zeros b d = ap (λ (k : Counts). count_of k b) (uncounted_all (fresh_with p xs) l d) ∙ none_count no_counts fresh_none b
-
-    counted : (geometry_of p).lockdown ≡ false → (b : ℕ) → b < blocks (geometry_of p)
-        → count_of (after_all_with (fresh_with p xs) l).counts b
-        ≡ min 65535 (finished_erases b (journal_of (geometry_of p) l))
-    counted d b q =
-        (right_all p xs l (fresh_with p xs) beginning (agree_fresh p xs h) d (fresh_goes p xs) right_fresh).count b
-        (omega (arith, laws.part_blocks_le p))
-
--- as it was before document 02, item 8: "each count is the lesser of 65,535 and the number of finished erases of that
--- block in the journal", of every part whose erases are counted
-pub counts_counted : (p : Part) (l : List Step) (k : Counts) → CountsStand p l k → (geometry_of p).lockdown ≡ false
-    → (b : ℕ) → b < 259 → count_of k b ≡ min 65535 (finished_erases b (journal_of (geometry_of p) l))
-counts_counted p l k c d b h = c.count b (omega (arith, laws.part_blocks p d)) ∙ rw d
-
--- and of the other part: the count of every number is 0, and so the most worn block is block 0
-pub counts_uncounted : (p : Part) (l : List Step) (k : Counts) → CountsStand p l k → (geometry_of p).lockdown ≡ true
-    → (none_counted k ≡ true) × ((b : ℕ) → count_of k b ≡ 0) × (most_worn k ≡ 0)
-counts_uncounted p l k c d =
-    let z : none_counted k ≡ true = ap none_counted (c.uncounted d) ∙ fresh_none in
-    (z, none_count k z, none_most k z)
-
--- the state with its counts is well formed on the way, so refusal 2 never comes, and of all refusals a step's own, 3
--- and 4, alone
-module _ (p : Part) (l : List Step) (xs : List ℕ) (h : length xs ≡ words (geometry_of p)) where
-  c : Counted
-  c = after_all_with (fresh_with p xs) l
-
-  same : c.machine ≡ after_all (fresh p xs) l
-  unfolding c
-  same = all_alone (fresh_with p xs) l (fresh_goes p xs)
-
-  goes : Goes c
-  unfolding c
-  goes = formed_all (fresh_with p xs) l ∙ fresh_goes p xs
-
-  agrees : Agree p xs c.machine (recorded_all (geometry_of p) beginning l)
-  agrees =
-      subst (λ (m : Machine). Agree p xs m (recorded_all (geometry_of p) beginning l)) (sym same)
-      (agree_all p xs l (fresh p xs) beginning (agree_fresh p xs h))
-
-  pub formed_stands : formed_with (after_all_with (fresh_with p xs) l).machine.state
-      (after_all_with (fresh_with p xs) l).counts ≡ true
-  unfolding c
-  formed_stands = formed_alone c.machine.state c.counts goes ∙ agree_formed p xs c.machine _ agrees
-
-  pub own_refusal : (x : Step) → refusal_with (after_all_with (fresh_with p xs) l).machine.state
-      (after_all_with (fresh_with p xs) l).counts (length (after_all_with (fresh_with p xs) l).machine.array) x
-      ≡ step_refusal (geometry_of p) x
-  unfolding c first_refusal
-  own_refusal x =
-      refusal_first c.machine.state c.counts (length c.machine.array) x
-      ∙ rw (good, agrees.part)
-    where
-      good : refusal_with c.machine.state c.counts (length c.machine.array) Reset ≡ 0
-      good =
-          refusal_alone c.machine.state c.counts goes (length c.machine.array) Reset
-          ∙ state_good c.machine.state (length c.machine.array)
-          (agrees.size ∙ ap (λ (q : Part). words (geometry_of q)) (sym agrees.part))
-          (agree_formed p xs c.machine _ agrees)
+counts_stand p l xs h =
+    let r = right_all p xs l (fresh_with p xs) beginning (agree_fresh p xs h) fresh_shared right_fresh in
+    record { count = λ b q. r.count b (omega (arith, laws.part_blocks p)); shared = shared_all (fresh_with p xs) l ∙ fresh_shared }

@@ -1,33 +1,32 @@
--- Lists of steps of a device with its counts, and what each step answers and leaves: document 02, items 6 and 8. The
--- checker computes each from the definitions of the steps: a rule that is written down wrong makes a case fail.
--- Bench bottom: block 0 has the locations 0 to F, block 1 10 to 1F, block 4 40 to 7F, block 5 80 to BF, all in bank 0, block
--- 19 400 to 43F, in bank 1, and block 258 3FC0 to 3FFF.
+-- Lists of steps of a device with its counts, and what each step answers and leaves: document 02, item 6. The checker computes each from the definitions of the steps: a rule that is
+-- written down wrong makes a case fail.
+-- Bench bottom: block 0 has the locations 0 to F, block 1 10 to 1F, block 4 40 to 7F, block 5 80 to BF, all in bank 0, block 19 400 to 43F, in bank 1, and block 258 3FC0 to 3FFF.
 -- Assumes nothing.
 use Rattle.std.specs.Prelude.{ℕ, true, false, List, [], ◌∷◌, ◌++◌, map, ◌≡◌, refl, replicate}
 use Rattle.geometry.specs.declared.Part.{Part}
-use Rattle.geometry.specs.declared.Part.TheVariants.{FullTop, BenchBottom, BenchTop, Wt032kb}
+use Rattle.geometry.specs.declared.Part.TheVariants.{FullTop, BenchBottom, BenchTop}
 use Rattle.geometry.specs.Blocks.{mirror, block_from, block_of, bank_of, size_of, start_from, start_of, bank_start, block_offset, bank_offset, bank_of_block, lookup_of}
-use Rattle.protection.specs.Words.{bit, bit_at, is_set, with_set, is_held, is_programmable, relocked, lock_of, with_down, with_lock, spare_zero, all_protected}
+use Rattle.protection.specs.Words.{bit, bit_at, is_unprotected, with_unprotected, spare_zero, all_protected}
 use Rattle.semantics.specs.declared.Setup.TheVariants as setup
 use Rattle.semantics.specs.declared.Running.TheVariants as running
 use Rattle.semantics.specs.declared.SuspendedProgram.TheVariants as suspended-program
 use Rattle.semantics.specs.declared.SuspendedErase.TheVariants as suspended-erase
 use Rattle.semantics.specs.declared.Step.{Step}
-use Rattle.semantics.specs.declared.Step.TheVariants.{Read, Write, Work, Supply, Reset, Pin}
+use Rattle.semantics.specs.declared.Step.TheVariants.{Read, Write, Work, Supply, Reset}
 use Rattle.semantics.specs.declared.Answer.{Answer}
 use Rattle.semantics.specs.declared.Answer.TheVariants.{Word, Units, Done, Refused}
 use Rattle.semantics.specs.declared.State.{State}
 use Rattle.semantics.specs.Tabulate.{tabulate}
-use Rattle.semantics.specs.State.{empty_buffer, power_up, activity, with_activity, with_locks, with_supply}
+use Rattle.semantics.specs.State.{empty_buffer, power_up, activity, with_activity, with_protection, with_supply}
 use Rattle.semantics.specs.Register.{without_reserved, reserved_zero}
 use Rattle.semantics.specs.Supply.{end_flags, ended, ended_if_unsupplied, switched}
-use Rattle.semantics.specs.WellFormed.{running_alone, program_alone, erase_alone, erase_fits, words_fit, buffer_fits, setup_fits, running_fits, program_fits, suspended_erase_fits, all_fit, running_apart, program_apart, apart, activity_formed, setup_places, running_places, program_places, places_used, zero_from, array_from, unused_in, runs_supplied, well_formed}
-use Rattle.semantics.specs.Reading.{runs_in, status_word, lock_word, signature_word, query_word, shown, shows_by, read_in, read_word}
+use Rattle.semantics.specs.WellFormed.{running_alone, program_alone, erase_alone, erase_fits, words_fit, buffer_fits, setup_fits, running_fits, program_fits, suspended_erase_fits, all_fit, running_apart, program_apart, apart, activity_formed, setup_places, running_places, program_places, places_used, zero_from, runs_supplied, well_formed}
+use Rattle.semantics.specs.Reading.{runs_in, status_word, signature_word, query_word, shown, shows_by, read_in, read_word}
 use Rattle.semantics.specs.Writing.{command_of, resume, accepts, set_up, clear_status, first_cycle, program_runs, erase_cycle, lock_command_of, lock_cycle, settle, loads, count_right, first_right, later_right, confirm_right, confirm_cycle, words_cycle, cycle, kept_if, first_loaded, words_loaded, held_after, loaded, written_at, written}
 use Rattle.semantics.specs.Working.{units_left, units_done, running_after, word_after, array_after, buffer_after, worked_on, worked, worked_array}
 use Rattle.semantics.specs.Card.{given, card}
-use Rattle.semantics.specs.Steps.{switched_to, reset_of, accepted, accepted_array}
-use Rattle.wear.specs.Counts.{Counts, lent, row_of, place_in, count_at, count_of, shared_zero, every, all_zero, none_counted, counts_formed, no_counts, put_at, with_count, one_more, counted_after, counts_after}
+use Rattle.semantics.specs.Steps.{switched_to, accepted, accepted_array}
+use Rattle.wear.specs.Counts.{Counts, lent, row_of, place_in, count_at, count_of, shared_zero, no_counts, put_at, with_count, one_more, counts_after}
 use Rattle.wear.specs.Steps.{formed_with, refusal_with, accepted_counts, step_with, array_with, counts_with, Counted, beside, answer_with, after_with, after_all_with, answers_with, fresh_with}
 use Rattle.wear.specs.CountCases.{up, rows, at, smalls, spread}
 
@@ -170,13 +169,13 @@ unsupplied = with_supply (erasing BenchBottom 4 63) false
 
 -- blocks 1 and 258 unprotected
 abbrev pub unprotected : State → State
-unprotected s = with_locks s (2 ∷ 0 ∷ 0 ∷ 0 ∷ 4 ∷ [])
+unprotected s = with_protection s (2 ∷ 0 ∷ 0 ∷ 0 ∷ 4 ∷ [])
 
 -- one of each kind of step that n words or the counts are refused for, with numbers that are right and numbers that are not; the counts stand after each
 abbrev each : ℕ → Counts → List Exchange
 each r k =
     (Read 0 ⟶ Refused r) ∷ counts k ∷ (Write 0 0xFF ⟶ Refused r) ∷ counts k ∷ (Work 1 ⟶ Refused r) ∷ counts k ∷ (Work 65535 ⟶ Refused r) ∷ counts k ∷ (Supply true ⟶ Refused r) ∷ counts k
-    ∷ (Supply false ⟶ Refused r) ∷ counts k ∷ (Reset ⟶ Refused r) ∷ counts k ∷ (Pin true ⟶ Refused r) ∷ counts k ∷ (Pin false ⟶ Refused r) ∷ counts k ∷ (Read 0x1000000 ⟶ Refused r) ∷ (Write 0x1000000 0xFF ⟶ Refused r) ∷ (Work 65536 ⟶ Refused r) ∷ counts k ∷ []
+    ∷ (Supply false ⟶ Refused r) ∷ counts k ∷ (Reset ⟶ Refused r) ∷ counts k ∷ (Read 0x1000000 ⟶ Refused r) ∷ (Write 0x1000000 0xFF ⟶ Refused r) ∷ (Work 65536 ⟶ Refused r) ∷ counts k ∷ []
 
 abbrev pub wear_cases : List Case
 wear_cases =
@@ -217,10 +216,6 @@ wear_cases =
     ∷ plays BenchBottom (ready ++ nearly ++ pause ++ off ++ stand none ++ goes_on ++ stand none ++ on ++ goes_on ++ works 65535 0 ++ stand none)
     -- a new erase of the block is counted, once
     ∷ plays BenchBottom (ready ++ nearly ++ off ++ on ++ erase 0x40 ++ works 63 63 ++ stand none ++ works 1 1 ++ stand (four 1))
-    -- document 02, item 8, of the pin: "On M58LT parts .. the pin changes nothing", in the midst of an erase too
-    ∷ plays BenchBottom
-    (ready ++ (Pin true ⟶ Done) ∷ nearly ++ (Pin false ⟶ Done) ∷ stand none ++ works 1 1
-    ++ (Pin true ⟶ Done) ∷ stand (four 1) ++ reset ++ (Pin false ⟶ Done) ∷ stand (four 1))
     -- "Reset keeps counts": of a small block and another, with supply and without it, again and again; and so does the supply
     ∷ plays BenchBottom
     (ready ++ erase 0x0 ++ works 16 16 ++ erase 0x40 ++ works 64 64 ++ reset ++ stand (zero_four 1 1) ++ reset ++ off ++ stand (zero_four 1 1) ++ reset ++ on ++ stand (zero_four 1 1) ++ ready ++ erase 0x0 ++ works 16 16
@@ -246,7 +241,6 @@ wear_cases =
     ∷ starts (erasing BenchBottom 4 63) (four 3) 0 (each 1 (four 3))
     ∷ starts unsupplied (four 3) 16385 (each 1 (four 3))
     ∷ starts (erasing FullTop 4 65535) (four 3) 16384 (each 1 (four 3))
-    ∷ starts (power_up Wt032kb) (four 3) 16384 (each 1 (four 3))
     -- "also when the shared place is not 0": 2, whatever the state; 1 first
     ∷ starts (erasing BenchBottom 4 63) (at 0 0 1) 16384 (each 2 (at 0 0 1))
     ∷ starts (power_up BenchTop) (at 0 0 65535) 16384 (each 2 (at 0 0 65535))
@@ -262,11 +256,11 @@ wear_cases =
     ∷ []
 
 pub wear_hold : map found wear_cases ≡ map expected wear_cases
-unfolding mirror block_from block_of bank_of size_of start_from start_of bank_start block_offset bank_offset bank_of_block lookup_of bit bit_at is_set with_set is_held is_programmable relocked lock_of with_down with_lock spare_zero all_protected empty_buffer power_up running_alone program_alone erase_alone erase_fits words_fit buffer_fits setup_fits running_fits program_fits suspended_erase_fits all_fit running_apart program_apart apart activity_formed setup_places running_places program_places places_used zero_from array_from unused_in reserved_zero runs_supplied well_formed runs_in status_word lock_word signature_word query_word shown shows_by read_in read_word command_of end_flags ended ended_if_unsupplied resume accepts set_up clear_status first_cycle program_runs erase_cycle lock_command_of without_reserved lock_cycle settle loads count_right first_right later_right confirm_right confirm_cycle words_cycle cycle kept_if first_loaded words_loaded held_after loaded written_at written units_left units_done running_after word_after tabulate array_after buffer_after worked_on worked worked_array given card switched switched_to reset_of accepted accepted_array row_of place_in count_at count_of shared_zero every all_zero none_counted counts_formed no_counts put_at with_count one_more counted_after counts_after formed_with refusal_with accepted_counts step_with array_with counts_with
+unfolding mirror block_from block_of bank_of size_of start_from start_of bank_start block_offset bank_offset bank_of_block lookup_of bit bit_at is_unprotected with_unprotected spare_zero all_protected empty_buffer power_up running_alone program_alone erase_alone erase_fits words_fit buffer_fits setup_fits running_fits program_fits suspended_erase_fits all_fit running_apart program_apart apart activity_formed setup_places running_places program_places places_used zero_from reserved_zero runs_supplied well_formed runs_in status_word signature_word query_word shown shows_by read_in read_word command_of end_flags ended ended_if_unsupplied resume accepts set_up clear_status first_cycle program_runs erase_cycle lock_command_of without_reserved lock_cycle settle loads count_right first_right later_right confirm_right confirm_cycle words_cycle cycle kept_if first_loaded words_loaded held_after loaded written_at written units_left units_done running_after word_after tabulate array_after buffer_after worked_on worked worked_array given card switched switched_to accepted accepted_array row_of place_in count_at count_of shared_zero no_counts put_at with_count one_more counts_after formed_with refusal_with accepted_counts step_with array_with counts_with
 wear_hold = refl
 
 -- 6a and 6b as lists: what they leave, and what they answer
 pub lists_hold : ((after_all_with (fresh_with BenchBottom (replicate 16384 0)) (steps_of six_a)).counts ≡ zero_four 1 2) × ((after_all_with (fresh_with BenchBottom (replicate 16384 0)) (steps_of six_b)).counts ≡ one_nineteen 1 1)
     × (answers_with (fresh_with BenchBottom (replicate 16384 0)) (steps_of six_a) ≡ answers_of six_a) × (answers_with (fresh_with BenchBottom (replicate 16384 0)) (steps_of six_b) ≡ answers_of six_b)
-unfolding mirror block_from block_of bank_of size_of start_from start_of bank_start block_offset bank_offset bank_of_block lookup_of bit bit_at is_set with_set is_held is_programmable relocked lock_of with_down with_lock spare_zero all_protected empty_buffer power_up running_alone program_alone erase_alone erase_fits words_fit buffer_fits setup_fits running_fits program_fits suspended_erase_fits all_fit running_apart program_apart apart activity_formed setup_places running_places program_places places_used zero_from array_from unused_in reserved_zero runs_supplied well_formed runs_in status_word lock_word signature_word query_word shown shows_by read_in read_word command_of end_flags ended ended_if_unsupplied resume accepts set_up clear_status first_cycle program_runs erase_cycle lock_command_of without_reserved lock_cycle settle loads count_right first_right later_right confirm_right confirm_cycle words_cycle cycle kept_if first_loaded words_loaded held_after loaded written_at written units_left units_done running_after word_after tabulate array_after buffer_after worked_on worked worked_array given card switched switched_to reset_of accepted accepted_array row_of place_in count_at count_of shared_zero every all_zero none_counted counts_formed no_counts put_at with_count one_more counted_after counts_after formed_with refusal_with accepted_counts step_with array_with counts_with
+unfolding mirror block_from block_of bank_of size_of start_from start_of bank_start block_offset bank_offset bank_of_block lookup_of bit bit_at is_unprotected with_unprotected spare_zero all_protected empty_buffer power_up running_alone program_alone erase_alone erase_fits words_fit buffer_fits setup_fits running_fits program_fits suspended_erase_fits all_fit running_apart program_apart apart activity_formed setup_places running_places program_places places_used zero_from reserved_zero runs_supplied well_formed runs_in status_word signature_word query_word shown shows_by read_in read_word command_of end_flags ended ended_if_unsupplied resume accepts set_up clear_status first_cycle program_runs erase_cycle lock_command_of without_reserved lock_cycle settle loads count_right first_right later_right confirm_right confirm_cycle words_cycle cycle kept_if first_loaded words_loaded held_after loaded written_at written units_left units_done running_after word_after tabulate array_after buffer_after worked_on worked worked_array given card switched switched_to accepted accepted_array row_of place_in count_at count_of shared_zero no_counts put_at with_count one_more counts_after formed_with refusal_with accepted_counts step_with array_with counts_with
 lists_hold = (refl, refl, refl, refl)

@@ -1,11 +1,8 @@
 // The erase counts of the blocks (document 02, item 6), in memory that is lent: an array of arrays by bank and place, beside the four counts of the small blocks. Each function
 // takes every count and number. What they mean is in specs/.
 ghost use Rattle.std.specs.Prelude.{◌≡◌};
-ghost use Rattle.geometry.specs.Blocks.{geometry_of};
-ghost use Rattle.wear.specs.Counts.{lent, count_of, shared_zero, all_zero, none_counted, counts_formed, no_counts};
-ghost use Rattle.wear.specs.Counts.{with_count, one_more, counts_after, most_worn};
+ghost use Rattle.wear.specs.Counts.{lent, count_of, shared_zero, no_counts, with_count, one_more, counts_after, most_worn};
 
-use geometry::Part;
 use semantics::Running;
 
 // A refusal's number or 0, a block, and its count; block and count are 0 beside a refusal.
@@ -33,46 +30,10 @@ pub fn count_of(main: &[[u16; 16]; 16], small: &[u16; 4], block: u32) -> u16
 }
 
 // Whether the place that the small blocks would share is 0.
-fn shared_zero(main: &[[u16; 16]; 16]) -> bool
+pub fn shared_zero(main: &[[u16; 16]; 16]) -> bool
     ensures { result ≡ shared_zero main.now }
 {
     main[0][0] == 0
-}
-
-// Whether a row is 0.
-fn row_zero(row: &[u16; 16]) -> bool
-    ensures { result ≡ all_zero row.now }
-{
-    let mut zero = true;
-    let mut i: usize = 0;
-    while i < 16 {
-        zero = zero & (row[i] == 0);
-        i += 1;
-    }
-    zero
-}
-
-// Whether all counts are 0.
-fn none_counted(main: &[[u16; 16]; 16], small: &[u16; 4]) -> bool
-    ensures { result ≡ none_counted (lent main.now small.now) }
-{
-    let mut zero = (small[0] == 0) & (small[1] == 0) & (small[2] == 0) & (small[3] == 0);
-    let mut i: usize = 0;
-    while i < 16 {
-        zero = zero & row_zero(&main[i]);
-        i += 1;
-    }
-    zero
-}
-
-// Whether counts go with a part: the shared place is 0, and, where the part's erases are not counted, all are.
-pub fn counts_formed(part: Part, main: &[[u16; 16]; 16], small: &[u16; 4]) -> bool
-    ensures { result ≡ counts_formed (geometry_of part) (lent main.now small.now) }
-{
-    if geometry::has_lockdown(part) {
-        return none_counted(main, small);
-    }
-    shared_zero(main)
 }
 
 // ---- one more
@@ -103,22 +64,15 @@ pub fn add_one(main: &mut [[u16; 16]; 16], small: &mut [u16; 4], block: u32)
     put_count(main, small, block, 65535);
 }
 
-// Counts the erase that work has finished, where the part's erases are counted: `was` ran before it, and `left` runs
-// after it.
-pub fn count_finished(
-    part: Part,
-    main: &mut [[u16; 16]; 16],
-    small: &mut [u16; 4],
-    was: Running,
-    left: Running,
-)
-    ensures { lent main.new small.new ≡ counts_after (geometry_of part) was left (lent main.old small.old) }
+// Counts the erase that work has finished: `was` ran before it, and `left` runs after it.
+pub fn count_finished(main: &mut [[u16; 16]; 16], small: &mut [u16; 4], was: Running, left: Running)
+    ensures { lent main.new small.new ≡ counts_after was left (lent main.old small.old) }
 {
     match was {
         Running::Idle => {}
         Running::Program { .. } => {}
         Running::Erase { block, .. } => {
-            if operation::runs(left) | geometry::has_lockdown(part) {
+            if operation::runs(left) {
                 return;
             }
             add_one(main, small, block);

@@ -3,7 +3,7 @@ use Rattle.std.specs.Prelude.{ℕ, ◌-◌, ◌%◌, Bool, true, false, cond, Li
 use Rattle.std.proofs.Common.{true≢false, sym, ap, ◌∙◌}
 use Rattle.std.proofs.lemmas.Bool.{false≢true}
 use Rattle.geometry.specs.declared.Geometry.{Geometry}
-use Rattle.protection.specs.Words.{with_lock}
+use Rattle.protection.specs.Words.{with_unprotected}
 use Rattle.semantics.specs.declared.Mode.{Mode}
 use Rattle.semantics.specs.declared.Mode.TheVariants.{Array, Status, Signature, Query}
 use Rattle.semantics.specs.declared.Setup.{Setup}
@@ -71,9 +71,9 @@ second_change (setup.BufferCount b) p = change.View
 second_change (setup.BufferFirst b n) p = change.View
 second_change (setup.BufferWords l n due) p = word_change l n due p
 
-abbrev pub change_of : Geometry → Activity → Bool → Place → ℕ → Change
-change_of g a supply p w =
-    cond (pending a.setup) (second_change a.setup p) (command_change a supply p (command_of g (w % 256)))
+abbrev pub change_of : Activity → Bool → Place → ℕ → Change
+change_of a supply p w =
+    cond (pending a.setup) (second_change a.setup p) (command_change a supply p (command_of (w % 256)))
 
 -- a cycle that is told by its view: by the set-up that is pending, or 50h where none is
 abbrev pub told_cycle : Geometry → View → Setup → Place → ℕ → View
@@ -97,7 +97,7 @@ told_pending g v (setup.BufferCount b) p w h = refl
 told_pending g v (setup.BufferFirst b n) p w h = refl
 told_pending g v (setup.BufferWords l n d) p w h = refl
 
-pub cycle_first : (g : Geometry) (v : View) (c : Setup) (p : Place) (w : ℕ) → pending c ≡ false → first_cycle v p (command_of g (w % 256)) ≡ cycle g v c p w
+pub cycle_first : (g : Geometry) (v : View) (c : Setup) (p : Place) (w : ℕ) → pending c ≡ false → first_cycle v p (command_of (w % 256)) ≡ cycle g v c p w
 unfolding cycle
 cycle_first g v c p w h = sym (ap (λ (x : Setup). cycle g v x p w) (nothing_pending c h))
 
@@ -154,7 +154,7 @@ first_is v p = of_command (λ (k : Change) (x : View). first_by v k ≡ x) v p (
 
 -- the state with bank k in a mode
 abbrev pub with_bank : State → ℕ → Mode → State
-with_bank s k m = record { part = s.part; banks = set s.banks k (record { mode = m }); locks = s.locks; control = s.control; buffer = s.buffer }
+with_bank s k m = record { part = s.part; banks = set s.banks k (record { mode = m }); unprotected = s.unprotected; control = s.control; buffer = s.buffer }
 
 -- the state with that changed at a place, by a write of w
 abbrev pub put_change : State → Place → ℕ → Change → State
@@ -173,12 +173,12 @@ told (change.Ended a) = false
 told (change.Data x i) = false
 told change.View = true
 
--- a mode, and a block's lock, put back as it was
+-- a mode, and a block's protection, put back as it was
 banks_back : (s : State) (p : Place) → set s.banks p.bank (record { mode = (view_at s p).mode }) ≡ s.banks
 banks_back s p = ap (λ (t : State). t.banks) (view_back s p)
 
-lock_back : (s : State) (p : Place) → with_lock (geometry s) s.locks p.block (view_at s p).lock ≡ s.locks
-lock_back s p = ap (λ (t : State). t.locks) (view_back s p)
+protection_back : (s : State) (p : Place) → with_unprotected s.unprotected p.block (view_at s p).unprotected ≡ s.unprotected
+protection_back s p = ap (λ (t : State). t.unprotected) (view_back s p)
 
 -- the buffer with that changed
 abbrev buffer_by : State → ℕ → Change → List ℕ
@@ -190,10 +190,10 @@ buffer_by s w change.View = s.buffer
 
 put_view : (s : State) (p : Place) (w : ℕ) (k : Change) → told k ≡ false
     → with_buffer (with_view s p (first_by (view_at s p) k)) (buffer_by s w k) ≡ put_change s p w k
-put_view s p w (change.First m x) h = rw (lock_back s p)
-put_view s p w (change.Activity a) h = rw (lock_back s p, banks_back s p)
-put_view s p w (change.Ended a) h = rw (lock_back s p, banks_back s p)
-put_view s p w (change.Data x i) h = rw (lock_back s p)
+put_view s p w (change.First m x) h = rw (protection_back s p)
+put_view s p w (change.Activity a) h = rw (protection_back s p, banks_back s p)
+put_view s p w (change.Ended a) h = rw (protection_back s p, banks_back s p)
+put_view s p w (change.Data x i) h = rw (protection_back s p)
 put_view s p w change.View h = absurd (true≢false h)
 
 -- the same as the definition has it: D0h without supply ends a buffer program
@@ -251,7 +251,7 @@ second_loads s p w (setup.BufferWords l n due) h =
     h
 
 -- a write that changes little changes that
-pub change_put : (s : State) (p : Place) (w : ℕ) (k : Change) → k ≡ change_of (geometry s) s.control.activity s.control.supply p w
+pub change_put : (s : State) (p : Place) (w : ℕ) (k : Change) → k ≡ change_of s.control.activity s.control.supply p w
     → told k ≡ false → put_change s p w k ≡ written_at s p w
 unfolding written_at loaded
 change_put s p w k e h = go (pending s.control.activity.setup) refl
@@ -272,15 +272,15 @@ change_put s p w k e h = go (pending s.control.activity.setup) refl
         (ap (buffer_by s w) d ∙ l.1 _ ∙ sym (held_left a.program (cycle_at s p w).control.activity _ l.2))
     go false q =
         let n = nothing_pending a.setup q in
-        let c : k ≡ command_change a s.control.supply p (command_of (geometry s) (w % 256)) = e ∙ rw q in
+        let c : k ≡ command_change a s.control.supply p (command_of (w % 256)) = e ∙ rw q in
         by_parts
-        (ap (first_by (view_at s p)) c ∙ first_is (view_at s p) p (command_of (geometry s) (w % 256)) ∙ cycle_first (geometry s) (view_at s p) a.setup p w q)
-        (ap (buffer_by s w) c ∙ buffer_is s p w (command_of (geometry s) (w % 256))
+        (ap (first_by (view_at s p)) c ∙ first_is (view_at s p) p (command_of (w % 256)) ∙ cycle_first (geometry s) (view_at s p) a.setup p w q)
+        (ap (buffer_by s w) c ∙ buffer_is s p w (command_of (w % 256))
         ∙ ap (λ (v : View). held_after a.program v.control.activity s.buffer) (cycle_first (geometry s) (view_at s p) a.setup p w q)
         ∙ ap (λ (x : Setup). held_after a.program (cycle_at s p w).control.activity (loaded (geometry s) x p w (cycle_at s p w).control.activity.running s.buffer)) (sym n))
 
 -- one that is told by its view is what that says
-pub change_told : (s : State) (p : Place) (w : ℕ) → change.View ≡ change_of (geometry s) s.control.activity s.control.supply p w → told_at s p w ≡ cycle_at s p w
+pub change_told : (s : State) (p : Place) (w : ℕ) → change.View ≡ change_of s.control.activity s.control.supply p w → told_at s p w ≡ cycle_at s p w
 change_told s p w e = go (pending s.control.activity.setup) refl
   where
     a : Activity
@@ -290,11 +290,11 @@ change_told s p w e = go (pending s.control.activity.setup) refl
     go true q = told_pending (geometry s) (view_at s p) a.setup p w q
     go false q =
         let n = nothing_pending a.setup q in
-        let c : change.View ≡ command_change a s.control.supply p (command_of (geometry s) (w % 256)) = e ∙ rw q in
-        ap (λ (x : Setup). told_cycle (geometry s) (view_at s p) x p w) n ∙ ap (first_by (view_at s p)) c ∙ first_is (view_at s p) p (command_of (geometry s) (w % 256))
+        let c : change.View ≡ command_change a s.control.supply p (command_of (w % 256)) = e ∙ rw q in
+        ap (λ (x : Setup). told_cycle (geometry s) (view_at s p) x p w) n ∙ ap (first_by (view_at s p)) c ∙ first_is (view_at s p) p (command_of (w % 256))
         ∙ cycle_first (geometry s) (view_at s p) a.setup p w q
 
--- ---- a cycle that is told by its view leaves what is suspended, the supply and the pin
+-- ---- a cycle that is told by its view leaves what is suspended, and the supply
 
 -- the control with the set-up, what runs, the flags and the configuration register of a view
 abbrev pub settled_in : Control → View → Control
@@ -303,25 +303,21 @@ settled_in c v = record {
   flags = v.control.flags;
   configuration = v.control.configuration;
   supply = c.supply;
-  pin = c.pin;
 }
 
 abbrev Left : View → View → Type 0
 Left v x =
-    (x.control.activity.program ≡ v.control.activity.program)
-    × (x.control.activity.erase ≡ v.control.activity.erase)
-    × (x.control.supply ≡ v.control.supply)
-    × (x.control.pin ≡ v.control.pin)
+    (x.control.activity.program ≡ v.control.activity.program) × (x.control.activity.erase ≡ v.control.activity.erase) × (x.control.supply ≡ v.control.supply)
 
 told_left : (g : Geometry) (v : View) (c : Setup) (p : Place) (w : ℕ) → Left v (told_cycle g v c p w)
 unfolding clear_status settle
 told_left g v c p w =
     by_test (pending c)
-    (λ e. rw (told_pending g v c p w e) (of_second (Left v) v p g c w e (record { raises = λ f. same; starts = λ r t. same; relocks = λ b. same; downs = λ i. same; stores = λ i l n. same; loads = λ x. same })))
+    (λ e. rw (told_pending g v c p w e) (of_second (Left v) v p g c w e (record { raises = λ f. same; starts = λ r t. same; protects = λ b. same; stores = λ i l n. same; loads = λ x. same })))
     (λ e. rw (nothing_pending c e) (of_cond (Left v) (runs v.control.activity.running) _ _ same same))
   where
     same : Left v v
-    same = (refl, refl, refl, refl)
+    same = (refl, refl, refl)
 
 pub told_settled : (s : State) (p : Place) (w : ℕ) → settled_in s.control (told_at s p w) ≡ (told_at s p w).control
 told_settled s p w =
@@ -330,23 +326,16 @@ told_settled s p w =
     let x = sym l.0 in
     let y = sym l.1 in
     let z = sym l.2 in
-    let t = sym l.3 in
-    λ j. record {
-      activity = activity v.control.activity.setup v.control.activity.running (x j) (y j);
-      flags = v.control.flags;
-      configuration = v.control.configuration;
-      supply = z j;
-      pin = t j;
-    }
+    λ j. record { activity = activity v.control.activity.setup v.control.activity.running (x j) (y j); flags = v.control.flags; configuration = v.control.configuration; supply = z j }
 
 -- and the words of a suspended buffer program
 told_held : (s : State) (p : Place) (w : ℕ) (bs : List ℕ) → held_after s.control.activity.program (told_at s p w).control.activity bs ≡ bs
 told_held s p w bs = held_left s.control.activity.program (told_at s p w).control.activity bs (told_left (geometry s) (view_at s p) s.control.activity.setup p w).0
 
 -- the state after a write that is told by its view v, with the protection words u and the buffer bs that it leaves
-pub told_put : (s : State) (p : Place) (w : ℕ) (v : View) (u bs : List ℕ) → change.View ≡ change_of (geometry s) s.control.activity s.control.supply p w → v ≡ told_at s p w
-    → u ≡ with_lock (geometry s) s.locks p.block v.lock → bs ≡ loaded (geometry s) s.control.activity.setup p w v.control.activity.running s.buffer
-    → ◌≡◌ {A = State} (record { part = s.part; banks = set s.banks p.bank (record { mode = v.mode }); locks = u; control = settled_in s.control v; buffer = bs }) (written_at s p w)
+pub told_put : (s : State) (p : Place) (w : ℕ) (v : View) (u bs : List ℕ) → change.View ≡ change_of s.control.activity s.control.supply p w → v ≡ told_at s p w
+    → u ≡ with_unprotected s.unprotected p.block v.unprotected → bs ≡ loaded (geometry s) s.control.activity.setup p w v.control.activity.running s.buffer
+    → ◌≡◌ {A = State} (record { part = s.part; banks = set s.banks p.bank (record { mode = v.mode }); unprotected = u; control = settled_in s.control v; buffer = bs }) (written_at s p w)
 unfolding written_at
 told_put s p w v u bs e f h i =
     let z : bs ≡ loaded_at s p w v.control.activity = i ∙ sym (rw f (told_held s p w _)) in

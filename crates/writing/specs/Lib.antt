@@ -1,3 +1,2 @@
 -- The modules of the specification.
 pub mod Changes
-pub mod Cases

@@ -2,14 +2,12 @@
 // program's load (document 02, item 1), with what they make of the buffer. The array is not touched. Each function takes every view and number.
 ghost use Rattle.std.specs.Prelude.{◌≡◌, ◌-◌};
 ghost use Rattle.geometry.specs.Blocks.{geometry_of};
-ghost use Rattle.protection.specs.Words.{relocked};
 ghost use Rattle.semantics.specs.Supply.{ended};
-ghost use Rattle.semantics.specs.View.{with_control, with_activity, with_mode, set_lock, raise};
-ghost use Rattle.semantics.specs.Writing.{command_of, pend, clear_status, first_cycle, can_program, program_runs, erase_cycle, lock_command_of, lock_cycle, settle, wrong, loads, count_right, first_right, later_right, confirm_right, confirm_cycle, words_cycle, cycle, words_loaded, held_after, loaded, cycle_at, written};
+ghost use Rattle.semantics.specs.View.{with_control, with_activity, with_mode, raise};
+ghost use Rattle.semantics.specs.Writing.{command_of, pend, clear_status, first_cycle, program_runs, erase_cycle, lock_command_of, lock_cycle, settle, wrong, loads, count_right, first_right, later_right, confirm_right, confirm_cycle, words_cycle, cycle, words_loaded, held_after, loaded, cycle_at, written};
 ghost use Rattle.writing.specs.Changes.{set_up_change, resume_change, command_change, word_change, second_change, change_of, told_cycle};
 
 use geometry::Part;
-use protection::Lock;
 use semantics::{
     Activity, Command, Control, Flags, LockCommand, Mode, Place, Running, Setup, State,
     SuspendedProgram, View,
@@ -42,24 +40,10 @@ fn with_activity(mut v: View, x: Activity) -> View
 fn with_mode(v: View, x: Mode) -> View
     ensures { result ≡ with_mode v x }
 {
-    let lock = v.lock;
     let control = v.control;
     View {
         mode: x,
-        lock,
-        control,
-    }
-}
-
-// The view with another lock of the block.
-fn with_lock(v: View, x: Lock) -> View
-    ensures { result ≡ set_lock v x }
-{
-    let mode = v.mode;
-    let control = v.control;
-    View {
-        mode,
-        lock: x,
+        unprotected: v.unprotected,
         control,
     }
 }
@@ -86,19 +70,9 @@ fn with_raised(mut v: View, x: Flags) -> View
 
 // ---- the first cycle
 
-// E8h, where the part has a write buffer.
-fn buffer_command(part: Part) -> Command
-    ensures { result ≡ command_of (geometry_of part) 0xE8 }
-{
-    if geometry::has_lockdown(part) {
-        return Command::Unknown;
-    }
-    Command::SetUpBuffer
-}
-
 // The command that a number is in a first cycle.
-fn command_of(part: Part, c: u16) -> Command
-    ensures { result ≡ command_of (geometry_of part) c }
+fn command_of(c: u16) -> Command
+    ensures { result ≡ command_of c }
 {
     match c {
         0xff => Command::ReadArray,
@@ -112,7 +86,7 @@ fn command_of(part: Part, c: u16) -> Command
         0x40 => Command::SetUpProgram,
         0x60 => Command::SetUpLock,
         0x20 => Command::SetUpErase,
-        0xe8 => buffer_command(part),
+        0xe8 => Command::SetUpBuffer,
         _ => Command::Unknown,
     }
 }
@@ -201,14 +175,6 @@ fn first_cycle(v: View, p: Place, c: Command) -> View
 
 // ---- the second cycle
 
-// The block can be programmed and erased.
-fn can_program(v: View) -> bool
-    ensures { result ≡ can_program v }
-{
-    let lock = v.lock;
-    protection::is_programmable(lock, v.control.pin)
-}
-
 // A program at the place runs, or flags say why not.
 fn program_runs(v: View, p: Place, r: Running) -> View
     ensures { result ≡ program_runs v p r }
@@ -218,7 +184,7 @@ fn program_runs(v: View, p: Place, r: Running) -> View
     if !v.control.supply {
         return with_raised(v, state::flags_of(false, true, true, false));
     }
-    if !can_program(v) {
+    if !v.unprotected {
         return with_raised(v, state::flags_of(false, true, false, true));
     }
     if operation::erasing(erase, p.block) {
@@ -238,7 +204,7 @@ fn erase_cycle(v: View, p: Place, c: u16) -> View
     if !v.control.supply {
         return with_raised(v, state::flags_of(true, false, true, false));
     }
-    if !can_program(v) {
+    if !v.unprotected {
         return with_raised(v, state::flags_of(true, false, false, true));
     }
     let running = Running::Erase {
@@ -248,39 +214,15 @@ fn erase_cycle(v: View, p: Place, c: u16) -> View
     with_activity(v, operation::with_running(a, running))
 }
 
-// 2Fh, where the part has lock-down.
-fn down_command(part: Part) -> LockCommand
-    ensures { result ≡ lock_command_of (geometry_of part) 0x2F }
-{
-    if geometry::has_lockdown(part) {
-        return LockCommand::LockDown;
-    }
-    LockCommand::Unknown
-}
-
 // The command that a number is after a lock set-up.
-fn lock_command_of(part: Part, c: u16) -> LockCommand
-    ensures { result ≡ lock_command_of (geometry_of part) c }
+fn lock_command_of(c: u16) -> LockCommand
+    ensures { result ≡ lock_command_of c }
 {
     match c {
         0x01 => LockCommand::Protect,
         0xd0 => LockCommand::Unprotect,
         0x03 => LockCommand::Configure,
-        0x2f => down_command(part),
         _ => LockCommand::Unknown,
-    }
-}
-
-// What 01h and D0h make of a lock: a block that is locked down keeps its lock bit while the pin is low.
-fn relocked(x: Lock, pin: bool, unprotected: bool) -> Lock
-    ensures { result ≡ relocked x pin unprotected }
-{
-    if protection::is_held(x, pin) {
-        return x;
-    }
-    Lock {
-        unprotected,
-        down: x.down,
     }
 }
 
@@ -288,22 +230,20 @@ fn relocked(x: Lock, pin: bool, unprotected: bool) -> Lock
 fn lock_cycle(mut v: View, p: Place, c: LockCommand) -> View
     ensures { result ≡ lock_cycle v p c }
 {
-    let lock = v.lock;
     match c {
-        LockCommand::Protect => with_lock(v, relocked(lock, v.control.pin, false)),
-        LockCommand::Unprotect => with_lock(v, relocked(lock, v.control.pin, true)),
+        LockCommand::Protect => {
+            v.unprotected = false;
+            v
+        }
+        LockCommand::Unprotect => {
+            v.unprotected = true;
+            v
+        }
         LockCommand::Configure => {
             let low = (p.address % 65536) as u16;
             let stored = state::without_reserved(low);
             v.control.configuration = stored;
             v
-        }
-        LockCommand::LockDown => {
-            let down = Lock {
-                unprotected: false,
-                down: true,
-            };
-            with_lock(v, down)
         }
         LockCommand::Unknown => with_raised(v, state::flags_of(true, true, false, false)),
     }
@@ -417,7 +357,7 @@ fn told_cycle(part: Part, v: View, p: Place, word: u16) -> View
             program_runs(settle(v), p, Running::Program { location, word })
         }
         Setup::Erase => erase_cycle(settle(v), p, c),
-        Setup::Lock => lock_cycle(settle(v), p, lock_command_of(part, c)),
+        Setup::Lock => lock_cycle(settle(v), p, lock_command_of(c)),
         Setup::BufferCount { block } => {
             let words = word as u32 + 1;
             loads(
@@ -470,23 +410,30 @@ fn second_change(x: Setup, p: Place) -> Change
 }
 
 // What a write of a word changes at a place.
-pub fn change_of(part: Part, a: Activity, supply: bool, p: Place, word: u16) -> Change
-    ensures { result ≡ change_of (geometry_of part) a supply p word }
+pub fn change_of(a: Activity, supply: bool, p: Place, word: u16) -> Change
+    ensures { result ≡ change_of a supply p word }
 {
     let setup = a.setup;
     if operation::pending(setup) {
         return second_change(setup, p);
     }
-    command_change(a, supply, p, command_of(part, word % 256))
+    command_change(a, supply, p, command_of(word % 256))
 }
 
-// What such a cycle makes of what it sees: a mode, a block's lock and the control. Of a write that is no such cycle (`Change`) it says nothing: with no set-up pending it is that of 50h.
-pub fn told_view(part: Part, mode: Mode, lock: Lock, control: Control, p: Place, word: u16) -> View
-    ensures { result ≡ told_cycle (geometry_of part) (record { mode = mode; lock = lock; control = control }) control.activity.setup p word }
+// What such a cycle makes of what it sees: a mode, a block's protection and the control. Of a write that is no such cycle (`Change`) it says nothing: with no set-up pending it is that of 50h.
+pub fn told_view(
+    part: Part,
+    mode: Mode,
+    unprotected: bool,
+    control: Control,
+    p: Place,
+    word: u16,
+) -> View
+    ensures { result ≡ told_cycle (geometry_of part) (record { mode = mode; unprotected = unprotected; control = control }) control.activity.setup p word }
 {
     let v = View {
         mode,
-        lock,
+        unprotected,
         control,
     };
     told_cycle(part, v, p, word)
@@ -501,7 +448,7 @@ fn cycle(part: Part, v: View, p: Place, word: u16) -> View
     if operation::pending(setup) {
         return told_cycle(part, v, p, word);
     }
-    first_cycle(v, p, command_of(part, word % 256))
+    first_cycle(v, p, command_of(word % 256))
 }
 
 // What a write of a word makes of what it sees of the state at a place.

@@ -6,7 +6,7 @@ use Rattle.device.proofs.formed_with.Tie as tie
 
 returns : tie.Need-returns
 unfolding formed_with
-returns c = rw (c.before.well-formed-2.ensures, c.counts-formed.ensures)
+returns c l = rw (c.before.well-formed-2.ensures, c.shared-zero.ensures)
 
 pub formed-with-spec : {M : Type 1} → statement M
 formed-with-spec = tie.close (tie.spec (λ c κs. search rules) (λ c κs. search rules) returns)

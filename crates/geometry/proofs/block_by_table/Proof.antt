@@ -16,8 +16,7 @@ stands : (c : tie.After-table) → c.before.before.before.mirror-of.result * c.b
 stands c =
     let p : Part = c.before.before.before.before.args.part in
     rw (c.before.before.before.mirror-of.ensures, c.before.before.scale_of.ensures.0)
-    (scaled_lt p c.before.before.before.before.requires.1 _
-    (mirror_lt (geometry_of p) (sound p) _ c.before.before.before.before.requires.0))
+    (scaled_lt p _ (mirror_lt (geometry_of p) (sound p) _ c.before.before.before.before.requires))
 
 mul-not-above : tie.Need-overflow-mul-not-above
 mul-not-above c = omega (arith, stands c)
@@ -30,14 +29,13 @@ found : (c : tie.After-not-above) → c.not-above.result ≡ suc (block_of (geom
 found c =
     let a = c.before.before.before.before.before in
     rw (c.not-above.ensures, c.before.before.before.before.mirror-of.ensures, c.before.before.before.scale_of.ensures.0)
-    (table_is_formula c.before.before.block-starts.result c.before.before.block-starts.ensures a.args.part a.requires.1
-    a.args.location a.requires.0)
+    (table_is_formula c.before.before.block-starts.result c.before.before.block-starts.ensures a.args.part a.args.location a.requires)
 
 -- and it is a block's number
 number : (c : tie.After-not-above) → c.not-above.result - 1 < 259
 number c =
     let a = c.before.before.before.before.before in
-    omega (arith, found c, part_block_lt a.args.part a.args.location a.requires.0)
+    omega (arith, found c, part_block_lt a.args.part a.args.location a.requires)
 
 sub-result : tie.Need-overflow-sub-result
 sub-result c = omega (arith, found c)

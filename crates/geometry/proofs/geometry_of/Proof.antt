@@ -19,11 +19,8 @@ returns-3 c = (sym (ap geometry_of c.enum-told3.given.1), omega arith)
 returns-4 : tie.Need-returns-4
 returns-4 c = (sym (ap geometry_of c.enum-told4.given.1), omega arith)
 
-returns-5 : tie.Need-returns-5
-returns-5 c = (sym (ap geometry_of c.enum-told5.given.1), omega arith)
-
 pub geometry-of-spec : {M : Type 1} → statement M
 geometry-of-spec =
     tie.close
-    (tie.spec (λ c. search rules) (λ c. search rules) (λ c. search rules) (λ c. search rules) (λ c. search rules)
-    returns returns-2 returns-3 returns-4 returns-5)
+    (tie.spec (λ c. search rules) (λ c. search rules) (λ c. search rules) (λ c. search rules) returns returns-2
+    returns-3 returns-4)

@@ -15,20 +15,20 @@ returns-2 : tie.Need-returns-2
 unfolding lookup_of
 returns-2 c = (simp (lt-leb _ _ c.before.if1.false, lt-ltb _ _ c.if2.true), (omega arith, (omega arith, omega arith)))
 
-block-found-requires : tie.Need-block-found-requires
-block-found-requires c κs = c.location-of.ensures.1.0
+block-by-table-requires : tie.Need-block-by-table-requires
+block-by-table-requires c κs = c.location-of.ensures.1.0
 
 returns-3 : tie.Need-returns-3
 unfolding lookup_of
 returns-3 c =
     let l = c.before.before.location-of in (
       simp (lt-leb _ _ c.before.before.before.before.before.if1.false, le-ltb _ _ c.before.before.before.before.if2.false)
-          (rw (← c.before.before.before.part-numbered.ensures, ← l.ensures.0, ← c.before.block-found.ensures.0, ← c.bank-of.ensures.0)),
-      (omega arith, (c.before.block-found.ensures.1, c.bank-of.ensures.1 l.ensures.1.0)),
+          (rw (← c.before.before.before.part-numbered.ensures, ← l.ensures.0, ← c.before.block-by-table.ensures.0, ← c.bank-of.ensures.0)),
+      (omega arith, (c.before.block-by-table.ensures.1, c.bank-of.ensures.1 l.ensures.1.0)),
     )
 
 pub look-up-spec : {M : Type 1} → statement M
 look-up-spec =
     tie.close
-    (tie.spec returns returns-2 (λ c κs. search rules) (λ c κs. search rules) block-found-requires
+    (tie.spec returns returns-2 (λ c κs. search rules) (λ c κs. search rules) block-by-table-requires
     (λ c κs. search rules) returns-3)

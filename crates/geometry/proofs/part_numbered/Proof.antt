@@ -14,22 +14,7 @@ returns-3 : tie.Need-returns-3
 returns-3 c = simp (ne_eqb _ _ c.before.before.if1.false, ne_eqb _ _ c.before.if2.false, eq-eqb _ _ c.if3.true)
 
 returns-4 : tie.Need-returns-4
-returns-4 c =
-    simp (
-      ne_eqb _ _ c.before.before.before.if1.false,
-      ne_eqb _ _ c.before.before.if2.false,
-      ne_eqb _ _ c.before.if3.false,
-      eq-eqb _ _ c.if4.true,
-    )
-
-returns-5 : tie.Need-returns-5
-returns-5 c =
-    simp (
-      ne_eqb _ _ c.before.before.before.if1.false,
-      ne_eqb _ _ c.before.before.if2.false,
-      ne_eqb _ _ c.before.if3.false,
-      ne_eqb _ _ c.if4.false,
-    )
+returns-4 c = simp (ne_eqb _ _ c.before.before.if1.false, ne_eqb _ _ c.before.if2.false, ne_eqb _ _ c.if3.false)
 
 pub part-numbered-spec : {M : Type 1} → statement M
-part-numbered-spec = tie.close (tie.spec returns returns-2 returns-3 returns-4 returns-5)
+part-numbered-spec = tie.close (tie.spec returns returns-2 returns-3 returns-4)

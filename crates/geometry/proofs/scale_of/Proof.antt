@@ -4,14 +4,14 @@ use Prim.Native.Nat.{ℕ, ◌<◌}
 use mathlib.Core.Path.{◌≡◌, subst⁻¹}
 use Rattle.geometry.specs.Blocks.{geometry_of}
 use Rattle.geometry.specs.Table.{scale}
-use Rattle.geometry.specs.Listed.{scale_pos}
+use Rattle.geometry.specs.Listed.{scaled}
 use Rattle.geometry.specs.declared.Part.{Part}
 use Rattle.geometry.proofs.scale_of.Statement.{statement}
 use Rattle.geometry.proofs.scale_of.Tie as tie
 
 -- both clauses from the first
 answer : (p : Part) (r : ℕ) → r ≡ scale (geometry_of p) → (r ≡ scale (geometry_of p)) × (0 < r)
-answer p r e = (e, subst⁻¹ (λ (x : ℕ). 0 < x) e (scale_pos p))
+answer p r e = (e, subst⁻¹ (λ (x : ℕ). 0 < x) e (scaled p).factor)
 
 returns : tie.Need-returns
 returns c =

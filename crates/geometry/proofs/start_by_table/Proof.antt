@@ -15,30 +15,21 @@ answer : (p : Part) (b r : ℕ) → r ≡ start_of (geometry_of p) b → (r ≡ 
 answer p b r e = (e, omega (arith, laws.start_lt (geometry_of p) (laws.sound p) b, (laws.sound p).limit))
 
 returns : tie.Need-returns
-returns c = (c.block_start.ensures.0, c.block_start.ensures.1.1)
+returns c =
+    let p : Part = c.before.before.args.part in
+    answer p c.before.before.args.block _
+    (sym (laws.start_none (geometry_of p) _ (rw c.before.block-count.ensures.0 at c.if1.true)))
 
 returns-2 : tie.Need-returns-2
 returns-2 c =
-    let a = c.before.before.before.before.args in
-    answer a.part a.block _
-    (sym (laws.start_none (geometry_of a.part) _ (rw c.before.block-count.ensures.0 at c.if2.true)))
-
-returns-3 : tie.Need-returns-3
-returns-3 c =
-    let t = c.before.before.before in
-    let a = t.before.before.before.before.before.args in
-    let p : Part = a.part in
-    let b : ℕ = a.block in
-    let m = sym t.before.before.before.before.has-lockdown.ensures ∙ t.before.before.before.if1.false in
-    let n : b < blocks (geometry_of p) = rw t.before.before.block-count.ensures.0 at t.before.if2.false in
-    let e = table_is_start t.block-starts.result t.block-starts.ensures p m b (omega (arith, laws.part_blocks_le p)) in
-    answer p b _
-    (c.run-start.ensures
-    ∙ rw (c.before.block_size.ensures.0, c.before.before.scale_of.ensures.0, e, laws.start_is (geometry_of p) b n))
+    let p : Part = c.before.before.before.before.before.before.args.part in
+    let b : ℕ = c.before.before.before.before.before.before.args.block in
+    let n : b < blocks (geometry_of p) = rw c.before.before.before.before.before.block-count.ensures.0 at c.before.before.before.before.if1.false in
+    let e = table_is_start c.before.before.before.block-starts.result c.before.before.before.block-starts.ensures p b (omega (arith, laws.part_blocks p)) in
+    answer p b _ (c.run-start.ensures ∙ rw (c.before.block_size.ensures.0, c.before.before.scale_of.ensures.0, e, laws.start_is (geometry_of p) b n))
 
 pub start-by-table-spec : {M : Type 1} → statement M
 start-by-table-spec =
     tie.close
-    (tie.spec (λ c κs. search rules) (λ c κs. search rules) returns (λ c κs. search rules) returns-2
-    (λ c κs. search rules) (λ c κs. search rules) (λ c. search rules)
-    (λ c. search rules) (λ c. search rules) (λ c κs. search rules) (λ c κs. search rules) returns-3)
+    (tie.spec (λ c κs. search rules) returns (λ c κs. search rules) (λ c κs. search rules) (λ c. search rules)
+    (λ c. search rules) (λ c. search rules) (λ c κs. search rules) (λ c κs. search rules) returns-2)

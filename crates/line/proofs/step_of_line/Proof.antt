@@ -5,7 +5,7 @@ use mathlib.Core.Path.{◌≡◌, sym, ◌∙◌}
 use native.Mathlib.Nat.{mod-eq_of_lt}
 use native.Mathlib.Omega.{arith}
 use borrow.Author.Rules.{rules}
-use Rattle.line.specs.Forms.{is_read, is_write, is_work, is_level, is_reset, step_of_line}
+use Rattle.line.specs.Forms.{is_read, is_write, is_work, is_supply, is_reset, step_of_line}
 use Rattle.line.specs.Laws as laws
 use Rattle.line.proofs.step_of_line.Statement.{statement}
 use Rattle.line.proofs.step_of_line.Tie as tie
@@ -24,8 +24,8 @@ not-write c = sym c.before.is-write.ensures ∙ c.if2.false
 not-work : (c : tie.Else3) → is_work c.before.before.before.before.before.before.before.args.line.now ≡ false
 not-work c = sym c.before.is-work.ensures ∙ c.if3.false
 
-not-supply : (c : tie.Else4) → is_level c.before.before.before.before.before.before.before.before.before.args.line.now 86 ≡ false
-not-supply c = sym c.before.is-level.ensures ∙ c.if4.false
+not-supply : (c : tie.Else4) → is_supply c.before.before.before.before.before.before.before.before.before.args.line.now ≡ false
+not-supply c = sym c.before.is-supply.ensures ∙ c.if4.false
 
 not-reset : (c : tie.Else5) → is_reset c.before.before.before.before.before.before.before.before.before.before.before.args.line.now ≡ false
 not-reset c = sym c.before.is-reset.ensures ∙ c.if5.false
@@ -60,7 +60,7 @@ returns-3 c =
 
 returns-4 : tie.Need-returns-4
 unfolding step_of_line
-returns-4 c = simp (not-read c.before.before.before.before.before.before.before, not-write c.before.before.before.before.before, not-work c.before.before.before, sym c.before.before.is-level.ensures ∙ c.before.if4.true, c.byte_at.ensures)
+returns-4 c = simp (not-read c.before.before.before.before.before.before.before, not-write c.before.before.before.before.before, not-work c.before.before.before, sym c.before.before.is-supply.ensures ∙ c.before.if4.true, c.byte_at.ensures)
 
 returns-5 : tie.Need-returns-5
 unfolding step_of_line
@@ -68,11 +68,7 @@ returns-5 c = simp (not-read c.before.before.before.before.before.before.before.
 
 returns-6 : tie.Need-returns-6
 unfolding step_of_line
-returns-6 c = simp (not-read c.before.before.before.before.before.before.before.before.before.before.before, not-write c.before.before.before.before.before.before.before.before.before, not-work c.before.before.before.before.before.before.before, not-supply c.before.before.before.before.before, not-reset c.before.before.before, sym c.before.before.is-level2.ensures ∙ c.before.if6.true, c.byte-at2.ensures)
-
-returns-7 : tie.Need-returns-7
-unfolding step_of_line
-returns-7 c = simp (not-read c.before.before.before.before.before.before.before.before.before.before, not-write c.before.before.before.before.before.before.before.before, not-work c.before.before.before.before.before.before, not-supply c.before.before.before.before, not-reset c.before.before, sym c.before.is-level2.ensures ∙ c.if6.false)
+returns-6 c = simp (not-read c.before.before.before.before.before.before.before.before, not-write c.before.before.before.before.before.before, not-work c.before.before.before.before, not-supply c.before.before, not-reset c)
 
 pub step-of-line-spec : {M : Type 1} → statement M
 step-of-line-spec =
@@ -80,5 +76,4 @@ step-of-line-spec =
     (tie.spec (search rules) (search rules) returns (search rules) (search rules) (search rules) cast-t8 returns-2
     (search rules) (λ c. omega (arith, laws.work_length _ (sym c.before.is-work.ensures ∙ c.if3.true)))
     (λ c. omega (arith, laws.work_length _ (sym c.before.is-work.ensures ∙ c.if3.true))) (search rules)
-    returns-3 (search rules) (search rules) returns-4 (search rules) returns-5 (search rules)
-    (search rules) returns-6 returns-7)
+    returns-3 (search rules) (search rules) returns-4 (search rules) returns-5 returns-6)

@@ -11,7 +11,7 @@ returns-2 c =
     let a = c.before.before.before.before.args in
     let n = c.before.before.part-numbered.ensures in
     let h = rw (c.before.block-count.ensures.0, n) at c.if2.true in
-    rw (le-leb a.part 4 c.before.before.before.if1.false, le-ltb a.block _ h)
+    rw (le-leb a.part 3 c.before.before.before.if1.false, le-ltb a.block _ h)
 
 returns-3 : tie.Need-returns-3
 unfolding start_code
@@ -19,7 +19,7 @@ returns-3 c =
     let a = c.before.before.before.before.before.args in
     let n = c.before.before.before.part-numbered.ensures in
     let h = rw (c.before.before.block-count.ensures.0, n) at c.before.if2.false in
-    rw (le-leb a.part 4 c.before.before.before.before.if1.false, lt-ltb a.block _ h, ← n) c.start-by-table.ensures.0
+    rw (le-leb a.part 3 c.before.before.before.before.if1.false, lt-ltb a.block _ h, ← n) c.start-by-table.ensures.0
 
 pub m58-block-start-spec : {M : Type 1} → statement M
 unfolding start_code

@@ -7,12 +7,12 @@ use Rattle.m58.proofs.m58_hex_write.Tie as tie
 
 returns : tie.Need-returns
 unfolding hex_written hex_room
-returns c = let e = lt-leb c.before.before.before.before.args.part 4 c.before.if1.true in (rw e c.coded.ensures, rw e)
+returns c = let e = lt-leb c.before.before.before.before.args.part 3 c.before.if1.true in (rw e c.coded.ensures, rw e)
 
 returns-2 : tie.Need-returns-2
 unfolding hex_written hex_room
 returns-2 c =
-    let e = le-leb c.before.before.before.before.before.before.before.before.before.args.part 4 c.before.before.before.before.before.before.if1.false in
+    let e = le-leb c.before.before.before.before.before.before.before.before.before.args.part 3 c.before.before.before.before.before.before.if1.false in
     let n = c.before.before.before.before.before.part-numbered.ensures in
     (rw (e, ← n, ← c.before.before.before.write.ensures.0) c.coded2.ensures, rw (e, ← n) c.before.before.before.write.ensures.1)
 

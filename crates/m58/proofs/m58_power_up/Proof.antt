@@ -10,14 +10,14 @@ use Rattle.m58.proofs.m58_power_up.Tie as tie
 
 returns-2 : tie.Need-returns-2
 unfolding powers_up powered_up unworn
-returns-2 c = let e = le-leb c.before.before.before.args.part 4 c.before.if1.false in let f = ne_eqb _ 25 c.if2.true in (rw (e, f), (rw (e, f), rw (e, f)))
+returns-2 c = let e = le-leb c.before.before.before.args.part 3 c.before.if1.false in let f = ne_eqb _ 25 c.if2.true in (rw (e, f), (rw (e, f), rw (e, f)))
 
 returns-3 : tie.Need-returns-3
 unfolding powers_up powered_up unworn put_into
 returns-3 c =
     let d = c.before.before.before.before.before in
     let t = d.before.before.before in
-    let e = le-leb _ 4 t.before.before.if1.false in
+    let e = le-leb _ 3 t.before.before.if1.false in
     let f = eq-eqb _ 25 t.before.if2.false in (
       rw (e, f),
       (rw (e, f) (c.before.before.save.ensures.0 ∙ rw f (ap (λ (d : Device). saved_of d.state) d.power-up.ensures.0 ∙ rw t.part-numbered.ensures)), rw (e, f) d.power-up.ensures.1),
@@ -27,5 +27,5 @@ pub m58-power-up-spec : {M : Type 1} → statement M
 unfolding powers_up powered_up unworn
 m58-power-up-spec =
     tie.close
-    (tie.spec (λ c. let e = lt-leb c.before.before.args.part 4 c.if1.true in (rw e, (rw e, rw e)))
+    (tie.spec (λ c. let e = lt-leb c.before.before.args.part 3 c.if1.true in (rw e, (rw e, rw e)))
     returns-2 (search rules) (search rules) (search rules) (search rules) returns-3)

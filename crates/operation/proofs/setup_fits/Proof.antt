@@ -9,7 +9,7 @@ unfolding setup_fits
 setup-fits-spec =
     tie.close
     (tie.spec (search rules) (search rules) (search rules) (search rules) (search rules) (search rules) (search rules)
-    (search rules) (search rules) (search rules) (search rules) (search rules) (λ c. cc) (λ c. cc) (λ c. cc) (λ c. cc)
-    (λ c. simp (c.block-count.ensures.0, c.before.has-lockdown.ensures, c.before.before.before.s.given.1))
-    (λ c. simp (c.block-count2.ensures.0, c.before.has-lockdown2.ensures, c.before.before.before.s2.given.1))
+    (search rules) (search rules) (search rules) (λ c. cc) (λ c. cc) (λ c. cc) (λ c. cc)
+    (λ c. simp (c.block-count.ensures.0, c.before.before.s.given.1))
+    (λ c. simp (c.block-count2.ensures.0, c.before.before.s2.given.1))
     (λ c. simp (c.buffer-fits.ensures, c.before.before.s3.given.1)))

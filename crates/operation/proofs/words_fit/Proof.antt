@@ -8,10 +8,5 @@ pub words-fit-spec : {M : Type 1} → statement M
 unfolding words_fit
 words-fit-spec =
     tie.close
-    (tie.spec (search rules) (search rules) (search rules) (search rules)
-    (λ c. simp (
-      c.stays-in.ensures,
-      c.before.has-lockdown.ensures,
-      c.before.before.length-of.ensures.0,
-      c.before.before.before.Block-of.ensures.0,
-    )))
+    (tie.spec (search rules) (search rules) (search rules)
+    (λ c. simp (c.stays-in.ensures, c.before.length-of.ensures.0, c.before.before.Block-of.ensures.0)))

@@ -15,11 +15,8 @@ returns-3 c = rw c.before.x3.given.1
 returns-4 : tie.Need-returns-4
 returns-4 c = rw c.before.x4.given.1
 
-returns-6 : tie.Need-returns-6
-returns-6 c = rw c.before.x5.given.1
-
 pub allowed-spec : {M : Type 1} → statement M
 allowed-spec =
     tie.close
     (tie.spec (λ c. search rules) (λ c. search rules) (λ c κs. search rules) (λ c. search rules) (λ c. search rules)
-    (λ c. search rules) (λ c. search rules) returns returns-2 returns-3 returns-4 (λ c. search rules) returns-6)
+    (λ c. search rules) returns returns-2 returns-3 returns-4 (λ c. search rules))

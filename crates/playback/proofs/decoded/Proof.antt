@@ -36,107 +36,30 @@ returns-3 c = simp (ne_eqb _ _ c.before.if2.false, ne_eqb _ _ c.if3.true)
 
 returns-4 : tie.Need-returns-4
 unfolding decode decoded_as
-returns-4 c =
-    simp (
-      ne_eqb _ _ c.before.before.if2.false,
-      eq-eqb _ _ c.before.if3.false,
-      no_read _ c.before.before.before.if1.false c.before.if3.false,
-      eq-eqb _ _ c.if4.true,
-    )
+returns-4 c = simp (ne_eqb _ _ c.before.before.if2.false, eq-eqb _ _ c.before.if3.false, no_read _ c.before.before.before.if1.false c.before.if3.false, eq-eqb _ _ c.if4.true)
 
 returns-5 : tie.Need-returns-5
 unfolding decode decoded_as
-returns-5 c =
-    simp (
-      ne_eqb _ _ c.before.before.before.before.if2.false,
-      eq-eqb _ _ c.before.before.before.if3.false,
-      no_read _ c.before.before.before.before.before.if1.false c.before.before.before.if3.false,
-      ne_eqb _ _ c.before.before.if4.false,
-      eq-eqb _ _ c.before.if5.true,
-      lt-ltb _ _ c.if6.true,
-    )
+returns-5 c = simp (ne_eqb _ _ c.before.before.before.before.if2.false, eq-eqb _ _ c.before.before.before.if3.false, no_read _ c.before.before.before.before.before.if1.false c.before.before.before.if3.false, ne_eqb _ _ c.before.before.if4.false, eq-eqb _ _ c.before.if5.true, lt-ltb _ _ c.if6.true)
 
 returns-6 : tie.Need-returns-6
 unfolding decode decoded_as
-returns-6 c =
-    simp (
-      ne_eqb _ _ c.before.before.before.before.if2.false,
-      eq-eqb _ _ c.before.before.before.if3.false,
-      no_read _ c.before.before.before.before.before.if1.false c.before.before.before.if3.false,
-      ne_eqb _ _ c.before.before.if4.false,
-      eq-eqb _ _ c.before.if5.true,
-      le-ltb _ _ c.if6.false,
-    )
+returns-6 c = simp (ne_eqb _ _ c.before.before.before.before.if2.false, eq-eqb _ _ c.before.before.before.if3.false, no_read _ c.before.before.before.before.before.if1.false c.before.before.before.if3.false, ne_eqb _ _ c.before.before.if4.false, eq-eqb _ _ c.before.if5.true, le-ltb _ _ c.if6.false)
 
 returns-7 : tie.Need-returns-7
 unfolding decode decoded_as
-returns-7 c =
-    simp (
-      ne_eqb _ _ c.before.before.before.before.before.if2.false,
-      eq-eqb _ _ c.before.before.before.before.if3.false,
-      no_read _ c.before.before.before.before.before.before.if1.false c.before.before.before.before.if3.false,
-      ne_eqb _ _ c.before.before.before.if4.false,
-      ne_eqb _ _ c.before.before.if5.false,
-      eq-eqb _ _ c.before.if7.true,
-      eq-eqb _ _ c.if8.true,
-    )
+returns-7 c = simp (ne_eqb _ _ c.before.before.before.before.before.if2.false, eq-eqb _ _ c.before.before.before.before.if3.false, no_read _ c.before.before.before.before.before.before.if1.false c.before.before.before.before.if3.false, ne_eqb _ _ c.before.before.before.if4.false, ne_eqb _ _ c.before.before.if5.false, eq-eqb _ _ c.before.if7.true, eq-eqb _ _ c.if8.true)
 
 returns-8 : tie.Need-returns-8
 unfolding decode decoded_as
-returns-8 c =
-    simp (
-      ne_eqb _ _ c.before.before.before.before.before.if2.false,
-      eq-eqb _ _ c.before.before.before.before.if3.false,
-      no_read _ c.before.before.before.before.before.before.if1.false c.before.before.before.before.if3.false,
-      ne_eqb _ _ c.before.before.before.if4.false,
-      ne_eqb _ _ c.before.before.if5.false,
-      eq-eqb _ _ c.before.if7.true,
-      ne_eqb _ _ c.if8.false,
-    )
+returns-8 c = simp (ne_eqb _ _ c.before.before.before.before.before.if2.false, eq-eqb _ _ c.before.before.before.before.if3.false, no_read _ c.before.before.before.before.before.before.if1.false c.before.before.before.before.if3.false, ne_eqb _ _ c.before.before.before.if4.false, ne_eqb _ _ c.before.before.if5.false, eq-eqb _ _ c.before.if7.true, ne_eqb _ _ c.if8.false)
 
 returns-9 : tie.Need-returns-9
 unfolding decode decoded_as
-returns-9 c =
-    simp (
-      ne_eqb _ _ c.before.before.before.before.before.before.if2.false,
-      eq-eqb _ _ c.before.before.before.before.before.if3.false,
-      no_read _ c.before.before.before.before.before.before.before.if1.false c.before.before.before.before.before.if3.false,
-      ne_eqb _ _ c.before.before.before.before.if4.false,
-      ne_eqb _ _ c.before.before.before.if5.false,
-      ne_eqb _ _ c.before.before.if7.false,
-      eq-eqb _ _ c.before.if9.true,
-      lt-ltb _ _ c.if10.true,
-    )
-
-returns-10 : tie.Need-returns-10
-unfolding decode decoded_as
-returns-10 c =
-    simp (
-      ne_eqb _ _ c.before.before.before.before.before.before.if2.false,
-      eq-eqb _ _ c.before.before.before.before.before.if3.false,
-      no_read _ c.before.before.before.before.before.before.before.if1.false c.before.before.before.before.before.if3.false,
-      ne_eqb _ _ c.before.before.before.before.if4.false,
-      ne_eqb _ _ c.before.before.before.if5.false,
-      ne_eqb _ _ c.before.before.if7.false,
-      eq-eqb _ _ c.before.if9.true,
-      le-ltb _ _ c.if10.false,
-    )
-
-returns-11 : tie.Need-returns-11
-unfolding decode decoded_as
-returns-11 c =
-    simp (
-      ne_eqb _ _ c.before.before.before.before.before.if2.false,
-      eq-eqb _ _ c.before.before.before.before.if3.false,
-      no_read _ c.before.before.before.before.before.before.if1.false c.before.before.before.before.if3.false,
-      ne_eqb _ _ c.before.before.before.if4.false,
-      ne_eqb _ _ c.before.before.if5.false,
-      ne_eqb _ _ c.before.if7.false,
-      ne_eqb _ _ c.if9.false,
-    )
+returns-9 c = simp (ne_eqb _ _ c.before.before.before.before.if2.false, eq-eqb _ _ c.before.before.before.if3.false, no_read _ c.before.before.before.before.before.if1.false c.before.before.before.if3.false, ne_eqb _ _ c.before.before.if4.false, ne_eqb _ _ c.before.if5.false, ne_eqb _ _ c.if7.false)
 
 pub decoded-spec : {M : Type 1} → statement M
 decoded-spec =
     tie.close
     (tie.spec (λ c. search rules) (λ c. search rules) returns returns-2 returns-3 returns-4 returns-5 returns-6
-    returns-7 returns-8 returns-9 returns-10 returns-11)
+    returns-7 returns-8 returns-9)

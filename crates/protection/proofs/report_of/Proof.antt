@@ -1,7 +1,5 @@
--- `protection::report_of` meets its contract: after i words the count and the lowest are those of the first 64 * i
--- digits.
+-- `protection::report_of` meets its contract: after i words the count and the lowest are those of the first 64 * i digits.
 use Prim.Native.Nat.{ℕ, ◌+◌, ◌-◌, ◌*◌, ◌^◌, ◌<◌, ◌≤◌}
-use mathlib.Core.Bool.{Bool}
 use mathlib.Core.List.{List}
 use mathlib.Core.Logic.{inl, inr}
 use mathlib.Core.Path.{◌≡◌, refl, sym, ap, ap₂, ◌∙◌}
@@ -11,36 +9,25 @@ use mir.Syntax.{w64}
 use mir.Val.{Fits}
 use lib.ListN.{length, get_or}
 use lib.Count.{ones, ones-le, trailing_le}
-use Rattle.geometry.specs.declared.Part.{Part}
-use Rattle.geometry.specs.Blocks.{geometry_of, blocks}
-use Rattle.protection.specs.Words.{bit_at, count, Least, programmable_count, programmable_words, report_of}
+use Rattle.protection.specs.Words.{bit_at, count, Least, without_spare, unprotected_count, lowest_unprotected, report_of}
 use Rattle.protection.specs.Digits.{least_stays}
 use Rattle.protection.proofs.Scan.{count_word, least_word, count_kept, least_kept, least_none}
 use Rattle.protection.proofs.report_of.Statement.{statement}
 use Rattle.protection.proofs.report_of.Tie as tie
 
 abbrev invariant-loop : tie.invariant-loop
-invariant-loop part pin kept count₀ lowest₀ i₀ total lowest i =
-    (i ≤ 5)
-    × (total ≤ 64 * i)
-    × (total ≡ count (64 * i) (bit_at kept))
-    × Least (64 * i) (bit_at kept) lowest
+invariant-loop kept count₀ lowest₀ i₀ total lowest i = (i ≤ 5) × (total ≤ 64 * i) × (total ≡ count (64 * i) (bit_at kept)) × Least (64 * i) (bit_at kept) lowest
 
 abbrev decreases-loop : tie.decreases-loop
-decreases-loop part pin kept count₀ lowest₀ i₀ total lowest i = 5 - i
+decreases-loop kept count₀ lowest₀ i₀ total lowest i = 5 - i
 
 loop-holds : tie.Need-loop-init invariant-loop decreases-loop
 unfolding count
-loop-holds c = (
-  omega arith,
-  omega arith,
-  refl,
-  record { within = omega arith; below = λ i h. omega arith; here = λ h. omega arith },
-)
+loop-holds c = (omega arith, omega arith, refl, record { within = omega arith; below = λ i h. omega arith; here = λ h. omega arith })
 
 -- the word that is read fits, so it has at most 64 ones
 abbrev read : tie.In-loop invariant-loop decreases-loop → ℕ
-read c = get_or c.before.before.programmable-words.result c.before.loop.i 0
+read c = get_or c.before.before.without-spare.result c.before.loop.i 0
 
 word : (c : tie.In-loop invariant-loop decreases-loop) → read c < 2 ^ 64
 word c = let f : Fits w64 (read c) = search rules in f.fits
@@ -73,10 +60,7 @@ loop-less : tie.Need-loop-smaller invariant-loop decreases-loop
 loop-less c = omega arith
 
 -- the lowest after one word more, by whether one was found before
-lowest-again :
-    (c : tie.Joined1 invariant-loop decreases-loop)
-    → Least (64 * c.before.before.loop.i + 64) (bit_at c.before.before.before.programmable-words.result)
-    c.if1.lowest
+lowest-again : (c : tie.Joined1 invariant-loop decreases-loop) → Least (64 * c.before.before.loop.i + 64) (bit_at c.before.before.before.without-spare.result) c.if1.lowest
 lowest-again c =
     elim c.if1.branch [
       | inl w ↦ rw w.1 (least_word _ _ _ c.before.before.loop.invariant.3 w.0.taken)
@@ -89,22 +73,14 @@ loop-again c =
     let e : 64 * (i + 1) ≡ 64 * i + 64 = omega arith in (
       omega arith,
       omega (arith, counted c.before),
-      rw e
-          (ap (λ (x : ℕ). x + ones (read c.before)) c.before.before.loop.invariant.2
-          ∙ sym (count_word _ i (word c.before))),
+      rw e (ap (λ (x : ℕ). x + ones (read c.before)) c.before.before.loop.invariant.2 ∙ sym (count_word _ i (word c.before))),
       rw e (lowest-again c),
     )
 
 -- at the loop's end all 320 digits are passed
 module _ (c : tie.After-loop invariant-loop decreases-loop) where
-  abbrev part : Part
-  part = c.before.before.before.args.part
-
   abbrev ws : List ℕ
   ws = c.before.before.before.args.words
-
-  abbrev pin : Bool
-  pin = c.before.before.before.args.pin
 
   five : length ws ≡ 5
   five = search rules
@@ -112,33 +88,22 @@ module _ (c : tie.After-loop invariant-loop decreases-loop) where
   all : 64 * c.before.loop.i ≡ 320
   all = omega arith
 
-  total : c.before.loop.count ≡ programmable_count (geometry_of part) ws pin
-  total =
-      c.before.loop.invariant.2
-      ∙ ap₂ (λ (n : ℕ) (l : List ℕ). count n (bit_at l)) all c.before.before.programmable-words.ensures
-      ∙ count_kept part ws five pin
+  total : c.before.loop.count ≡ count 259 (bit_at ws)
+  total = c.before.loop.invariant.2 ∙ ap₂ (λ (n : ℕ) (l : List ℕ). count n (bit_at l)) all c.before.before.without-spare.ensures ∙ count_kept ws five
 
-  low : Least 320 (bit_at (programmable_words (geometry_of part) ws pin)) c.before.loop.lowest
-  low = rw (all, c.before.before.programmable-words.ensures) at c.before.loop.invariant.3
+  low : Least 320 (bit_at (without_spare ws)) c.before.loop.lowest
+  low = rw (all, c.before.before.without-spare.ensures) at c.before.loop.invariant.3
 
 returns : tie.Need-returns invariant-loop decreases-loop
-unfolding report_of
-returns c =
-    let d = c.before.before in
-    let b = c.before.block-count.ensures.0 in
-    let h : d.before.loop.lowest < blocks (geometry_of (part d)) = omega (arith, c.if2.true, b) in
-    λ j. record { count = total d j; lowest = least_kept (part d) (ws d) (five d) (pin d) _ (low d) h j }
+unfolding report_of unprotected_count lowest_unprotected
+returns c = λ j. record { count = total c.before j; lowest = least_kept (ws c.before) (five c.before) _ (low c.before) c.if2.true j }
 
 returns-2 : tie.Need-returns-2 invariant-loop decreases-loop
-unfolding report_of
-returns-2 c =
-    let d = c.before.before in
-    let b = c.before.block-count.ensures.0 in
-    let h : blocks (geometry_of (part d)) ≤ d.before.loop.lowest = omega (arith, c.if2.false, b) in
-    λ j. record { count = total d j; lowest = (b ∙ least_none (part d) (ws d) (five d) (pin d) _ (low d) h) j }
+unfolding report_of unprotected_count lowest_unprotected
+returns-2 c = λ j. record { count = total c.before j; lowest = least_none (ws c.before) (five c.before) _ (low c.before) c.if2.false j }
 
 pub report-of-spec : {M : Type 1} → statement M
 report-of-spec =
     tie.close
     (tie.spec invariant-loop decreases-loop (λ c κs. search rules) loop-holds cast-w mul-w array-read-w add-count mul-if1 add-lowest
-    add-i loop-less loop-again (λ c κs. search rules) returns returns-2)
+    add-i loop-less loop-again returns returns-2)

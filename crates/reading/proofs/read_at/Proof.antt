@@ -14,7 +14,7 @@ returns-2 c a = c.status-word.ensures ∙ sym (by_status _ _ _ _ _ c.before.befo
 returns-3 : tie.Need-returns-3
 returns-3 c a =
     let b = c.before.before in
-    rw (c.signature-word.ensures, c.before.lock-of.ensures, b.Block-of.ensures.0) (sym (by_signature _ _ _ _ _ b.before.before.before.shown.ensures b.before.enum-told3.given.1))
+    rw (c.signature-word.ensures, c.before.is-unprotected.ensures, b.Block-of.ensures.0) (sym (by_signature _ _ _ _ _ b.before.before.before.shown.ensures b.before.enum-told3.given.1))
 
 returns-4 : tie.Need-returns-4
 returns-4 c a = rw (c.query-word.ensures, c.before.bank_offset_lem.ensures) (sym (by_query _ _ _ _ _ c.before.before.before.before.shown.ensures c.before.before.enum-told4.given.1))

@@ -19,7 +19,7 @@ returns-3 c = rw (← c.before.before.before.bank_offset_lem.ensures, c.if3.true
 
 returns-4 : tie.Need-returns-4
 unfolding signature_word
-returns-4 c = simp (c.lock-word.ensures, ← c.before.before.before.before.before.before.before.bank_offset_lem.ensures, ne_eqb _ _ c.before.before.before.before.before.before.if1.false, ne_eqb _ _ c.before.before.before.before.before.if2.false, ne_eqb _ _ c.before.before.before.before.if3.false, ← c.before.before.before.block_offset_lem.ensures, c.before.before.if4.true)
+returns-4 c = simp (c.bit-if.ensures.0, ← c.before.before.before.before.before.before.before.bank_offset_lem.ensures, ne_eqb _ _ c.before.before.before.before.before.before.if1.false, ne_eqb _ _ c.before.before.before.before.before.if2.false, ne_eqb _ _ c.before.before.before.before.if3.false, ← c.before.before.before.block_offset_lem.ensures, c.before.before.if4.true)
 
 returns-5 : tie.Need-returns-5
 unfolding signature_word

@@ -9,9 +9,9 @@ unfolding loaded_of
 load-with-spec =
     tie.close
     (tie.spec (search rules) (search rules) (search rules) (search rules) (search rules) (search rules) (search rules)
-    (search rules) (search rules)
-    (λ c. simp c.before.before.before.before.before.before.part_in.ensures
-    (simp (c.before.before.before.before.before.banks-of.ensures, c.before.before.before.before.protection-of.ensures)
-    (simp (c.before.before.before.flags_of.ensures, c.before.flag-numbered2.ensures, c.before.before.flag-numbered.ensures)
-    (simp (c.before.before.before.before.before.before.before.word_at.ensures, c.buffer-of.ensures)
-    (simp c.before.before.before.before.before.before.before.before.before.requires))))))
+    (search rules)
+    (λ c. simp c.before.before.before.before.before.part_in.ensures
+    (simp (c.before.before.before.before.banks-of.ensures, c.before.before.before.protection-of.ensures)
+    (simp (c.before.before.flags_of.ensures, c.before.flag-numbered.ensures)
+    (simp (c.before.before.before.before.before.before.word_at.ensures, c.buffer-of.ensures)
+    (simp c.before.before.before.before.before.before.before.before.requires))))))

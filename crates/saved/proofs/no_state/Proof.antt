@@ -9,4 +9,4 @@ unfolding no_state
 no-state-spec =
     tie.close
     (tie.spec (search rules) (search rules) (search rules)
-    (λ c. simp (c.with-locks.ensures, c.before.power-up.ensures, c.before.before.part_in.ensures)))
+    (λ c. simp (c.with-protection.ensures, c.before.power-up.ensures, c.before.before.part_in.ensures)))

@@ -11,7 +11,7 @@ returns-2 : tie.Need-returns-2
 returns-2 c =
     let n = c.before.word_at.result in
     let h = c.if1.false in
-    rw (← c.before.word_at.ensures, ne_eqb n 0 (λ e. omega (arith, h)), ne_eqb n 1 (λ e. omega (arith, h)), ne_eqb n 2 (λ e. omega (arith, h)), ne_eqb n 4 (λ e. omega (arith, h)))
+    rw (← c.before.word_at.ensures, ne_eqb n 0 (λ e. omega (arith, h)), ne_eqb n 1 (λ e. omega (arith, h)), ne_eqb n 2 (λ e. omega (arith, h)))
 
 pub part-in-spec : {M : Type 1} → statement M
 part-in-spec =

@@ -18,7 +18,7 @@ returns-2 c =
     let first = c.before.before.before.before in
     let told = first.before.before.before.before in
     line_refused _ _ _ _ _ _ _ _ _ _ (sym told.before.before.step-of-line.ensures ∙ told.enum_told.given.1)
-    (first.first-refusal.ensures ∙ ap (λ (n : ℕ). first_refusal n 6) first.before.refusal-of.ensures) c.before.before.put-line2.ensures
+    (first.first-refusal.ensures ∙ ap (λ (n : ℕ). first_refusal n 6) (first.before.refusal-of.ensures _)) c.before.before.put-line2.ensures
 
 pub play-line-spec : {M : Type 1} → statement M
 play-line-spec =

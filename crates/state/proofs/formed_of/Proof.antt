@@ -11,16 +11,16 @@ use Rattle.state.proofs.formed_of.Tie as tie
 
 returns : tie.Need-returns
 unfolding well_formed
-returns c =
+returns c bs =
     let s = c.before.before.before.before.before.before.args in
     let a = sym c.before.before.before.before.at_rest.ensures ∙ c.before.before.before.if1.true in
-    simp (at_rest_formed (geometry_of s.part) s.c.activity a, at_rest_unused s.c.activity a, c.before.before.unused-zero.ensures, c.before.zero-from.ensures, c.reserved-zero.ensures, idle_supplied s.c (at_rest_idle s.c.activity a), and-true)
+    simp (at_rest_formed (geometry_of s.part) s.c.activity a, at_rest_unused s.c.activity a, c.before.before.spare-zero.ensures, c.before.zero-from.ensures, c.reserved-zero.ensures, idle_supplied s.c (at_rest_idle s.c.activity a), and-true)
 
 returns-2 : tie.Need-returns-2
 unfolding well_formed
-returns-2 c =
+returns-2 c bs =
     let k = c.before.before.before in
-    simp (k.before.before.activity-formed.ensures, k.before.unused-zero2.ensures, c.before.before.zero-from2.ensures, k.places-used.ensures, c.before.reserved-zero2.ensures, c.runs-supplied.ensures)
+    simp (k.before.before.activity-formed.ensures, k.before.spare-zero2.ensures, c.before.before.zero-from2.ensures, k.places-used.ensures, c.before.reserved-zero2.ensures, c.runs-supplied.ensures)
 
 pub formed-of-spec : {M : Type 1} → statement M
 formed-of-spec =

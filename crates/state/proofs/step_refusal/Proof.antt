@@ -23,13 +23,9 @@ returns-5 : tie.Need-returns-5
 unfolding given card step_refusal
 returns-5 c = rw c.enum_told.given.1
 
-returns-6 : tie.Need-returns-6
-unfolding given card step_refusal
-returns-6 c = rw c.before.x5.given.1
-
 pub step-refusal-spec : {M : Type 1} → statement M
 step-refusal-spec =
     tie.close
     (tie.spec (λ c. search rules) (λ c κs. search rules) (λ c. search rules) (λ c κs. search rules)
-    (λ c. search rules) (λ c κs. search rules) (λ c. search rules) (λ c. search rules) (λ c. search rules) returns returns-2
-    returns-3 returns-4 returns-5 returns-6)
+    (λ c. search rules) (λ c κs. search rules) (λ c. search rules) (λ c. search rules) returns returns-2 returns-3
+    returns-4 returns-5)

@@ -4,7 +4,7 @@ use Rattle.state.proofs.well_formed.Statement.{statement}
 use Rattle.state.proofs.well_formed.Tie as tie
 
 returns : tie.Need-returns
-returns c = c.formed-of.ensures
+returns c = c.formed-of.ensures _
 
 pub well-formed-spec : {M : Type 1} → statement M
 well-formed-spec = tie.close (tie.spec (λ c κs. search rules) returns)

@@ -1,5 +1,4 @@
 -- `writing::command_of` meets its contract: by the number that was matched, or by those that were not. Assumes nothing.
-use borrow.Author.Rules.{rules}
 use borrow.Author.Tests.{ne_eqb}
 use Rattle.semantics.specs.Writing.{command_of}
 use Rattle.writing.proofs.command_of.Statement.{statement}
@@ -51,7 +50,7 @@ returns-11 c = simp c.match.keys11
 
 returns-12 : tie.Need-returns-12
 unfolding command_of
-returns-12 c = simp (c.buffer-command.ensures, c.before.match.keys12)
+returns-12 c = simp c.match.keys12
 
 returns-13 : tie.Need-returns-13
 unfolding command_of
@@ -74,5 +73,5 @@ returns-13 c =
 pub command-of-spec : {M : Type 1} → statement M
 command-of-spec =
     tie.close
-    (tie.spec (λ c κs. search rules) returns returns-2 returns-3 returns-4 returns-5 returns-6 returns-7 returns-8 returns-9 returns-10
+    (tie.spec returns returns-2 returns-3 returns-4 returns-5 returns-6 returns-7 returns-8 returns-9 returns-10
     returns-11 returns-12 returns-13)

@@ -15,31 +15,15 @@ returns-2 c = simp (c.with-raised2.ensures, c.before.flags-of2.ensures, eq-eqb _
 
 returns-3 : tie.Need-returns-3
 unfolding erase_cycle
-returns-3 c =
-    simp (
-      c.with-raised3.ensures,
-      c.before.flags-of3.ensures,
-      eq-eqb _ _ c.before.before.before.before.before.before.if1.false,
-      c.before.before.before.before.if2.false,
-      ← c.before.before.before.can-program.ensures,
-      c.before.before.if3.true,
-    )
+returns-3 c = simp (c.with-raised3.ensures, c.before.flags-of3.ensures, eq-eqb _ _ c.before.before.before.before.before.before.if1.false, c.before.before.before.before.if2.false, c.before.before.if3.true)
 
 returns-4 : tie.Need-returns-4
 unfolding erase_cycle
-returns-4 c =
-    rw (
-      c.with-activity.ensures,
-      c.before.with-running.ensures,
-      eq-eqb _ _ c.before.before.before.before.before.before.if1.false,
-      c.before.before.before.before.if2.false,
-      ← c.before.before.before.can-program.ensures,
-      c.before.before.if3.false,
-    )
+returns-4 c = rw (c.with-activity.ensures, c.before.with-running.ensures, eq-eqb _ _ c.before.before.before.before.before.before.if1.false, c.before.before.before.before.if2.false, c.before.before.if3.false)
 
 pub erase-cycle-spec : {M : Type 1} → statement M
 erase-cycle-spec =
     tie.close
     (tie.spec (λ c κs. search rules) (λ c κs. search rules) returns (λ c κs. search rules) (λ c κs. search rules)
-    returns-2 (λ c κs. search rules) (λ c κs. search rules) (λ c κs. search rules) returns-3 (λ c κs. search rules) (λ c κs. search rules)
+    returns-2 (λ c κs. search rules) (λ c κs. search rules) returns-3 (λ c κs. search rules) (λ c κs. search rules)
     returns-4)

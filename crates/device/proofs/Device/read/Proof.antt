@@ -10,10 +10,10 @@ use Rattle.device.proofs.Device.read.Tie as tie
 returns : tie.Need-returns
 unfolding accepted
 returns c = rw c.read_word.ensures
-    (outcome_accepted _ _ _ (Read _) _ _ _ c.before.before.before.before.refusal-of.ensures c.before.before.before.address-refusal.ensures c.before.before.first-refusal.ensures c.before.if1.true)
+    (outcome_accepted _ _ _ (Read _) _ _ _ (c.before.before.before.before.refusal-of.ensures _) c.before.before.before.address-refusal.ensures c.before.before.first-refusal.ensures c.before.if1.true)
 
 returns-2 : tie.Need-returns-2
-returns-2 c = c.refused.ensures ∙ outcome_refused _ _ _ (Read _) _ _ _ c.before.before.before.before.refusal-of.ensures c.before.before.before.address-refusal.ensures c.before.before.first-refusal.ensures c.before.if1.false
+returns-2 c = c.refused.ensures ∙ outcome_refused _ _ _ (Read _) _ _ _ (c.before.before.before.before.refusal-of.ensures _) c.before.before.before.address-refusal.ensures c.before.before.first-refusal.ensures c.before.if1.false
 
 pub read_spec : {M : Type 1} → statement M
 read_spec =

@@ -11,11 +11,11 @@ use Rattle.device.proofs.Device.reset.Tie as tie
 
 returns : tie.Need-returns
 unfolding accepted given card step_refusal
-returns c = rw c.reset.ensures (outcome_accepted _ _ _ Reset _ _ _ c.before.before.before.refusal-of.ensures refl c.before.before.first-refusal.ensures c.before.if1.true)
+returns c = rw c.reset.ensures (outcome_accepted _ _ _ Reset _ _ _ (c.before.before.before.refusal-of.ensures _) refl c.before.before.first-refusal.ensures c.before.if1.true)
 
 returns-2 : tie.Need-returns-2
 unfolding given card step_refusal
-returns-2 c = c.refused.ensures ∙ outcome_refused _ _ _ Reset _ _ _ c.before.before.before.refusal-of.ensures refl c.before.before.first-refusal.ensures c.before.if1.false
+returns-2 c = c.refused.ensures ∙ outcome_refused _ _ _ Reset _ _ _ (c.before.before.before.refusal-of.ensures _) refl c.before.before.first-refusal.ensures c.before.if1.false
 
 pub reset-spec : {M : Type 1} → statement M
 reset-spec =

@@ -26,15 +26,10 @@ returns-5 : tie.Need-returns-5
 unfolding accepted_array accepted_counts
 returns-5 c = rw c.before.before.before.before.enum_told.given.1 (c.reset.ensures, (sym (array_still _ _ _ _ refl), sym (counts_still _ _ _ _ refl)))
 
-returns-6 : tie.Need-returns-6
-unfolding accepted_array accepted_counts
-returns-6 c = rw c.before.before.before.before.before.step5.given.1 (c.pin.ensures, (sym (array_still _ _ _ _ refl), sym (counts_still _ _ _ _ refl)))
-
 pub step_spec : {M : Type 1} → statement M
 step_spec =
     tie.close
     (tie.spec (λ c. search rules) (λ c κs. search rules) (λ c. search rules) (λ c κs. search rules)
     (λ c. search rules) (λ c κs. search rules) (λ c. search rules) (λ c κs. search rules) (λ c. search rules)
-    (λ c κs. search rules) (λ c. search rules) (λ c κs. search rules) (λ c. search rules) returns (λ c. search rules)
-    returns-2 (λ c. search rules) returns-3 (λ c. search rules) returns-4 (λ c. search rules) returns-5
-    (λ c. search rules) returns-6)
+    (λ c κs. search rules) (λ c. search rules) returns (λ c. search rules) returns-2 (λ c. search rules) returns-3
+    (λ c. search rules) returns-4 (λ c. search rules) returns-5)

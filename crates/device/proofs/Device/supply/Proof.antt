@@ -13,11 +13,11 @@ returns : tie.Need-returns
 unfolding accepted given card step_refusal switched_to
 returns c =
     let w = c.switch-supply.ensures in
-    rw (w.1, w.0) (outcome_accepted _ _ _ (Supply _) _ _ _ c.before.before.before.before.before.refusal-of.ensures refl c.before.before.before.before.first-refusal.ensures c.before.before.before.if1.true)
+    rw (w.1, w.0) (outcome_accepted _ _ _ (Supply _) _ _ _ (c.before.before.before.before.before.refusal-of.ensures _) refl c.before.before.before.before.first-refusal.ensures c.before.before.before.if1.true)
 
 returns-2 : tie.Need-returns-2
 unfolding given card step_refusal
-returns-2 c = c.refused.ensures ∙ outcome_refused _ _ _ (Supply _) _ _ _ c.before.before.before.refusal-of.ensures refl c.before.before.first-refusal.ensures c.before.if1.false
+returns-2 c = c.refused.ensures ∙ outcome_refused _ _ _ (Supply _) _ _ _ (c.before.before.before.refusal-of.ensures _) refl c.before.before.first-refusal.ensures c.before.if1.false
 
 pub supply-spec : {M : Type 1} → statement M
 supply-spec =

@@ -13,7 +13,7 @@ returns : tie.Need-returns
 unfolding accepted accepted_array accepted_counts worked_on worked worked_array
 returns c =
     let w = c.before.before.before.before.before.before.before.before.work.ensures in
-    let s = c.before.before.before.before.before.before.before.before.before.before.before.before.before.before.refusal-of.ensures in
+    let s = c.before.before.before.before.before.before.before.before.before.before.before.before.before.before.refusal-of.ensures _ in
     let n = c.before.before.before.before.before.before.before.before.before.before.before.before.before.count-refusal.ensures _ in
     let e = c.before.before.before.before.before.before.before.before.before.before.before.before.first-refusal.ensures in
     let t = c.before.before.before.before.before.before.before.before.before.before.before.if1.true in (
@@ -23,7 +23,7 @@ returns c =
 
 returns-2 : tie.Need-returns-2
 returns-2 c =
-    let s = c.before.before.before.before.refusal-of.ensures in
+    let s = c.before.before.before.before.refusal-of.ensures _ in
     let n = c.before.before.before.count-refusal.ensures _ in
     let e = c.before.before.first-refusal.ensures in (
       c.refused.ensures ∙ outcome_refused _ _ _ (Work _) _ _ _ s n e c.before.if1.false,

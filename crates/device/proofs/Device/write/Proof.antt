@@ -12,11 +12,11 @@ use Rattle.device.proofs.Device.write.Tie as tie
 returns : tie.Need-returns
 unfolding accepted card step_refusal
 returns c = rw c.written.ensures
-    (outcome_accepted _ _ _ (Write _ _) _ _ _ c.before.before.before.before.refusal-of.ensures c.before.before.before.address-refusal.ensures c.before.before.first-refusal.ensures c.before.if1.true)
+    (outcome_accepted _ _ _ (Write _ _) _ _ _ (c.before.before.before.before.refusal-of.ensures _) c.before.before.before.address-refusal.ensures c.before.before.first-refusal.ensures c.before.if1.true)
 
 returns-2 : tie.Need-returns-2
 unfolding card step_refusal
-returns-2 c = c.refused.ensures ∙ outcome_refused _ _ _ (Write _ _) _ _ _ c.before.before.before.before.refusal-of.ensures c.before.before.before.address-refusal.ensures c.before.before.first-refusal.ensures c.before.if1.false
+returns-2 c = c.refused.ensures ∙ outcome_refused _ _ _ (Write _ _) _ _ _ (c.before.before.before.before.refusal-of.ensures _) c.before.before.before.address-refusal.ensures c.before.before.first-refusal.ensures c.before.if1.false
 
 pub write_spec : {M : Type 1} → statement M
 write_spec =
