@@ -12,13 +12,13 @@ use semantics::{Answer, Reported, State, Step};
 use wear::Worn;
 
 // All that a device holds is its state. (Methods stand in the crate of their struct; the definitions of the state stand in a crate without code.)
-#[derive(Drop)]
+#[derive(Clone, Copy)]
 pub struct Device {
     pub state: State,
 }
 
 // The device after a step, and the step's answer.
-#[derive(Drop)]
+#[derive(Clone, Copy)]
 pub struct Outcome {
     pub device: Device,
     pub answer: Answer,

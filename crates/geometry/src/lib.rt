@@ -6,7 +6,7 @@ ghost use Rattle.geometry.specs.Bits.{unit_bits, small_bits, bank_bits, turned};
 ghost use Rattle.geometry.specs.Table.{tied, not_above, Rises, scale};
 
 // The four parts: full or bench size, with the small blocks at the bottom or at the top.
-#[derive(Drop)]
+#[derive(Clone, Copy)]
 pub enum Part {
     FullBottom,
     FullTop,
@@ -15,7 +15,7 @@ pub enum Part {
 }
 
 // What a part's rules depend on.
-#[derive(Drop)]
+#[derive(Clone, Copy)]
 pub struct Geometry {
     // The words of a main block.
     pub unit: u32,
@@ -30,7 +30,7 @@ pub struct Geometry {
 }
 
 // The answer of a lookup: a refusal's number or 0, and beside it the block and the bank, each 0 where it is refused.
-#[derive(Drop)]
+#[derive(Clone, Copy)]
 pub struct Lookup {
     pub refusal: u32,
     pub block: u32,

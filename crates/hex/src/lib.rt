@@ -3,14 +3,14 @@
 
 // The answer of a reading: a refusal's number or 0, and how many lines were looked at. The last of them decided: the bad record's or the end record's; beside 14 it is
 // the text's last, and beside 1 there is none.
-#[derive(Drop)]
+#[derive(Clone, Copy)]
 pub struct Verdict {
     pub refusal: u32,
     pub line: usize,
 }
 
 // The answer of a writing: a refusal's number or 0, and the length of the text, 0 where it is refused.
-#[derive(Drop)]
+#[derive(Clone, Copy)]
 pub struct Written {
     pub refusal: u32,
     pub length: usize,

@@ -14,7 +14,7 @@ use hex::Verdict;
 // ---- the bytes of a record
 
 // A record's number of data bytes, its offset and its type.
-#[derive(Drop)]
+#[derive(Clone, Copy)]
 struct Header {
     count: u32,
     offset: u32,
@@ -22,7 +22,7 @@ struct Header {
 }
 
 // Whether a record has digits only, and the sum of its bytes as it wraps at 256.
-#[derive(Drop)]
+#[derive(Clone, Copy)]
 struct Scanned {
     digits: bool,
     sum: u8,
@@ -30,7 +30,7 @@ struct Scanned {
 
 // What is seen of a line: its refusal or 0, and, of a good record, whether it ends the file and the upper address that
 // holds after it.
-#[derive(Drop)]
+#[derive(Clone, Copy)]
 struct LineSeen {
     refusal: u32,
     ends: bool,

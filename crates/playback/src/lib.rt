@@ -22,14 +22,14 @@ use working::Progress;
 use writing::Change;
 
 // How many steps were played, and the device after them.
-#[derive(Drop)]
+#[derive(Clone, Copy)]
 pub struct RunEnd {
     pub played: usize,
     pub device: Device,
 }
 
 // What a number asks of a list: its end, where it encodes no step; a refusal; or a step that is not refused, a write with the place that it names.
-#[derive(Drop)]
+#[derive(Clone, Copy)]
 pub enum Task {
     End,
     Refused(u32),

@@ -8,7 +8,7 @@ ghost use Rattle.protection.specs.Words.{is_unprotected, with_unprotected, repor
 const BLOCKS: u32 = 259;
 
 // How many blocks are unprotected, and the lowest of them, or 259 where there is none.
-#[derive(Drop)]
+#[derive(Clone, Copy)]
 pub struct Report {
     pub count: u32,
     pub lowest: u32,

@@ -23,18 +23,18 @@ const HALF: u64 = 4294967296;
 
 // What is pending, runs or is suspended as numbers: its kind, and three numbers, of which one that it does not use is
 // 0.
-#[derive(Drop)]
+#[derive(Clone, Copy)]
 struct Four(u32, u32, u32, u32);
 
 // What is under way, decoded from its words, and whether they are just the words that it is saved as.
-#[derive(Drop)]
+#[derive(Clone, Copy)]
 struct Decoded {
     same: bool,
     activity: Activity,
 }
 
 // Whether words are a saved state, and the state of the words.
-#[derive(Drop)]
+#[derive(Clone, Copy)]
 pub struct Found {
     pub saved: bool,
     pub state: State,

@@ -24,14 +24,14 @@ pub fn script_of(text: &[u8]) -> &[u8]
 // ---- a line
 
 // The device after a line, and the place of the room after the line's text.
-#[derive(Drop)]
+#[derive(Clone, Copy)]
 struct Played {
     device: Device,
     place: usize,
 }
 
 // How far a script is played: the device, the number of lines played, the place of the room after their text, and the place of the script where the next line begins.
-#[derive(Drop)]
+#[derive(Clone, Copy)]
 struct Progress {
     device: Device,
     count: u32,

@@ -3,7 +3,7 @@
 use geometry::Part;
 
 // The read mode of a bank.
-#[derive(Drop)]
+#[derive(Clone, Copy)]
 pub enum Mode {
     Array,
     Status,
@@ -11,7 +11,7 @@ pub enum Mode {
     Query,
 }
 
-#[derive(Drop)]
+#[derive(Clone, Copy)]
 pub struct Bank {
     pub mode: Mode,
 }
@@ -19,7 +19,7 @@ pub struct Bank {
 // The pending set-up: of a command that has two cycles the first; of a buffer program (document 02, item 1) its load, as far as it has come. Of the load its count is
 // due, with the block that was addressed; or its first data cycle, with the number of its words; or so many further data cycles, and where `due` is 0 the
 // confirming cycle, with the location that the words start at.
-#[derive(Drop)]
+#[derive(Clone, Copy)]
 pub enum Setup {
     Nothing,
     Program,
@@ -32,7 +32,7 @@ pub enum Setup {
 
 // The operation that runs: a program with its location and data, an erase with its block and the words that it has done, or a buffer program with the
 // location that its words start at, their number, and how many it has done. The words themselves stand in the buffer.
-#[derive(Drop)]
+#[derive(Clone, Copy)]
 pub enum Running {
     Idle,
     Program { location: u32, word: u16 },
@@ -40,21 +40,21 @@ pub enum Running {
     Buffer { start: u32, words: u32, done: u32 },
 }
 
-#[derive(Drop)]
+#[derive(Clone, Copy)]
 pub enum SuspendedProgram {
     Nothing,
     Program { location: u32, word: u16 },
     Buffer { start: u32, words: u32, done: u32 },
 }
 
-#[derive(Drop)]
+#[derive(Clone, Copy)]
 pub enum SuspendedErase {
     Nothing,
     Erase { block: u32, done: u32 },
 }
 
 // All that is under way: the set-up that is pending, what runs, and what is suspended.
-#[derive(Drop)]
+#[derive(Clone, Copy)]
 pub struct Activity {
     pub setup: Setup,
     pub running: Running,
@@ -63,7 +63,7 @@ pub struct Activity {
 }
 
 // The flags of the status register that stay until they are cleared.
-#[derive(Drop)]
+#[derive(Clone, Copy)]
 pub struct Flags {
     pub sr5: bool,
     pub sr4: bool,
@@ -72,7 +72,7 @@ pub struct Flags {
 }
 
 // What is held once, and not for each bank or block: what is under way, the flags, the configuration register, and whether the supply (VPP) is on.
-#[derive(Drop)]
+#[derive(Clone, Copy)]
 pub struct Control {
     pub activity: Activity,
     pub flags: Flags,
@@ -82,7 +82,7 @@ pub struct Control {
 
 // `unprotected`: bit b % 64 of word b / 64 is 1 where block b is unprotected (document 01: open). `buffer`: the words of a load, or of a buffer program, from the
 // lowest location up; a place that is not in use is 0.
-#[derive(Drop)]
+#[derive(Clone, Copy)]
 pub struct State {
     pub part: Part,
     pub banks: [Bank; 16],
@@ -92,7 +92,7 @@ pub struct State {
 }
 
 // What an address names: its location, and the bank and the block that this lies in.
-#[derive(Drop)]
+#[derive(Clone, Copy)]
 pub struct Place {
     pub address: u32,
     pub location: u32,
@@ -102,7 +102,7 @@ pub struct Place {
 
 // What a read or a write at a place sees of a state, and a write may change: of the modes that of the addressed bank, of the protection that of the addressed block. The
 // buffer, which only the cycles of a load change, is not among it.
-#[derive(Drop)]
+#[derive(Clone, Copy)]
 pub struct View {
     pub mode: Mode,
     pub unprotected: bool,
@@ -110,14 +110,14 @@ pub struct View {
 }
 
 // What work makes of the control, and the units that were done.
-#[derive(Drop)]
+#[derive(Clone, Copy)]
 pub struct Worked {
     pub control: Control,
     pub units: u32,
 }
 
 // One of the five steps: read an address; write a word to an address; work up to so many units; switch the supply; reset.
-#[derive(Drop)]
+#[derive(Clone, Copy)]
 pub enum Step {
     Read(u32),
     Write(u32, u16),
@@ -127,7 +127,7 @@ pub enum Step {
 }
 
 // What a step answers: a word that was read, the units that were done, that it was done, or the refusal's number on document 01's card.
-#[derive(Drop)]
+#[derive(Clone, Copy)]
 pub enum Answer {
     Word(u16),
     Units(u32),
@@ -136,7 +136,7 @@ pub enum Answer {
 }
 
 // The state after a step, and its answer.
-#[derive(Drop)]
+#[derive(Clone, Copy)]
 pub struct Next {
     pub state: State,
     pub answer: Answer,
@@ -144,7 +144,7 @@ pub struct Next {
 
 // The report of unprotected blocks (document 01: open report): a refusal's number or 0, how many blocks are unprotected, and the lowest of them, 259 where there
 // is none; count and lowest are 0 beside a refusal.
-#[derive(Drop)]
+#[derive(Clone, Copy)]
 pub struct Reported {
     pub refusal: u32,
     pub count: u32,
@@ -152,7 +152,7 @@ pub struct Reported {
 }
 
 // The commands of a first cycle.
-#[derive(Drop)]
+#[derive(Clone, Copy)]
 pub enum Command {
     ReadArray,
     ReadStatus,
@@ -169,7 +169,7 @@ pub enum Command {
 }
 
 // The commands of a second cycle after a lock set-up.
-#[derive(Drop)]
+#[derive(Clone, Copy)]
 pub enum LockCommand {
     Protect,
     Unprotect,
@@ -178,7 +178,7 @@ pub enum LockCommand {
 }
 
 // What a number means as a step: the step that it encodes, or that it encodes none.
-#[derive(Drop)]
+#[derive(Clone, Copy)]
 pub enum Decoded {
     Valid(Step),
     Invalid,

@@ -6,7 +6,7 @@ ghost use Rattle.wear.specs.Counts.{lent, count_of, shared_zero, no_counts, with
 use semantics::Running;
 
 // A refusal's number or 0, a block, and its count; block and count are 0 beside a refusal.
-#[derive(Drop)]
+#[derive(Clone, Copy)]
 pub struct Worn {
     pub refusal: u32,
     pub block: u32,

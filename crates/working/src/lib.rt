@@ -10,7 +10,7 @@ use geometry::Part;
 use semantics::{Control, Running, Worked};
 
 // What runs after work, and the units that were done.
-#[derive(Drop)]
+#[derive(Clone, Copy)]
 pub struct Progress {
     pub running: Running,
     pub units: u32,

@@ -17,7 +17,7 @@ use semantics::{
 // way, which of a write that is ignored is as it was; or the same, and what runs then ends for want of supply; or, in a
 // load's data cycle after its first, the set-up and the buffer's word at a place, and the bank shows status. Any other
 // write is told by its view: 50h, and every other cycle that goes on with a set-up or ends it.
-#[derive(Drop)]
+#[derive(Clone, Copy)]
 pub enum Change {
     First(Mode, Setup),
     Activity(Activity),

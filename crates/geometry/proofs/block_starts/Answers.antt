@@ -2,12 +2,8 @@
 use mathlib.Core.Path.{refl}
 use Rattle.geometry.specs.Blocks.{block_from}
 use Rattle.geometry.specs.Table.{begins, tied}
-use Rattle.geometry.proofs.block_starts.Statement.{statement}
-use Rattle.geometry.proofs.block_starts.Tie as tie
+use Rattle.geometry.proofs.block_starts.Goals as goal
 
-returns : tie.Need-returns
+pub returns : goal.returns
 unfolding block_from begins tied
 returns c = refl
-
-pub block-starts-spec : {M : Type 1} → statement M
-block-starts-spec = tie.close (tie.spec returns)

@@ -1,0 +1,19 @@
+-- `geometry::block_offset` meets its contract: a location is not below the start of its block, also past the array.
+-- Assumes nothing.
+use native.Mathlib.Omega.{arith}
+use Prim.Native.Nat.{ℕ, ◌≤◌}
+use Rattle.geometry.specs.Blocks.{geometry_of, block_offset}
+use Rattle.geometry.specs.Laws as laws
+use Rattle.geometry.specs.declared.Part.{Part}
+use Rattle.geometry.proofs.block_offset.Goals as goal
+
+pub overflow_sub-result : goal.overflow_sub-result
+overflow_sub-result c =
+    let p : Part = c.args.part in
+    let l : ℕ = c.args.location in
+    let h : c.block_start-start.result ≤ l = rw (c.block_start-start.ensures.value, c.block_of.ensures.value) (laws.start_le (geometry_of p) (laws.sound p) l) in
+    omega arith
+
+pub returns : goal.returns
+unfolding block_offset
+returns c = rw (c.block_start-start.ensures.value, c.block_of.ensures.value)

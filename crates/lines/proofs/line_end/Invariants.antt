@@ -1,0 +1,12 @@
+-- `lines::line_end` meets its contract. The invariant: the line that begins at `at` ends where one that begins at `i` does. Assumes nothing.
+use Prim.Native.Nat.{◌-◌}
+use mathlib.Core.Path.{◌≡◌}
+use lib.ListN.{length}
+use Rattle.lines.specs.Lines.{line_end}
+use Rattle.lines.proofs.line_end.Given as goal
+
+abbrev pub invariant-loop-i : goal.invariant-loop-i
+invariant-loop-i l = line_end l.text l.i ≡ line_end l.text l.at
+
+abbrev pub decreases-loop-i : goal.decreases-loop-i
+decreases-loop-i l = length l.text - l.i
