@@ -4,13 +4,9 @@ use mathlib.Core.Path.{sym}
 use lib.ListN.{length}
 use lib.Seq.{set_out}
 use borrow.Author.Rules.{rules}
-use Rattle.buffer.proofs.unchanged.Statement.{statement}
-use Rattle.buffer.proofs.unchanged.Tie as tie
+use Rattle.buffer.proofs.unchanged.Goals as goal
 
-returns : tie.Need-returns
+pub returns : goal.returns
 returns c =
     let h : length c.args.words ≤ c.args.i = search rules in
     sym (set_out c.args.words c.args.i c.args.word h)
-
-pub unchanged-spec : {M : Type 1} → statement M
-unchanged-spec = tie.close (tie.spec returns)
