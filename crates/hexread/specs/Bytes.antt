@@ -8,9 +8,9 @@ use Rattle.std.proofs.Math.Seq.{drop-cons, get_or-drop}
 use Rattle.std.proofs.Math.Numerals.{add-one}
 use Rattle.semantics.specs.Tests.{and_true_l, and_true_r, or_false_l, or_false_r}
 use Rattle.semantics.specs.Numbers.{within, within_true}
-use Rattle.hex.specs.declared.Verdict.{Verdict}
-use Rattle.hex.specs.Records.{digit, all_digits, pairs, bytes, total, count, offset, kind, is_end, shaped, other_type}
-use Rattle.hex.specs.Records.{upper_after, record_lines, record_refusal, refusal_from, lines_from}
+use Rattle.intelhex.specs.declared.Verdict.{Verdict}
+use Rattle.intelhex.specs.Records.{digit, all_digits, pairs, bytes, total, count, offset, kind, is_end, shaped, other_type}
+use Rattle.intelhex.specs.Records.{upper_after, record_lines, record_refusal, refusal_from, lines_from}
 use Rattle.hexread.specs.declared.Header.{Header}
 use Rattle.hexread.specs.declared.Scanned.{Scanned}
 use Rattle.hexread.specs.declared.LineSeen.{LineSeen}

@@ -8,7 +8,7 @@ use native.Mathlib.Omega.{arith}
 use Rattle.std.proofs.Math.Decide.{dec_lt}
 use borrow.Author.Tests.{eq-eqb, ne_eqb, lt-ltb, le-ltb, ltb-true, eqb-true, eqb-false}
 use Rattle.lines.specs.Lines.{front, before_lf, line_end, line_next, next_past, next_none}
-use Rattle.hex.specs.Records.{record_lines}
+use Rattle.intelhex.specs.Records.{record_lines}
 
 -- where the record of a line ends: before a CR, where the LF comes after it
 unfoldable pub record_end : List ℕ → ℕ → ℕ → ℕ

@@ -7,10 +7,10 @@ use Rattle.std.proofs.lemmas.Bool.{not-false}
 use Rattle.lines.specs.declared.Taken.{Taken}
 use Rattle.semantics.specs.Tests.{or_false_l, and_true_l, and_true_r}
 use Rattle.semantics.specs.Tabulate.{length_tabulate}
-use Rattle.hex.specs.Records.{digit, all_digits, pairs, bytes, count, offset, kind, data_of, is_end, other_type, upper_after}
-use Rattle.hex.specs.Records.{word_after, record_lines, record_refusal, refusal_from, Named, named_from, named_by, named}
-use Rattle.hex.specs.Records.{words_after, size}
-use Rattle.hex.specs.Bytes.{Small, small_none, small_cons, small_take, small_drop}
+use Rattle.intelhex.specs.Records.{digit, all_digits, pairs, bytes, count, offset, kind, data_of, is_end, other_type, upper_after}
+use Rattle.intelhex.specs.Records.{word_after, record_lines, record_refusal, refusal_from, Named, named_from, named_by, named}
+use Rattle.intelhex.specs.Records.{words_after, size}
+use Rattle.intelhex.specs.Bytes.{Small, small_none, small_cons, small_take, small_drop}
 use Rattle.hexread.specs.Ends.{records_next}
 use Rattle.hexread.specs.Refusals.{Good, good_if, data_length}
 use Rattle.hexread.specs.Put.{with_byte, put_none, put_byte}

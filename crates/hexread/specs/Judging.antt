@@ -6,7 +6,7 @@ use native.Mathlib.Omega.{arith}
 use Rattle.std.proofs.Math.ListN.{drop_of_length-le}
 use Rattle.lines.specs.declared.Taken.{Taken}
 use Rattle.lines.specs.Lines.{line_end, line_next, taken_at, end_from, end_within, next_later}
-use Rattle.hex.specs.Records.{record_lines, is_end, upper_after, record_refusal, refusal_from, lines_from}
+use Rattle.intelhex.specs.Records.{record_lines, is_end, upper_after, record_refusal, refusal_from, lines_from}
 use Rattle.hexread.specs.Ends.{record_end, end_inside, records_next}
 use Rattle.hexread.specs.declared.LineSeen.{LineSeen}
 use Rattle.hexread.specs.Bytes.{Looked, judged}

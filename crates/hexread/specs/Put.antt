@@ -5,7 +5,7 @@ use Rattle.std.proofs.Common.{sym, ◌∙◌, arith, length-set, get_or-set_same
 use Rattle.std.proofs.Math.Decide.{dec_lt}
 use Rattle.std.proofs.lemmas.Bool.{eqb-false}
 use Rattle.semantics.specs.Tabulate.{tabulate, length_tabulate, get_d_tabulate, tabulate_is}
-use Rattle.hex.specs.Records.{Named, byte_after, word_after, words_after}
+use Rattle.intelhex.specs.Records.{Named, byte_after, word_after, words_after}
 
 -- a word with the byte at an address put into it, as its low half or its high half
 abbrev pub with_byte : ℕ → ℕ → ℕ → ℕ

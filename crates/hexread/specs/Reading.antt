@@ -4,8 +4,8 @@ use Rattle.std.proofs.Common.{◌∙◌}
 use borrow.Author.Tests.{eq-eqb, ne_eqb}
 use Rattle.geometry.specs.declared.Part.{Part}
 use Rattle.geometry.specs.Blocks.{geometry_of, words}
-use Rattle.hex.specs.declared.Verdict.{Verdict}
-use Rattle.hex.specs.Records.{record_lines, refusal_from, named, words_after, size, verdict, array_read}
+use Rattle.intelhex.specs.declared.Verdict.{Verdict}
+use Rattle.intelhex.specs.Records.{record_lines, refusal_from, named, words_after, size, verdict, array_read}
 use Rattle.hexread.specs.Bytes.{judged}
 
 module _ (part : Part) (text ws : List ℕ) where

@@ -8,8 +8,8 @@ use Rattle.std.proofs.Math.Dec.{eqb-suc-zero}
 use Rattle.std.proofs.Math.ListN.{length-drop}
 use borrow.Author.Tests.{eq-eqb, ne_eqb, lt-ltb, le-ltb, le-leb, lt-leb, eqb-true, not-false}
 use Rattle.semantics.specs.Tests.{and_true_l, and_true_r}
-use Rattle.hex.specs.Records.{all_digits, bytes, count, offset, kind, data_of, framed, shaped, malformed, sum_wrong}
-use Rattle.hex.specs.Records.{other_type, named_from, named_by, outside, passes, record_refusal}
+use Rattle.intelhex.specs.Records.{all_digits, bytes, count, offset, kind, data_of, framed, shaped, malformed, sum_wrong}
+use Rattle.intelhex.specs.Records.{other_type, named_from, named_by, outside, passes, record_refusal}
 use Rattle.hexread.specs.Bytes.{header_of, scanned, outside_of, refusal_by, and_true, length_pairs}
 
 -- ---- a malformed record

@@ -1,7 +1,7 @@
 -- The loop that writes the data of a record, a byte a round. Assumes nothing.
 use Rattle.std.specs.Prelude.{◌≡◌, ℕ, suc, ◌+◌, ◌-◌, ◌*◌, ◌/◌, ◌<◌, ◌≤◌, true, List, [], ◌∷◌, length, take, drop, slice_index, slice_set, refl}
 use Rattle.std.proofs.Common.{sym, ◌∙◌, arith, length-set, length-drop, get_or-drop}
-use Rattle.hex.specs.Records.{digit, all_digits, pairs, bytes, Named, named_from, words_after}
+use Rattle.intelhex.specs.Records.{digit, all_digits, pairs, bytes, Named, named_from, words_after}
 use Rattle.hexread.specs.Bytes.{pair_at, digits_at, data_from, pairs_next}
 use Rattle.hexread.specs.Put.{with_byte, put_none, put_byte}
 

@@ -1,15 +1,15 @@
 // Reading Intel HEX (document 02, item 3) from borrowed text into a borrowed array. The text is gone over twice: it is
 // judged whole before the first word is written, since a refused file leaves the array as it was.
 ghost use Rattle.std.specs.Prelude.{◌≡◌, ◌+◌, ◌*◌, ◌%◌, ◌<◌, ◌≤◌, true, length, take, drop, slice_index};
-ghost use Rattle.hex.specs.Records.{record_lines, digit, bytes, shaped, named_from, record_refusal, refusal_from, named};
-ghost use Rattle.hex.specs.Records.{words_after, size, verdict, array_read};
+ghost use Rattle.intelhex.specs.Records.{record_lines, digit, bytes, shaped, named_from, record_refusal, refusal_from, named};
+ghost use Rattle.intelhex.specs.Records.{words_after, size, verdict, array_read};
 ghost use Rattle.hexread.specs.Ends.{record_end};
 ghost use Rattle.hexread.specs.Put.{with_byte};
 ghost use Rattle.hexread.specs.Storing.{Storable};
 ghost use Rattle.hexread.specs.Bytes.{pair_at, header_of, scanned, Looked, judged, outside_of, refusal_by};
 
 use geometry::Part;
-use hex::Verdict;
+use intelhex::Verdict;
 
 // ---- the bytes of a record
 

@@ -3,10 +3,10 @@ use Rattle.std.specs.Prelude.{◌≡◌, ℕ, ◌+◌, ◌-◌, ◌*◌, ◌%◌
 use Rattle.std.proofs.Common.{append_assoc, sym, ◌∙◌, arith, length-set}
 use Rattle.printing.specs.Room.{placed, advanced, advanced_in, placed_append, placed_length, placed_none, put_in}
 use Rattle.printing.specs.Room.{put_then}
-use Rattle.hex.specs.Records.{total}
-use Rattle.hex.specs.Text.{digits_of, check_of, record_text}
-use Rattle.hex.specs.Sizes.{length_digits_of}
-use Rattle.hex.specs.Bytes.{total_append}
+use Rattle.intelhex.specs.Records.{total}
+use Rattle.intelhex.specs.Text.{digits_of, check_of, record_text}
+use Rattle.intelhex.specs.Sizes.{length_digits_of}
+use Rattle.intelhex.specs.Bytes.{total_append}
 
 -- bytes put in digits at a place of the room, and added to a sum, as it wraps at 256
 pub record Added (before : List ℕ) (at sum : ℕ) (bytes : List ℕ) (after : List ℕ) (next : ℕ) : Type 0 where

@@ -7,11 +7,11 @@ use Rattle.geometry.specs.declared.Part.{Part}
 use Rattle.geometry.specs.declared.Part.TheVariants.{FullBottom, FullTop, BenchBottom, BenchTop}
 use Rattle.geometry.specs.Blocks.{geometry_of, words}
 use Rattle.printing.specs.Room.{placed}
-use Rattle.hex.specs.declared.Written.{Written}
-use Rattle.hex.specs.Text.{data_record, upper_record, end_record, bytes_of, span, sixteen_at, sixteens, text_of, written}
-use Rattle.hex.specs.Text.{room_after}
-use Rattle.hex.specs.Sizes.{length_record_text, length_bytes_of, length_sixteen_at, sixteens_mono, text_length}
-use Rattle.hex.specs.Sizes.{length_end_record, length_text_of}
+use Rattle.intelhex.specs.declared.Written.{Written}
+use Rattle.intelhex.specs.Text.{data_record, upper_record, end_record, bytes_of, span, sixteen_at, sixteens, text_of, written}
+use Rattle.intelhex.specs.Text.{room_after}
+use Rattle.intelhex.specs.Sizes.{length_record_text, length_bytes_of, length_sixteen_at, sixteens_mono, text_length}
+use Rattle.intelhex.specs.Sizes.{length_end_record, length_text_of}
 use Rattle.hexwrite.specs.Records.{placed_then}
 
 -- ---- the bytes of words

@@ -4,13 +4,13 @@
 ghost use Rattle.std.specs.Prelude.{◌≡◌, ◌+◌, ◌*◌, ◌/◌, ◌%◌, ◌<◌, ◌≤◌, [], ◌∷◌, length, take, drop};
 ghost use Rattle.printing.specs.Text.{digit_of};
 ghost use Rattle.printing.specs.Room.{placed};
-ghost use Rattle.hex.specs.Text.{bytes_of, upper_record, data_record, end_record, sixteen_at, written, room_after};
-ghost use Rattle.hex.specs.Sizes.{text_length};
+ghost use Rattle.intelhex.specs.Text.{bytes_of, upper_record, data_record, end_record, sixteen_at, written, room_after};
+ghost use Rattle.intelhex.specs.Sizes.{text_length};
 ghost use Rattle.hexwrite.specs.Records.{Added, Begun, ended};
 ghost use Rattle.hexwrite.specs.Texts.{plain_text};
 
 use geometry::Part;
-use hex::Written;
+use intelhex::Written;
 
 // The digit of a number below 16.
 fn digit(n: u8) -> u8

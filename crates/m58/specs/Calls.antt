@@ -11,8 +11,8 @@ use Rattle.wear.specs.Counts.{Counts, no_counts}
 use Rattle.wear.specs.Steps.{after_all_with}
 use Rattle.device.specs.Outcomes.{holding}
 use Rattle.playback.specs.Playback.{playable, machine_of, Played}
-use Rattle.hex.specs.Records.{verdict, array_read}
-use Rattle.hex.specs.Text.{written, room_after}
+use Rattle.intelhex.specs.Records.{verdict, array_read}
+use Rattle.intelhex.specs.Text.{written, room_after}
 use Rattle.saved.specs.Saved.{saved_of, is_saved, state_of}
 
 -- the start of a block in one number: its lowest location from bit 0; 7 "part number above 3" from bit 32; and for a

@@ -8,8 +8,8 @@ use Rattle.geometry.specs.declared.Part.TheVariants.{FullBottom, FullTop, BenchB
 use Rattle.geometry.specs.Blocks.{size_of, start_from, start_of}
 use Rattle.semantics.specs.State.{power_up}
 use Rattle.wear.specs.Counts.{Counts, no_counts}
-use Rattle.hex.specs.Records.{verdict, array_read}
-use Rattle.hex.specs.Text.{written, room_after}
+use Rattle.intelhex.specs.Records.{verdict, array_read}
+use Rattle.intelhex.specs.Text.{written, room_after}
 use Rattle.saved.specs.Saved.{saved_of}
 use Rattle.m58.specs.Calls.{start_code, powers_up, powered_up, unworn, report_code, worn_code, count_code, hex_code}
 use Rattle.m58.specs.Calls.{hex_verdict, hex_array, hex_written, hex_room}

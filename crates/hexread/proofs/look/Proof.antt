@@ -1,6 +1,6 @@
 -- `hexread::look` meets its contract. Assumes nothing.
 use Rattle.std.proofs.Common.{◌≡◌, false, eqb, sym, ap, ◌∙◌, rules, ne_eqb}
-use Rattle.hex.specs.Records.{kind}
+use Rattle.intelhex.specs.Records.{kind}
 use Rattle.hexread.specs.declared.Header.{Header}
 use Rattle.hexread.specs.Refusals.{long_enough, long_upper, good_if}
 use Rattle.hexread.proofs.look.Statement.{statement}

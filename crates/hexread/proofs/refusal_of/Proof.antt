@@ -1,6 +1,6 @@
 -- `hexread::refusal_of` meets its contract. Assumes nothing.
 use Rattle.std.proofs.Common.{◌≡◌, sym, ap, ◌∙◌, arith, rules}
-use Rattle.hex.specs.Records.{count}
+use Rattle.intelhex.specs.Records.{count}
 use Rattle.hexread.specs.declared.Header.{Header}
 use Rattle.hexread.specs.Refusals.{no_colon, other_size, by_parts}
 use Rattle.hexread.proofs.refusal_of.Statement.{statement}

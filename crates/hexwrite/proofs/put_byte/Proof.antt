@@ -1,7 +1,7 @@
 -- `hexwrite::put_byte` meets its contract: two stores, and a sum that wraps. Assumes nothing.
 use Rattle.std.proofs.Common.{◌∙◌, arith, length-set, rules}
-use Rattle.hex.specs.Records.{total}
-use Rattle.hex.specs.Text.{digits_of}
+use Rattle.intelhex.specs.Records.{total}
+use Rattle.intelhex.specs.Text.{digits_of}
 use Rattle.hexwrite.specs.Records.{placed_two}
 use Rattle.hexwrite.proofs.put_byte.Statement.{statement}
 use Rattle.hexwrite.proofs.put_byte.Tie as tie

@@ -1,6 +1,6 @@
 -- `hexwrite::put_check` meets its contract. Assumes nothing.
 use Rattle.std.proofs.Common.{◌≡◌, ◌-◌, ◌%◌, arith, rules}
-use Rattle.hex.specs.Text.{digits_of}
+use Rattle.intelhex.specs.Text.{digits_of}
 use Rattle.hexwrite.specs.Records.{ended, placed_last}
 use Rattle.hexwrite.proofs.put_check.Statement.{statement}
 use Rattle.hexwrite.proofs.put_check.Tie as tie

@@ -2,7 +2,7 @@
 -- them. Assumes nothing.
 use Rattle.std.proofs.Common.{◌≡◌, ℕ, ◌-◌, ◌/◌, ◌≤◌, List, length, sym, ◌∙◌, arith, length-append, rules}
 use Rattle.printing.specs.Room.{placed, placed_none}
-use Rattle.hex.specs.Text.{bytes_of, sixteens}
+use Rattle.intelhex.specs.Text.{bytes_of, sixteens}
 use Rattle.hexwrite.specs.Records.{placed_then}
 use Rattle.hexwrite.specs.Texts.{plain_text, sixteens_more, sixteen_room, end_room}
 use Rattle.hexwrite.proofs.put_text.Statement.{statement}

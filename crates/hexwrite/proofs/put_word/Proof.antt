@@ -1,6 +1,6 @@
 -- `hexwrite::put_word` meets its contract: two bytes, one after the other. Assumes nothing.
 use Rattle.std.proofs.Common.{arith, rules}
-use Rattle.hex.specs.Text.{bytes_of}
+use Rattle.intelhex.specs.Text.{bytes_of}
 use Rattle.hexwrite.specs.Records.{added_then}
 use Rattle.hexwrite.proofs.put_word.Statement.{statement}
 use Rattle.hexwrite.proofs.put_word.Tie as tie

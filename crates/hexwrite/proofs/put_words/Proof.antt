@@ -1,6 +1,6 @@
 -- `hexwrite::put_words` meets its contract. The invariant: the bytes of the first i words are put. Assumes nothing.
 use Rattle.std.proofs.Common.{◌≡◌, ℕ, ◌+◌, ◌-◌, ◌<◌, ◌≤◌, List, length, take, drop, arith, rules}
-use Rattle.hex.specs.Text.{bytes_of}
+use Rattle.intelhex.specs.Text.{bytes_of}
 use Rattle.hexwrite.specs.Records.{Added, added_none, added_then}
 use Rattle.hexwrite.specs.Texts.{bytes_count, bytes_more}
 use Rattle.hexwrite.proofs.put_words.Statement.{statement}

@@ -7,7 +7,7 @@ use Rattle.geometry.specs.Blocks.{geometry_of, words}
 use Rattle.lines.specs.Lines.{front}
 use Rattle.semantics.specs.Numbers.{within}
 use Rattle.semantics.specs.Tabulate.{tabulate}
-use Rattle.hex.specs.declared.Verdict.{Verdict}
+use Rattle.intelhex.specs.declared.Verdict.{Verdict}
 
 -- ---- lines
 

@@ -7,8 +7,8 @@ use Rattle.geometry.specs.declared.Part.TheVariants.{FullBottom, FullTop, BenchB
 use Rattle.printing.specs.Text.{text, digit_of}
 use Rattle.printing.specs.Room.{placed}
 use Rattle.semantics.specs.Tabulate.{tabulate}
-use Rattle.hex.specs.Records.{record_lines, digit, all_digits, pairs, bytes, malformed, total, sum_wrong, named_from, named_by, outside, record_refusal, refusal_from, lines_from, named, byte_after, words_after, verdict, array_read}
-use Rattle.hex.specs.Text.{digits_of, record_text, upper_record, bytes_of, span, sixteen_at, sixteens, text_of, written, room_after}
+use Rattle.intelhex.specs.Records.{record_lines, digit, all_digits, pairs, bytes, malformed, total, sum_wrong, named_from, named_by, outside, record_refusal, refusal_from, lines_from, named, byte_after, words_after, verdict, array_read}
+use Rattle.intelhex.specs.Text.{digits_of, record_text, upper_record, bytes_of, span, sixteen_at, sixteens, text_of, written, room_after}
 
 pub data Case : Type 0 where
   -- a text, and its lines

@@ -9,10 +9,10 @@ use Rattle.geometry.specs.declared.Part.{Part}
 use Rattle.geometry.specs.Blocks.{geometry_of, words}
 use Rattle.printing.specs.Room.{advanced, put_whole}
 use Rattle.semantics.specs.Tabulate.{length_tabulate}
-use Rattle.hex.specs.Records.{Named, byte_after, word_after, words_after, named, record_lines, verdict, array_read}
-use Rattle.hex.specs.Text.{text_of, written, room_after}
-use Rattle.hex.specs.Sizes.{text_length, length_text_of}
-use Rattle.hex.specs.declared.Written.{Written}
+use Rattle.intelhex.specs.Records.{Named, byte_after, word_after, words_after, named, record_lines, verdict, array_read}
+use Rattle.intelhex.specs.Text.{text_of, written, room_after}
+use Rattle.intelhex.specs.Sizes.{text_length, length_text_of}
+use Rattle.intelhex.specs.declared.Written.{Written}
 
 -- ---- the bytes that a text names
 

@@ -11,12 +11,12 @@ use Rattle.geometry.specs.declared.Part.{Part}
 use Rattle.geometry.specs.declared.Part.TheVariants.{FullBottom, FullTop, BenchBottom, BenchTop}
 use Rattle.geometry.specs.Blocks.{geometry_of, words}
 use Rattle.semantics.specs.Tabulate.{tabulate_is}
-use Rattle.hex.specs.Records.{named_from, byte_after, word_after, words_after, size, verdict, array_read}
-use Rattle.hex.specs.Text.{data_record, upper_record, bytes_of, span, sixteen_at, sixteens, text_of, written, room_after}
-use Rattle.hex.specs.Sizes.{length_bytes_of, every_span, begun, begun_next}
-use Rattle.hex.specs.Laws.{written_good, room_text}
-use Rattle.hex.specs.Bytes.{Small, small_take, small_drop, word_back, small_bytes_of, named_from_append, byte_from}
-use Rattle.hex.specs.Recorded.{Read, read_none, read_then, read_data, read_upper, Whole, read_whole}
+use Rattle.intelhex.specs.Records.{named_from, byte_after, word_after, words_after, size, verdict, array_read}
+use Rattle.intelhex.specs.Text.{data_record, upper_record, bytes_of, span, sixteen_at, sixteens, text_of, written, room_after}
+use Rattle.intelhex.specs.Sizes.{length_bytes_of, every_span, begun, begun_next}
+use Rattle.intelhex.specs.Laws.{written_good, room_text}
+use Rattle.intelhex.specs.Bytes.{Small, small_take, small_drop, word_back, small_bytes_of, named_from_append, byte_from}
+use Rattle.intelhex.specs.Recorded.{Read, read_none, read_then, read_data, read_upper, Whole, read_whole}
 
 -- ---- the sixteens
 

@@ -6,8 +6,8 @@ use Rattle.geometry.specs.declared.Part.TheVariants.{FullBottom, FullTop, BenchB
 use Rattle.geometry.specs.Blocks.{geometry_of, words}
 use Rattle.printing.specs.Text.{digit_of}
 use Rattle.printing.specs.Room.{placed}
-use Rattle.hex.specs.Records.{total}
-use Rattle.hex.specs.declared.Written.{Written}
+use Rattle.intelhex.specs.Records.{total}
+use Rattle.intelhex.specs.declared.Written.{Written}
 
 -- ---- a record
 

@@ -9,10 +9,10 @@ use Rattle.std.proofs.Math.Seq.{take_at}
 use borrow.Author.Tests.{eq-eqb, ne_eqb, lt-leb, le-ltb}
 use Rattle.lines.specs.Lines.{front}
 use Rattle.printing.specs.Text.{digit_of}
-use Rattle.hex.specs.Records.{record_lines, digit, all_digits, pairs, bytes, is_end, shaped, other_type, malformed, total, sum_wrong, Named, named_from, named_by, outside, record_refusal, upper_after, refusal_from, lines_from, named}
-use Rattle.hex.specs.Text.{digits_of, check_of, record_text, data_record, upper_record, end_record}
-use Rattle.hex.specs.Sizes.{length_digits_of}
-use Rattle.hex.specs.Bytes.{Small, small_none, small_cons, small_append, digit_late, digits_back, total_append}
+use Rattle.intelhex.specs.Records.{record_lines, digit, all_digits, pairs, bytes, is_end, shaped, other_type, malformed, total, sum_wrong, Named, named_from, named_by, outside, record_refusal, upper_after, refusal_from, lines_from, named}
+use Rattle.intelhex.specs.Text.{digits_of, check_of, record_text, data_record, upper_record, end_record}
+use Rattle.intelhex.specs.Sizes.{length_digits_of}
+use Rattle.intelhex.specs.Bytes.{Small, small_none, small_cons, small_append, digit_late, digits_back, total_append}
 
 -- ---- the line of a record
 

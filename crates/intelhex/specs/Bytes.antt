@@ -5,9 +5,9 @@ use Rattle.std.proofs.Common.{◌∙◌, arith, get_or-drop, lt-ltb, le-ltb}
 use Rattle.std.proofs.Math.Decide.{dec_lt}
 use Rattle.semantics.specs.Numbers.{within_in, within_out}
 use Rattle.printing.specs.Text.{digit_of}
-use Rattle.hex.specs.Records.{digit, all_digits, pairs, total, named_from, byte_after}
-use Rattle.hex.specs.Text.{digits_of, bytes_of}
-use Rattle.hex.specs.Laws.{byte_here, byte_elsewhere}
+use Rattle.intelhex.specs.Records.{digit, all_digits, pairs, total, named_from, byte_after}
+use Rattle.intelhex.specs.Text.{digits_of, bytes_of}
+use Rattle.intelhex.specs.Laws.{byte_here, byte_elsewhere}
 
 -- ---- lists of bytes
 

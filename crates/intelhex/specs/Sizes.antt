@@ -7,7 +7,7 @@ use Rattle.std.proofs.lemmas.Bool.{eqb-false}
 use Rattle.geometry.specs.declared.Part.{Part}
 use Rattle.geometry.specs.declared.Part.TheVariants.{FullBottom, FullTop, BenchBottom, BenchTop}
 use Rattle.geometry.specs.Blocks.{geometry_of, words}
-use Rattle.hex.specs.Text.{digits_of, check_of, record_text, data_record, upper_record, end_record, bytes_of, span, sixteen_at, sixteens, text_of}
+use Rattle.intelhex.specs.Text.{digits_of, check_of, record_text, data_record, upper_record, end_record, bytes_of, span, sixteen_at, sixteens, text_of}
 
 -- ---- bytes and records
 

@@ -1,0 +1,18 @@
+-- `wear::most_worn` meets its contract. The invariant: of the blocks looked at, the one held is the first of the greatest counts. Assumes nothing.
+use Prim.Native.Nat.{suc, ◌-◌}
+use mathlib.Core.Logic.{⊎_elim}
+use mathlib.Core.Path.{◌≡◌}
+use native.Mathlib.Omega.{arith}
+use native.Mathlib.Numerals.{add-one}
+use Rattle.wear.specs.Counts.{lent, count_of}
+use Rattle.wear.specs.Most.{First, first_one, looked_new, looked_old, most_first}
+use Rattle.wear.proofs.most_worn.Goals as goal
+
+pub loop-b-init : goal.loop-b-init
+loop-b-init c = (first_one _, c.count_of-most.ensures, omega arith)
+
+pub returns : goal.returns
+returns c =
+    let l = c.loop-b in
+    let e : l.b ≡ 259 = omega (arith, l.invariant.2) in
+    most_first _ _ (rw e at l.invariant.0)
