@@ -10,7 +10,7 @@ use Rattle.semantics.specs.Split.{step_refusal, first_refusal}
 use Rattle.semantics.specs.Steps.{accepted, accepted_array}
 use Rattle.wear.specs.Counts.{Counts}
 use Rattle.wear.specs.Steps.{refusal_with, step_with, array_with, counts_with, accepted_counts}
-use Rattle.wear.specs.Refused.{refusal_first}
+use Rattle.wear.proofs.Refused.{refusal_first}
 use Rattle.device.specs.declared.Device.{Device}
 use Rattle.device.specs.Outcomes.{refused, outcome_of, outcome, array_out, counts_out}
 

@@ -10,7 +10,8 @@ use Rattle.semantics.specs.Tabulate.{length_tabulate}
 use Rattle.intelhex.specs.Records.{digit, all_digits, pairs, bytes, count, offset, kind, data_of, is_end, other_type, upper_after}
 use Rattle.intelhex.specs.Records.{word_after, record_lines, record_refusal, refusal_from, Named, named_from, named_by, named}
 use Rattle.intelhex.specs.Records.{words_after, size}
-use Rattle.intelhex.specs.Bytes.{Small, small_none, small_cons, small_take, small_drop}
+use Rattle.intelhex.specs.Bytes.{Small}
+use Rattle.intelhex.proofs.Bytes.{small_none, small_cons, small_take, small_drop}
 use Rattle.hexread.specs.Ends.{records_next}
 use Rattle.hexread.specs.Refusals.{Good, good_if, data_length}
 use Rattle.hexread.specs.Put.{with_byte, put_none, put_byte}

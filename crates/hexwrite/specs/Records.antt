@@ -6,7 +6,7 @@ use Rattle.printing.specs.Room.{put_then}
 use Rattle.intelhex.specs.Records.{total}
 use Rattle.intelhex.specs.Text.{digits_of, check_of, record_text}
 use Rattle.intelhex.specs.Sizes.{length_digits_of}
-use Rattle.intelhex.specs.Bytes.{total_append}
+use Rattle.intelhex.proofs.Bytes.{total_append}
 
 -- bytes put in digits at a place of the room, and added to a sum, as it wraps at 256
 pub record Added (before : List ℕ) (at sum : ℕ) (bytes : List ℕ) (after : List ℕ) (next : ℕ) : Type 0 where

@@ -11,7 +11,7 @@ use Rattle.semantics.specs.declared.Reported.{Reported}
 use Rattle.semantics.specs.State.{power_up}
 use Rattle.wear.specs.declared.Worn.{Worn}
 use Rattle.wear.specs.Counts.{Counts, count_of, no_counts, most_worn}
-use Rattle.semantics.specs.Engine.{and_true_r}
+use Rattle.semantics.proofs.Engine.{and_true_r}
 use Rattle.wear.specs.Steps.{Counted, formed_with, reported_with, most_worn_with}
 use Rattle.device.specs.Outcomes.{holding}
 use Rattle.playback.specs.declared.RunEnd.{RunEnd}

@@ -12,13 +12,13 @@ use Rattle.geometry.specs.Blocks.{geometry_of, words, part_numbered}
 use Rattle.semantics.specs.declared.Step.{Step}
 use Rattle.semantics.specs.declared.Answer.{Answer}
 use Rattle.semantics.specs.Demand.{Demand3}
-use Rattle.semantics.specs.Standing.{demand_3_whole}
+use Rattle.semantics.proofs.Standing.{demand_3_whole}
 use Rattle.wear.specs.Counts.{Counts}
 use Rattle.semantics.specs.Steps.{Machine}
 use Rattle.wear.specs.Steps.{Counted, beside, after_all_with, answers_with, fresh_with}
 use Rattle.wear.specs.Claim.{CountsStand}
-use Rattle.wear.specs.Refused.{fresh_shared, all_alone}
-use Rattle.wear.specs.Theorem.{counts_stand}
+use Rattle.wear.proofs.Refused.{fresh_shared, all_alone}
+use Rattle.wear.proofs.Theorem.{counts_stand}
 use Rattle.device.specs.Outcomes.{holding}
 use Rattle.playback.specs.Playback.{playable, answer_code, room_after, machine_of}
 use Rattle.playback.specs.Laws.{after_all_append, answers_append, answers_length}

@@ -22,13 +22,14 @@ use Rattle.semantics.specs.Steps.{switched_to, Machine}
 use Rattle.semantics.specs.Supply.{switched}
 use Rattle.semantics.specs.Encoding.{decode}
 use Rattle.semantics.specs.Demand.{Demand3}
-use Rattle.semantics.specs.Standing.{demand_3_whole}
+use Rattle.semantics.proofs.Standing.{demand_3_whole}
 use Rattle.wear.specs.Counts.{Counts, counts_after}
 use Rattle.wear.specs.Steps.{Counted, answer_with, after_with, after_all_with, answers_with, fresh_with}
-use Rattle.wear.specs.Refused.{shared_all, fresh_shared, all_alone, all_same}
+use Rattle.wear.proofs.Refused.{shared_all, fresh_shared, all_alone, all_same}
 use Rattle.wear.specs.Claim.{CountsStand}
-use Rattle.wear.specs.Theorem.{counts_stand}
-use Rattle.wear.specs.Held.{Held, Does, length_with, held_next, does_refused, does_read, does_write, does_work, does_supply, does_reset}
+use Rattle.wear.proofs.Theorem.{counts_stand}
+use Rattle.wear.specs.Held.{Held, Does}
+use Rattle.wear.proofs.Held.{length_with, held_next, does_refused, does_read, does_write, does_work, does_supply, does_reset}
 use Rattle.semantics.specs.State.{geometry, set_activity, with_control, with_buffer, with_running, with_supply, power_up}
 use Rattle.semantics.specs.Reading.{read_word}
 use Rattle.semantics.specs.Writing.{written_at}

@@ -7,7 +7,7 @@ use Rattle.semantics.specs.declared.Answer.TheVariants.{Refused}
 use Rattle.semantics.specs.declared.Decoded.TheVariants.{Valid}
 use Rattle.semantics.specs.Encoding.{decoded_as, decode}
 use Rattle.semantics.specs.Steps.{next, accepted, accepted_array}
-use Rattle.semantics.specs.Engine.{and_true_l, and_true_r}
+use Rattle.semantics.proofs.Engine.{and_true_l, and_true_r}
 use Rattle.wear.specs.Steps.{Counted, beside, after_with, after_all_with, accepted_counts, refusal_with, step_with, array_with, counts_with}
 use Rattle.playback.specs.Playback.{playable}
 

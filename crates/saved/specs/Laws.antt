@@ -30,7 +30,7 @@ use Rattle.semantics.specs.WellFormed.{running_alone, program_alone, erase_alone
 use Rattle.semantics.specs.WellFormed.{suspended_erase_fits, all_fit, running_apart, program_apart, apart, activity_formed}
 use Rattle.semantics.specs.WellFormed.{well_formed}
 use Rattle.semantics.specs.Register.{is_reserved}
-use Rattle.semantics.specs.Refusals.{reserved_unformed}
+use Rattle.semantics.proofs.Refusals.{reserved_unformed}
 use Rattle.saved.specs.declared.Four.{Four}
 use Rattle.saved.specs.Saved.{part_number, mode_number, mode_numbered, bank_number, bank_numbered, flag_numbered, half}
 use Rattle.saved.specs.Saved.{setup_numbers, setup_of, running_numbers, running_of, program_numbers, program_of}

@@ -15,12 +15,13 @@ use Rattle.semantics.specs.State.{geometry}
 use Rattle.semantics.specs.Reading.{read_word}
 use Rattle.semantics.specs.Working.{units_done}
 use Rattle.semantics.specs.Card.{row, lower, given, card}
-use Rattle.semantics.specs.Split.{first_refusal, count_bad}
+use Rattle.semantics.specs.Split.{first_refusal}
+use Rattle.semantics.proofs.Split.{count_bad}
 use Rattle.semantics.specs.Steps.{next, accepted}
 use Rattle.semantics.specs.Demand.{Demand3}
 use Rattle.wear.specs.Counts.{Counts}
 use Rattle.wear.specs.Steps.{refusal_with, step_with, Counted, fresh_with}
-use Rattle.wear.specs.Refused.{refusal_first}
+use Rattle.wear.proofs.Refused.{refusal_first}
 use Rattle.wear.specs.Claim.{CountsStand}
 use Rattle.line.specs.Forms.{step_of_line}
 use Rattle.printing.specs.Text.{answer_text, line_text, end_text, word_short, units_short, done_short, refused_short, line_short, end_short}

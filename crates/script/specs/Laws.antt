@@ -17,17 +17,18 @@ use Rattle.semantics.specs.declared.Decoded.TheVariants.{Valid, Invalid}
 use Rattle.semantics.specs.State.{geometry, power_up}
 use Rattle.semantics.specs.Split.{first_refusal}
 use Rattle.semantics.specs.Steps.{next, Machine, after_all, fresh}
-use Rattle.semantics.specs.Invariant.{state_good}
+use Rattle.semantics.proofs.Invariant.{state_good}
 use Rattle.semantics.specs.Demand.{Demand3}
-use Rattle.semantics.specs.Standing.{demand_3_whole}
-use Rattle.semantics.specs.Progress.{Good, reached_good}
+use Rattle.semantics.proofs.Standing.{demand_3_whole}
+use Rattle.semantics.specs.Progress.{Good}
+use Rattle.semantics.proofs.Progress.{reached_good}
 use Rattle.device.specs.declared.Device.{Device}
 use Rattle.device.specs.declared.Outcome.{Outcome}
 use Rattle.wear.specs.Counts.{Counts, shared_zero, no_counts}
 use Rattle.wear.specs.Steps.{refusal_with, step_with, Counted, after_with, after_all_with, fresh_with}
 use Rattle.wear.specs.Claim.{CountsStand}
-use Rattle.wear.specs.Refused.{length_refused, refusal_alone, all_alone, fresh_shared, shared_all}
-use Rattle.wear.specs.Theorem.{counts_stand}
+use Rattle.wear.proofs.Refused.{length_refused, refusal_alone, all_alone, fresh_shared, shared_all}
+use Rattle.wear.proofs.Theorem.{counts_stand}
 use Rattle.device.specs.Outcomes.{holding, outcome, array_out, counts_out}
 use Rattle.line.specs.Forms.{step_of_line}
 use Rattle.line.specs.Laws.{long_invalid, empty_invalid}

@@ -5,7 +5,6 @@
 use Rattle.std.specs.Prelude.{ℕ, true, false, List, [], ◌∷◌, map, ◌≡◌, refl, replicate}
 use Rattle.semantics.specs.declared.Step.{Step}
 use Rattle.semantics.specs.declared.Step.TheVariants.{Read, Write, Work, Supply, Reset}
-use Rattle.semantics.specs.declared.Decoded.{Decoded}
 use Rattle.semantics.specs.declared.Decoded.TheVariants.{Valid, Invalid}
 use Rattle.semantics.specs.Encoding.{encode, decoded_as, decode}
 

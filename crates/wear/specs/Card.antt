@@ -9,7 +9,8 @@ use Rattle.semantics.specs.declared.Answer.TheVariants.{Refused}
 use Rattle.semantics.specs.State.{geometry}
 use Rattle.semantics.specs.Card.{given, card}
 use Rattle.semantics.specs.Steps.{next, accepted, accepted_array, number_of, value_of}
-use Rattle.semantics.specs.Refusals.{value_given, number_by, value_by}
+use Rattle.semantics.specs.Refusals.{value_given}
+use Rattle.semantics.proofs.Refusals.{number_by, value_by}
 use Rattle.wear.specs.Counts.{Counts}
 use Rattle.wear.specs.Steps.{formed_with, refusal_with, accepted_counts, step_with, array_with, counts_with}
 

@@ -9,4 +9,3 @@ pub mod Places
 pub mod Most
 pub mod Refused
 pub mod Held
-pub mod Theorem

@@ -24,10 +24,11 @@ use Rattle.semantics.specs.declared.View.{View}
 use Rattle.semantics.specs.State.{geometry, activity, set_activity, with_control, with_buffer, with_setup, with_running, with_activity, runs}
 use Rattle.semantics.specs.Supply.{ended, ended_if_unsupplied}
 use Rattle.semantics.specs.Branches.{of_cond, by_cond, by_cond₂, by_test}
-use Rattle.semantics.specs.Cycles.{awake, suspended_in, nothing_pending, nothing_running, of_second}
-use Rattle.semantics.specs.Supplied.{resume_supplied, first_holds, held_left}
+use Rattle.semantics.specs.Cycles.{awake, suspended_in}
+use Rattle.semantics.proofs.Cycles.{nothing_pending, nothing_running, of_second}
+use Rattle.semantics.proofs.Supplied.{resume_supplied, first_holds, held_left}
 use Rattle.semantics.specs.View.{view_at, with_view, with_mode}
-use Rattle.semantics.specs.Modes.{view_back}
+use Rattle.semantics.proofs.Modes.{view_back}
 use Rattle.semantics.specs.View as view
 use Rattle.semantics.specs.WellFormed.{pending}
 use Rattle.semantics.specs.Writing.{command_of, suspended, resumed_erase, resumed, resume, accepts, pend, set_up, clear_status, first_cycle, settle, loads, later_right, words_cycle, cycle, kept_if, words_loaded, held_after, loaded, cycle_at, loaded_at, written_at}

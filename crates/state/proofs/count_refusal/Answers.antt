@@ -1,6 +1,6 @@
 -- `state::count_refusal` meets its contract: by its test. Assumes nothing.
 use mathlib.Core.Path.{sym}
-use Rattle.semantics.specs.Split.{count_good, count_bad}
+use Rattle.semantics.proofs.Split.{count_good, count_bad}
 use Rattle.state.proofs.count_refusal.Goals as goal
 
 pub returns-then-n-gt65535 : goal.returns-then-n-gt65535

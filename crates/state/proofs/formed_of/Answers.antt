@@ -1,6 +1,6 @@
 -- `state::formed_of` meets its contract: at rest by the laws of that, else by the five tests that it joins. Assumes nothing.
 use Rattle.semantics.specs.WellFormed.{well_formed}
-use Rattle.semantics.specs.Supplied.{idle_supplied}
+use Rattle.semantics.proofs.Supplied.{idle_supplied}
 use Rattle.operation.specs.Rest.{at_rest_formed, at_rest_unused, at_rest_idle}
 use mathlib.Core.Bool.{and-true}
 use mathlib.Core.Path.{sym, ◌∙◌}

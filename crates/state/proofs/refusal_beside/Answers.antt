@@ -1,6 +1,6 @@
 -- `state::refusal_beside` meets its contract: by the tests that led to each return. Assumes nothing.
 use borrow.Author.Tests.{eq-eqb, ne_eqb}
-use Rattle.semantics.specs.Split.{reset_refused}
+use Rattle.semantics.proofs.Split.{reset_refused}
 use Rattle.state.proofs.refusal_beside.Goals as goal
 
 pub returns-then-n-length_of : goal.returns-then-n-length_of

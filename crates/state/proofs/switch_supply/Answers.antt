@@ -1,7 +1,7 @@
 -- `state::switch_supply` meets its contract: by whether the supply is on. Assumes nothing.
 use mathlib.Core.Path.{refl, sym}
 use Rattle.semantics.specs.Supply.{ended, ended_if_unsupplied, switched}
-use Rattle.semantics.specs.Spare.{buffer_on}
+use Rattle.semantics.proofs.Spare.{buffer_on}
 use Rattle.state.proofs.switch_supply.Goals as goal
 
 pub returns-then-on : goal.returns-then-on

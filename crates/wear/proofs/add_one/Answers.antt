@@ -1,6 +1,6 @@
 -- `wear::add_one` meets its contract: by the count that was. Assumes nothing.
 use mathlib.Core.Path.{◌∙◌}
-use Rattle.wear.specs.Places.{more, full}
+use Rattle.wear.proofs.Places.{more, full}
 use Rattle.wear.proofs.add_one.Goals as goal
 
 pub returns-then-n-lt65535 : goal.returns-then-n-lt65535

@@ -1,7 +1,7 @@
 -- `wear::count_finished` meets its contract, by what ran. Assumes nothing.
 use mathlib.Core.Path.{sym, ◌∙◌}
 use Rattle.wear.specs.Counts.{counts_after}
-use Rattle.wear.specs.Places.{finished, unfinished}
+use Rattle.wear.proofs.Places.{finished, unfinished}
 use Rattle.wear.proofs.count_finished.Goals as goal
 
 -- an erase that still runs

@@ -1,11 +1,7 @@
 -- `wear::most_worn` meets its contract. The invariant: of the blocks looked at, the one held is the first of the greatest counts. Assumes nothing.
-use Prim.Native.Nat.{suc, ◌-◌}
-use mathlib.Core.Logic.{⊎_elim}
 use mathlib.Core.Path.{◌≡◌}
 use native.Mathlib.Omega.{arith}
-use native.Mathlib.Numerals.{add-one}
-use Rattle.wear.specs.Counts.{lent, count_of}
-use Rattle.wear.specs.Most.{First, first_one, looked_new, looked_old, most_first}
+use Rattle.wear.specs.Most.{first_one, most_first}
 use Rattle.wear.proofs.most_worn.Goals as goal
 
 pub loop-b-init : goal.loop-b-init

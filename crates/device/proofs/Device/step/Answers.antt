@@ -2,7 +2,7 @@
 use mathlib.Core.Path.{refl, sym}
 use Rattle.semantics.specs.Steps.{accepted_array}
 use Rattle.wear.specs.Steps.{accepted_counts}
-use Rattle.wear.specs.Refused.{array_still, counts_still}
+use Rattle.wear.proofs.Refused.{array_still, counts_still}
 use Rattle.device.proofs.Device.step.Goals as goal
 
 pub returns-in-Read : goal.returns-in-Read

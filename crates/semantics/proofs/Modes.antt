@@ -18,9 +18,10 @@ use Rattle.semantics.specs.declared.View.{View}
 use Rattle.semantics.specs.State.{geometry, mode_in, mode_of}
 use Rattle.semantics.specs.View.{place_of, view_at, with_view}
 use Rattle.semantics.specs.Writing.{command_of, first_cycle, cycle, written_at, written}
-use Rattle.semantics.specs.Cycles.{ChangesMode, of_first}
+use Rattle.semantics.specs.Cycles.{ChangesMode}
+use Rattle.semantics.proofs.Cycles.{of_first}
 use Rattle.semantics.specs.Steps.{accepted, step_of}
-use Rattle.semantics.specs.Refusals.{of_step}
+use Rattle.semantics.proofs.Refusals.{of_step}
 
 -- "the addressed bank's mode becomes ..", "puts the bank of its own address in status mode": a write changes no mode but that of the addressed bank
 pub modes_stay : (s : State) (xs : List ℕ) (a w k : ℕ) → (k ≡ bank_of (geometry s) (location (geometry s) a) → ⊥) → mode_of (step_of s xs (Write a w)).state k ≡ mode_of s k

@@ -20,22 +20,25 @@ use Rattle.semantics.specs.declared.Step.{Step}
 use Rattle.semantics.specs.declared.Step.TheVariants.{Read, Write, Work, Supply, Reset}
 use Rattle.semantics.specs.State.{geometry, runs}
 use Rattle.semantics.specs.Working.{units_left, units_done, running_after}
-use Rattle.semantics.specs.Split.{first_refusal, count_good, count_bad}
+use Rattle.semantics.specs.Split.{first_refusal}
+use Rattle.semantics.proofs.Split.{count_good, count_bad}
 use Rattle.semantics.specs.Steps.{Machine}
 use Rattle.semantics.specs.Entries as entries
 use Rattle.semantics.specs.Entries.{Entry, entry, Live, live, is_finished, idle_worked}
 use Rattle.semantics.specs.Recorder.{Operation, Conditions, Recorder, beginning, recorded, recorded_all}
 use Rattle.semantics.specs.Recorder.{Event, event, journal_after}
 use Rattle.semantics.specs.Recorder.{kinds, len}
-use Rattle.semantics.specs.Engine.{stack, busy, held?, Matches, rules_agree}
-use Rattle.semantics.specs.Events.{OnJournal, adds, works, rephases, changes}
-use Rattle.semantics.specs.Causes.{Cause, by_work, cause}
-use Rattle.semantics.specs.Follows.{conditions, under_way, under_way_of, event_of}
-use Rattle.semantics.specs.Invariant.{Agree, agree_formed, agree_after, agree_fresh, state_good}
+use Rattle.semantics.proofs.Engine.{stack, busy, held?, Matches, rules_agree}
+use Rattle.semantics.proofs.Events.{OnJournal, adds, works, rephases, changes}
+use Rattle.semantics.proofs.Causes.{Cause, by_work, cause}
+use Rattle.semantics.proofs.Follows.{conditions, under_way, under_way_of, event_of}
+use Rattle.semantics.proofs.Invariant.{Agree, agree_formed, agree_after, agree_fresh, state_good}
 use Rattle.wear.specs.Counts.{Counts, row_of, place_in, count_at, count_of, shared_zero, no_counts, one_more, counts_after}
 use Rattle.wear.specs.Steps.{refusal_with, accepted_counts, counts_with, Counted, after_with, after_all_with, fresh_with}
-use Rattle.wear.specs.Places.{placed, Shaped, count_with, shape_with}
-use Rattle.wear.specs.Refused.{is_work, only_work, shared_kept, shared_all, fresh_shared, refusal_first, refusal_alone, after_alone}
+use Rattle.wear.specs.Places.{Shaped}
+use Rattle.wear.proofs.Places.{placed, count_with, shape_with}
+use Rattle.wear.specs.Refused.{is_work}
+use Rattle.wear.proofs.Refused.{only_work, shared_kept, shared_all, fresh_shared, refusal_first, refusal_alone, after_alone}
 use Rattle.wear.specs.Claim.{erases, is_finished_erase, finished_erases, CountsStand}
 
 -- ---- what an event makes of the number of finished erases

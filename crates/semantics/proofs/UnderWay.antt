@@ -30,7 +30,7 @@ use Rattle.semantics.specs.Working.{units_left, units_done, running_after, word_
 use Rattle.semantics.specs.Entries.{Live, live, any_live}
 use Rattle.semantics.specs.Recorder as recorder
 use Rattle.semantics.specs.Recorder.{Operation, supplied, units, Conditions, is_program, is_erase_of, is_any, no-setup, program-setup, erase-setup, lock-setup, count_setup, first_setup, words_setup}
-use Rattle.semantics.specs.Engine.{Engine, engine, held?, engine_after, words_after_event}
+use Rattle.semantics.proofs.Engine.{Engine, engine, held?, engine_after, words_after_event}
 
 -- with the buffer bs
 abbrev pub setup_of : List ℕ → Setup → recorder.Setup

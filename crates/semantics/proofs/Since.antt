@@ -8,8 +8,8 @@ use Rattle.semantics.specs.declared.Step.{Step}
 use Rattle.semantics.specs.declared.Step.TheVariants.{Read, Write, Work, Supply, Reset}
 use Rattle.semantics.specs.Recorder.{Event, supplied, was_reset, unprotected_is, no-setup, Conditions, conditions_after, Recorder, recorded, recorded_all, event}
 use Rattle.semantics.specs.Demand.{NoSupply, SupplyOn, ProtectionCommand, Undisturbed, LastUnprotected, at_this, at_later}
-use Rattle.semantics.specs.Events.{OnConditions, switches, resets, protects, leaves, changes}
-use Rattle.semantics.specs.Causes.{event_cause, protection_event, cause_protection, cause_reset, supply_kept}
+use Rattle.semantics.proofs.Events.{OnConditions, switches, resets, protects, leaves, changes}
+use Rattle.semantics.proofs.Causes.{event_cause, protection_event, cause_protection, cause_reset, supply_kept}
 
 -- every block is unprotected, or every one protected
 abbrev all_are : Bool → Conditions

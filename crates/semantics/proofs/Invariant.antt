@@ -9,7 +9,7 @@ use Rattle.std.proofs.Math.Dec.{eqb-suc-zero}
 use Rattle.std.proofs.lemmas.Bool.{lt-leb}
 use Rattle.geometry.specs.declared.Part.{Part}
 use Rattle.geometry.specs.declared.Geometry.{Geometry}
-use Rattle.geometry.specs.Blocks.{Sound, geometry_of, words, blocks, location, block_of}
+use Rattle.geometry.specs.Blocks.{Sound, geometry_of, words, location, block_of}
 use Rattle.geometry.specs.Laws as laws
 use Rattle.protection.specs.Words.{spare_zero}
 use Rattle.protection.specs.Laws as protection
@@ -26,30 +26,32 @@ use Rattle.semantics.specs.declared.Next.{Next}
 use Rattle.semantics.specs.declared.Place.{Place}
 use Rattle.semantics.specs.declared.View.{View}
 use Rattle.semantics.specs.Branches.{by_test}
-use Rattle.semantics.specs.Cycles.{nothing_running}
-use Rattle.semantics.specs.Refusals.{of_step, of_array}
+use Rattle.semantics.proofs.Cycles.{nothing_running}
+use Rattle.semantics.proofs.Refusals.{of_step, of_array}
 use Rattle.semantics.specs.State.{geometry, set_activity, with_running, with_supply, with_buffer, power_up, runs}
 use Rattle.semantics.specs.Supply.{ended, ended_if_unsupplied, switched}
-use Rattle.semantics.specs.Supplied.{of_switched, switched_supplied, cycle_supplied, idle_supplied, on_supplied, unsupplied_idle}
+use Rattle.semantics.proofs.Supplied.{of_switched, switched_supplied, cycle_supplied, idle_supplied, on_supplied, unsupplied_idle}
 use Rattle.semantics.specs.View.{place_of, view_at, with_view}
 use Rattle.semantics.specs.Register.{reserved_zero}
-use Rattle.semantics.specs.RegisterBits.{default_zero, cycle_zero}
+use Rattle.semantics.proofs.RegisterBits.{default_zero, cycle_zero}
 use Rattle.semantics.specs.WellFormed.{well_formed, activity_formed, runs_supplied}
 use Rattle.semantics.specs.Writing.{cycle_at, written, written_at}
 use Rattle.semantics.specs.Working.{units_done, running_after, buffer_after, worked_on, worked, worked_array}
 use Rattle.semantics.specs.Arrays.{array_length, array_word}
 use Rattle.semantics.specs.Card.{given, card}
-use Rattle.semantics.specs.Split.{step_refusal, first_refusal, reset_refused, refused_first, address_good, address_bad, count_good, count_bad}
+use Rattle.semantics.specs.Split.{step_refusal, first_refusal}
+use Rattle.semantics.proofs.Split.{reset_refused, refused_first, address_good, address_bad, count_good, count_bad}
 use Rattle.semantics.specs.Steps.{refusal_of, next, switched_to, accepted, accepted_array, step_of, array_of, Machine, after, after_all, fresh}
 use Rattle.semantics.specs.Entries as entries
 use Rattle.semantics.specs.Entries.{Entry}
 use Rattle.semantics.specs.Recorder as recorder
 use Rattle.semantics.specs.Recorder.{Operation, Event, nothing, supplied, was_reset, Conditions, conditions_after, Recorder, beginning, recorded, recorded_all, event, journal_after}
-use Rattle.semantics.specs.Engine.{busy, held?, engine_after, words_after_event, Ready, Ok, rule_ok, Sim, sim_do, words_after_ok, rules_agree, After}
-use Rattle.semantics.specs.Follows.{conditions, under_way, setup_of, event_of, Together, Lacking, Follows, follows_written, under_way_worked, under_way_off, words_under_way}
-use Rattle.semantics.specs.Formed.{together, lacking, formed}
+use Rattle.semantics.proofs.Engine.{busy, held?, engine_after, words_after_event, Ready, Ok, rule_ok, Sim, sim_do, words_after_ok, rules_agree, After}
+use Rattle.semantics.proofs.Follows.{conditions, under_way, setup_of, event_of, Together, Lacking, Follows, follows_written, under_way_worked, under_way_off, words_under_way}
+use Rattle.semantics.proofs.Formed.{together, lacking, formed}
 use Rattle.semantics.specs.Buffer.{zero_empty}
-use Rattle.semantics.specs.Spare.{Spared, length_empty, length_loaded, length_held, length_after, buffer_on, spared_written, spared_worked, spared_ended}
+use Rattle.semantics.specs.Spare.{Spared}
+use Rattle.semantics.proofs.Spare.{length_empty, length_loaded, length_held, length_after, buffer_on, spared_written, spared_worked, spared_ended}
 
 -- ---- refusals
 

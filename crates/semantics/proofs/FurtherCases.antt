@@ -15,7 +15,7 @@ use Rattle.semantics.specs.Working.{units_left, units_done, running_after, word_
 use Rattle.semantics.specs.Card.{given, card}
 use Rattle.semantics.specs.Steps.{refusal_of, switched_to, accepted, accepted_array, step_of, array_of, reported_of}
 use Rattle.semantics.specs.Cases.{every}
-use Rattle.semantics.specs.WordByWord.{played}
+use Rattle.semantics.proofs.WordByWord.{played}
 use Rattle.semantics.specs.ReadingCases.{reading_cases}
 use Rattle.semantics.specs.WritingCases.{writing_cases}
 use Rattle.semantics.specs.OperationCases.{array_cases, operation_cases}

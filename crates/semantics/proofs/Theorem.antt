@@ -15,17 +15,18 @@ use Rattle.semantics.specs.Numbers.{within, within_in, within_out}
 use Rattle.semantics.specs.Layout.{inside, only}
 use Rattle.protection.specs.Words.{bit}
 use Rattle.semantics.specs.Register.{is_reserved}
-use Rattle.semantics.specs.RegisterBits.{ShowsRegister, register_shown, zero_each}
+use Rattle.semantics.specs.RegisterBits.{ShowsRegister}
+use Rattle.semantics.proofs.RegisterBits.{register_shown, zero_each}
 use Rattle.semantics.specs.State.{runs}
-use Rattle.semantics.specs.Supplied.{runs_supply}
+use Rattle.semantics.proofs.Supplied.{runs_supply}
 use Rattle.semantics.specs.Reading.{read_word}
 use Rattle.semantics.specs.WellFormed.{well_formed}
 use Rattle.semantics.specs.Steps.{Machine, after_all, fresh}
 use Rattle.semantics.specs.Entries as entries
 use Rattle.semantics.specs.Entries.{Entry, Live, is_finished}
 use Rattle.semantics.specs.Recorder.{Operation, program, erase, buffer, Recorder, beginning, recorded_all, journal_of, made, reading, applied, kinds}
-use Rattle.semantics.specs.Engine.{Matches, After}
-use Rattle.semantics.specs.Invariant.{Agree, agree_fresh, agree_all, agree_formed}
+use Rattle.semantics.proofs.Engine.{Matches, After}
+use Rattle.semantics.proofs.Invariant.{Agree, agree_fresh, agree_all, agree_formed}
 
 -- ---- what an entry makes of a word, and what its units do, are the same
 

@@ -25,8 +25,8 @@ use Rattle.semantics.specs.Entries as entries
 use Rattle.semantics.specs.Entries.{Entry, entry, Live}
 use Rattle.semantics.specs.Recorder as recorder
 use Rattle.semantics.specs.Recorder.{Operation, Conditions, base, len, kinds, is_program, is_any}
-use Rattle.semantics.specs.Engine.{stack, held?, Spans, Ready, Order, Inside, Lying, Sim, Matches, buffer_in_lem, and_true_l, and_true_r, not_true, or_false_l}
-use Rattle.semantics.specs.Follows.{setup_of, add_erase, add_program, add_running, under_way_of, under_way_program, under_way_any, Together, Lacking}
+use Rattle.semantics.proofs.Engine.{stack, held?, Spans, Ready, Order, Inside, Lying, Sim, Matches, buffer_in_lem, and_true_l, and_true_r, not_true, or_false_l}
+use Rattle.semantics.proofs.Follows.{setup_of, add_erase, add_program, add_running, under_way_of, under_way_program, under_way_any, Together, Lacking}
 use Rattle.semantics.specs.Buffer.{words_in, words_length}
 
 and_both : {a b : Bool} → a ≡ true → b ≡ true → (a && b) ≡ true

@@ -18,9 +18,9 @@ use Rattle.semantics.specs.Entries.{Entry, entry, Live, live, resting, any_suspe
 use Rattle.semantics.specs.Recorder.{Operation, program, erase, buffer, Setup, no-setup, program-setup, erase-setup, lock-setup, count_setup, first_setup, words_setup, Event, nothing, supplied, was_reset, units, suspend, resume-program, resume-erase, end-program, end-erase, setup_is, unprotected_is, accept}
 use Rattle.semantics.specs.Recorder.{Conditions, conditions_after, rule, len, kinds, is_program, is_erase, is_erase_of, is_any, is_none, block_in, event, journal_after}
 use Rattle.semantics.specs.Demand.{AcceptingCycle, operation_of}
-use Rattle.semantics.specs.Events.{OnJournal, adds, works, rephases, changes}
-pub use Rattle.semantics.specs.Causes.{Spans, Ready}
-use Rattle.semantics.specs.Causes.{Cause, by_nothing, by_supply, by_reset, by_work, by_suspend, by_resume_program, by_resume_erase, by_end_program, by_end_erase, by_setup, by_protection, by_accept, cause, accept_free}
+use Rattle.semantics.proofs.Events.{OnJournal, adds, works, rephases, changes}
+pub use Rattle.semantics.proofs.Causes.{Spans, Ready}
+use Rattle.semantics.proofs.Causes.{Cause, by_nothing, by_supply, by_reset, by_work, by_suspend, by_resume_program, by_resume_erase, by_end_program, by_end_erase, by_setup, by_protection, by_accept, cause, accept_free}
 
 -- ---- the engine
 

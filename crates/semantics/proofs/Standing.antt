@@ -14,10 +14,10 @@ use Rattle.semantics.specs.Steps.{after_all, fresh}
 use Rattle.semantics.specs.Entries.{Entry}
 use Rattle.semantics.specs.Recorder.{Operation, program, erase, buffer, block_in, beginning, journal_of}
 use Rattle.semantics.specs.Demand.{NoSupply, SupplyOn, Covers, Holds, Undisturbed, LastUnprotected, Stands, Demand3}
-use Rattle.semantics.specs.Engine.{Lies, buffer_in_lem, Lying}
-use Rattle.semantics.specs.Theorem.{demand_3, reached, reached_length}
-use Rattle.semantics.specs.Accepted.{Accepted, accepted}
-use Rattle.semantics.specs.Since.{supply_since, unprotected_since}
+use Rattle.semantics.proofs.Engine.{Lies, buffer_in_lem, Lying}
+use Rattle.semantics.proofs.Theorem.{demand_3, reached, reached_length}
+use Rattle.semantics.proofs.Accepted.{Accepted, accepted}
+use Rattle.semantics.proofs.Since.{supply_since, unprotected_since}
 
 module _ (g : Geometry) where
   -- an operation that lies in the array covers words of its block alone

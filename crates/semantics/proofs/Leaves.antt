@@ -17,16 +17,16 @@ use Rattle.protection.specs.Words.{spare_zero}
 use Rattle.semantics.specs.State.{geometry, with_protection, with_supply}
 use Rattle.semantics.specs.View as view
 use Rattle.semantics.specs.Supply.{end_flags, ended, ended_if_unsupplied, switched}
-use Rattle.semantics.specs.Cycles.{nothing_running}
-use Rattle.semantics.specs.Supplied.{unsupplied_idle}
+use Rattle.semantics.proofs.Cycles.{nothing_running}
+use Rattle.semantics.proofs.Supplied.{unsupplied_idle}
 use Rattle.semantics.specs.Register.{reserved_zero}
 use Rattle.semantics.specs.WellFormed.{activity_formed, places_used, zero_from, well_formed}
 use Rattle.semantics.specs.Writing.{first_cycle}
 use Rattle.semantics.specs.Working.{units_left, units_done, running_after, buffer_after, worked_on, worked, worked_array}
 use Rattle.semantics.specs.Steps.{next, switched_to, accepted, accepted_array, step_of, array_of}
-use Rattle.semantics.specs.Refusals.{of_step, of_array}
-use Rattle.semantics.specs.Engine.{and_true_r}
-use Rattle.semantics.specs.Spare.{buffer_on}
+use Rattle.semantics.proofs.Refusals.{of_step, of_array}
+use Rattle.semantics.proofs.Engine.{and_true_r}
+use Rattle.semantics.proofs.Spare.{buffer_on}
 
 same_array : (s : State) (xs : List ℕ) (x : Step) → accepted_array s xs x ≡ xs → array_of s xs x ≡ xs
 same_array s xs x e = of_array (λ (l : List ℕ). l ≡ xs) s xs x e refl

@@ -17,7 +17,7 @@ use Rattle.semantics.specs.Recorder.{Operation, program, erase, buffer, Setup, n
 use Rattle.semantics.specs.Recorder.{Conditions, conditions_after, rule, is_program, is_erase, is_erase_of, is_any, block_in, Recorder, event, first_cycle_event, goes_on, cycle, acceptable}
 use Rattle.semantics.specs.Recorder.{Command, command_of, suspend-command, resume-command, program-command, lock-command, erase-command, buffer-command, other-command}
 use Rattle.semantics.specs.Demand.{ProtectionCommand, AcceptingCycle}
-use Rattle.semantics.specs.Events.{OnConditions, switches, resets, protects, leaves, changes}
+use Rattle.semantics.proofs.Events.{OnConditions, switches, resets, protects, leaves, changes}
 
 module _ (g : Geometry) where
   -- n words from location l on lie in one block, and the buffer holds them

@@ -14,14 +14,14 @@ use Rattle.semantics.specs.State.{geometry}
 use Rattle.semantics.specs.Register.{reserved_zero}
 use Rattle.semantics.specs.WellFormed.{well_formed, activity_formed, places_used, zero_from, runs_supplied}
 use Rattle.semantics.specs.Steps.{step_of, array_of}
-use Rattle.semantics.specs.Refusals.{refusal_changes_nothing, refusal_1}
+use Rattle.semantics.proofs.Refusals.{refusal_changes_nothing, refusal_1}
 use Rattle.semantics.specs.Entries.{Entry}
 use Rattle.semantics.specs.Recorder.{Operation, Event, journal_after}
 use Rattle.semantics.specs.Tests.{and_true_l, and_true_r}
-use Rattle.semantics.specs.Engine.{busy, held?, Sim, rule_ok, sim_do}
-use Rattle.semantics.specs.Follows.{conditions, under_way, event_of}
-use Rattle.semantics.specs.Formed.{formed, own, formed_own}
-use Rattle.semantics.specs.Invariant.{Steps, Fit, Kept, steps, spared_step, state_good, kept_step, agree_fit}
+use Rattle.semantics.proofs.Engine.{busy, held?, Sim, rule_ok, sim_do}
+use Rattle.semantics.proofs.Follows.{conditions, under_way, event_of}
+use Rattle.semantics.proofs.Formed.{formed, own, formed_own}
+use Rattle.semantics.proofs.Invariant.{Steps, Fit, Kept, steps, spared_step, state_good, kept_step, agree_fit}
 
 -- the journal of what is under way alone, which a well-formed state agrees with
 abbrev pub own_of : State → List (Entry Operation)

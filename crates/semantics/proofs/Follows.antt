@@ -35,15 +35,16 @@ use Rattle.semantics.specs.State.{activity, with_buffer, runs, program_suspended
 use Rattle.semantics.specs.Buffer.{words_in, words_length, words_first, words_later}
 use Rattle.semantics.specs.View.{place_of, view_at, with_view, with_control, with_activity}
 use Rattle.semantics.specs.Supply.{ended, ended_if_unsupplied}
-use Rattle.semantics.specs.Supplied.{is_resume, only_resume, first_holds}
+use Rattle.semantics.specs.Supplied.{is_resume}
+use Rattle.semantics.proofs.Supplied.{only_resume, first_holds}
 use Rattle.semantics.specs.WellFormed.{erasing}
 use Rattle.semantics.specs.Writing as writing
 use Rattle.semantics.specs.Writing.{command_of, suspended, resume, program_free, accepts, set_up, clear_status, first_cycle, program_runs, erase_cycle, lock_command_of, lock_cycle, settle, loads, count_right, first_right, later_right, confirm_right, confirm_cycle, words_cycle, kept_if, first_loaded, words_loaded, held_after, loaded, cycle_at, loaded_at, written_at}
 use Rattle.semantics.specs.Recorder.{Event, nothing, suspend, resume-program, resume-erase, end-program, end-erase, setup_is, unprotected_is, accept, Conditions, conditions_after, rule, is_program, is_erase, first_cycle_event, cycle, no-setup, first_setup, words_setup}
 use Rattle.semantics.specs.Recorder as recorder
-use Rattle.semantics.specs.Engine.{busy, held?, engine_after, words_after_event, Ready}
-pub use Rattle.semantics.specs.UnderWay.{setup_of, conditions, add_erase, add_program, add_running, under_way_of, under_way, Together, Lacking, under_way_program, under_way_any, under_way_worked, under_way_off, words_under_way}
-use Rattle.semantics.specs.UnderWay.{under_way_in, Beside, none_is_running, program_is_running, buffer_is_running, erase_is_running, beside, under_way_erasing}
+use Rattle.semantics.proofs.Engine.{busy, held?, engine_after, words_after_event, Ready}
+pub use Rattle.semantics.proofs.UnderWay.{setup_of, conditions, add_erase, add_program, add_running, under_way_of, under_way, Together, Lacking, under_way_program, under_way_any, under_way_worked, under_way_off, words_under_way}
+use Rattle.semantics.proofs.UnderWay.{under_way_in, Beside, none_is_running, program_is_running, buffer_is_running, erase_is_running, beside, under_way_erasing}
 use Rattle.semantics.specs.Commands.{bears, commands_agree}
 
 -- ---- each step is an event

@@ -8,8 +8,8 @@ use Rattle.semantics.specs.declared.Step.TheVariants.{Write}
 use Rattle.semantics.specs.Entries.{Phase, Entry, entry, worked}
 use Rattle.semantics.specs.Recorder.{Operation, Event, accept, kinds, block_in, Recorder, recorded, recorded_all, event, journal_after}
 use Rattle.semantics.specs.Demand.{AcceptingCycle, operation_of, Holds}
-use Rattle.semantics.specs.Events.{OnJournal, adds, works, rephases, changes}
-use Rattle.semantics.specs.Causes.{Caused, by_accept, event_cause}
+use Rattle.semantics.proofs.Events.{OnJournal, adds, works, rephases, changes}
+use Rattle.semantics.proofs.Causes.{Caused, by_accept, event_cause}
 
 module _ (g : Geometry) where
   -- ---- where an entry of the journal comes from

@@ -1,0 +1,5 @@
+-- The theorems: their statements and proofs.
+pub mod Laws
+pub mod Bytes
+pub mod Recorded
+pub mod Back

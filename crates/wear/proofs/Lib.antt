@@ -1,0 +1,5 @@
+-- The theorems: their statements and proofs.
+pub mod Places
+pub mod Refused
+pub mod Held
+pub mod Theorem
