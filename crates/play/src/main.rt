@@ -1,46 +1,48 @@
 // The script program: reads a script on standard input, plays it on a bench bottom part and prints the transcript. All that matters is proved in the crate
 // script; what is read and written is tested (host/test-play).
 //
-// What goes wrong is told on standard error: after a read that failed nothing is printed on standard output, and a transcript that could not be written whole
-// is said to be cut. A line that begins `play: warning: ` says what the transcript does not; any other line is trouble. A Rattle program has no exit status of
-// its own, so by itself this one ends with status 0 even then: the shell program ./play reads what is said here and makes the status.
+// What goes wrong is told on standard error, and the status is then 1: after a read that failed nothing is printed on standard output, and a transcript that
+// could not be written whole is said to be cut. A line that begins `play: warning: ` says what the transcript does not, and changes no status.
+#![tactic(auto)]
+
 ghost use Rattle.std.specs.Prelude.{◌≤◌, length};
-ghost use Rattle.io.specs.Counts.{IsPrefixLen};
 
-use libc::{STDERR_FILENO, STDIN_FILENO, STDOUT_FILENO};
+use std::io;
+use std::io::Read;
+use std::process::ExitCode;
 
-// How many bytes of the input there are, and whether a read failed.
+// How many bytes of the input there are, and the error of a read that failed.
 #[derive(Drop)]
 struct Input {
     count: usize,
-    failed: bool,
+    failed: Option<io::Error>,
 }
 
-// Reads until the text is full, the input ends or a read fails. io::read_full does not tell the last two apart.
-fn read_text(text: &mut [u8]) -> Input
-    ensures { IsPrefixLen result.count text.new }
+// Reads until the text is full, the input ends or a read fails. A read that gives fewer bytes than there is room for is not the end.
+fn read_text<R: Read>(input: &mut R, text: &mut [u8]) -> Input
+    ensures { result.count ≤ length text.new }
 {
     let mut count = 0;
     while count < text.len() {
-        let got = libc::read(STDIN_FILENO, &mut text[count..]);
-        if got < 0 {
-            return Input {
-                count,
-                failed: true,
-            };
+        match input.read(&mut text[count..]) {
+            Ok(0) => {
+                return Input {
+                    count,
+                    failed: None,
+                };
+            }
+            Ok(more) => count += more,
+            Err(error) => {
+                return Input {
+                    count,
+                    failed: Some(error),
+                };
+            }
         }
-        let more = io::count(got, &text[count..]);
-        if more == 0 {
-            return Input {
-                count,
-                failed: false,
-            };
-        }
-        count += more;
     }
     Input {
         count,
-        failed: false,
+        failed: None,
     }
 }
 
@@ -56,41 +58,52 @@ fn has_cr_lf(text: &[u8]) -> bool {
     false
 }
 
-// Warns of a script that is played otherwise than its author may think.
-fn warn(text: &[u8]) {
+// Warns of a script that is played otherwise than its author may think. A warning that cannot be written is lost, and the script is played.
+fn warn(rt: &impl Eprint, text: &[u8]) {
     if text.len() > 16384 {
-        io::write_all(
-            STDERR_FILENO,
-            b"play: warning: the script is longer than 16,384 bytes; only the first 16,384 are played\n",
+        let _ = eprintln!(rt;
+            "play: warning: the script is longer than 16,384 bytes; only the first 16,384 are played"
         );
     }
     if has_cr_lf(script::script_of(text)) {
-        io::write_all(
-            STDERR_FILENO,
-            b"play: warning: lines end in CR LF, not LF; each of them is refused 6\n",
+        let _ = eprintln!(rt;
+            "play: warning: lines end in CR LF, not LF; each of them is refused 6"
         );
     }
 }
 
 // Writes the first bytes of the room.
-fn print(room: &[u8], end: usize)
+fn print(rt: &impl Print, room: &[u8], end: usize) -> io::Result<()>
     requires { end ≤ length room.now }
 {
-    if !io::write_all(STDOUT_FILENO, &room[..end]) {
-        os::fail(b"play: the transcript is not whole: standard output");
-    }
+    rt.write_all(&room[..end])
 }
 
-fn main() {
+// Tells on standard error what failed and why: the system's text of the error, without the number that std writes after it.
+fn fail<R: Eprint + AllocGlobal>(rt: &R, what: &str, error: io::Error) -> ExitCode {
+    let _ = match format!(in rt.alloc(); "{error}") {
+        Ok(text) => match text.as_str().split_once(" (os error ") {
+            Some((reason, _)) => eprintln!(rt; "{what}: {reason}"),
+            None => eprintln!(rt; "{what}: {text}"),
+        },
+        Err(_) => eprintln!(rt; "{what}: {error}"),
+    };
+    ExitCode::FAILURE
+}
+
+fn main(rt: HostRuntime) -> ExitCode {
     // Only the first 16,384 bytes are the script, however they arrive. One more is read, to tell an input that is longer.
     let mut text = [0u8; 16385];
-    let input = read_text(&mut text);
-    if input.failed {
-        os::fail(b"play: the script cannot be read: standard input");
-        return;
+    let input = read_text(&mut rt.stdin(), &mut text);
+    if let Some(error) = input.failed {
+        return fail(
+            &rt,
+            "play: the script cannot be read: standard input",
+            error,
+        );
     }
     let n = input.count;
-    warn(&text[..n]);
+    warn(&rt, &text[..n]);
     // The bench part's words, all FFFFh at the start.
     let mut array = [0xffffu16; 16384];
     // The erase counts, which power-up sets to 0. No line of a script asks for them.
@@ -99,5 +112,12 @@ fn main() {
     // Room for every transcript, as its type asks.
     let mut room = [0u8; 262154];
     let end = script::play_text(&text[..n], &mut main, &mut small, &mut array, &mut room);
-    print(&room, end);
+    match print(&rt, &room, end) {
+        Ok(()) => ExitCode::SUCCESS,
+        Err(error) => fail(
+            &rt,
+            "play: the transcript is not whole: standard output",
+            error,
+        ),
+    }
 }
