@@ -7,9 +7,9 @@
 
 ghost use Rattle.std.specs.Prelude.{◌≤◌, length};
 
-use std::io;
-use std::io::Read;
+use std::io::{Read, Write};
 use std::process::ExitCode;
+use std::{io, str};
 
 // How many bytes of the input there are, and the error of a read that failed.
 #[derive(Drop)]
@@ -80,11 +80,15 @@ fn print(rt: &impl Print, room: &[u8], end: usize) -> io::Result<()>
 }
 
 // Tells on standard error what failed and why: the system's text of the error, without the number that std writes after it.
-fn fail<R: Eprint + AllocGlobal>(rt: &R, what: &str, error: io::Error) -> ExitCode {
-    let _ = match format!(in rt.alloc(); "{error}") {
-        Ok(text) => match text.as_str().split_once(" (os error ") {
+fn fail(rt: &impl Eprint, what: &str, error: io::Error) -> ExitCode {
+    let mut text = [0u8; 256];
+    let mut room = &mut text[..];
+    let _ = write!(room, "{error}");
+    let n = 256usize.saturating_sub(room.len());
+    let _ = match str::from_utf8(&text[..n]) {
+        Ok(said) => match said.split_once(" (os error ") {
             Some((reason, _)) => eprintln!(rt; "{what}: {reason}"),
-            None => eprintln!(rt; "{what}: {text}"),
+            None => eprintln!(rt; "{what}: {said}"),
         },
         Err(_) => eprintln!(rt; "{what}: {error}"),
     };
