@@ -5,7 +5,8 @@
 // could not be written whole is said to be cut. A line that begins `play: warning: ` says what the transcript does not, and changes no status.
 #![tactic(auto)]
 
-ghost use Rattle.std.specs.Prelude.{◌≤◌, length};
+ghost use Rattle.std.specs.Prelude.{◌<◌, ◌≤◌, length, take, IsNone};
+ghost use Rattle.std.specs.Io.KnownBytes.{Consumes, IsAtEnd};
 
 use std::io::{Read, Write};
 use std::process::ExitCode;
@@ -20,7 +21,11 @@ struct Input {
 
 // Reads until the text is full, the input ends or a read fails. A read that gives fewer bytes than there is room for is not the end.
 fn read_text<R: Read>(input: &mut R, text: &mut [u8]) -> Input
-    ensures { result.count ≤ length text.new }
+    ensures count { result.count ≤ length text.new }
+    // where the bytes that the reader has left are known: the text begins with those that it gave
+    ensures bytes { Consumes (R.remaining input.old) (R.remaining input.new) (take result.count text.new) }
+    // and where no read failed and there is room left, none are left
+    ensures whole { IsNone result.failed → result.count < length text.new → IsAtEnd (R.remaining input.new) }
 {
     let mut count = 0;
     while count < text.len() {
