@@ -5,8 +5,8 @@
 // could not be written whole is said to be cut. A line that begins `play: warning: ` says what the transcript does not, and changes no status.
 #![tactic(auto)]
 
-ghost use Rattle.std.specs.Prelude.{◌<◌, ◌≤◌, length, take, IsNone};
-ghost use Rattle.std.specs.Io.KnownBytes.{Consumes, IsAtEnd};
+ghost use Rattle.std.specs.Prelude.{◌≡◌, ◌+◌, ◌<◌, ◌≤◌, ◌↔◌, length, take, slice_index, SomeIndex, IsNone, IsTrue, OnOk};
+ghost use Rattle.std.specs.Io.KnownBytes.{Appends, Consumes, IsAtEnd};
 
 use std::io::{Read, Write};
 use std::process::ExitCode;
@@ -52,7 +52,9 @@ fn read_text<R: Read>(input: &mut R, text: &mut [u8]) -> Input
 }
 
 // Whether some line ends in CR LF.
-fn has_cr_lf(text: &[u8]) -> bool {
+fn has_cr_lf(text: &[u8]) -> bool
+    ensures { IsTrue result ↔ SomeIndex text.now (λ i. (i + 1 < length text.now) × (slice_index text.now i ≡ 13) × (slice_index text.now (i + 1) ≡ 10)) }
+{
     let mut i = 1;
     while i < text.len() {
         if text[i] == b'\n' && text[i - 1] == b'\r' {
@@ -78,10 +80,12 @@ fn warn(rt: &impl Eprint, text: &[u8]) {
 }
 
 // Writes the first bytes of the room.
-fn print(rt: &impl Print, room: &[u8], end: usize) -> io::Result<()>
+fn print<W: Write>(out: &mut W, room: &[u8], end: usize) -> io::Result<()>
     requires { end ≤ length room.now }
+    // where the bytes that the writer holds are known
+    ensures { OnOk result (Appends (W.contents out.old) (W.contents out.new) (take end room.now)) }
 {
-    rt.write_all(&room[..end])
+    out.write_all(&room[..end])
 }
 
 // Tells on standard error what failed and why: the system's text of the error, without the number that std writes after it.
@@ -121,7 +125,7 @@ fn main(rt: HostRuntime) -> ExitCode {
     // Room for every transcript, as its type asks.
     let mut room = [0u8; 262154];
     let end = script::play_text(&text[..n], &mut main, &mut small, &mut array, &mut room);
-    match print(&rt, &room, end) {
+    match print(&mut rt.stdout(), &room, end) {
         Ok(()) => ExitCode::SUCCESS,
         Err(error) => fail(
             &rt,
