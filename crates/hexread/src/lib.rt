@@ -1,5 +1,7 @@
 // Reading Intel HEX (document 02, item 3) from borrowed text into a borrowed array. The text is gone over twice: it is
 // judged whole before the first word is written, since a refused file leaves the array as it was.
+#![tactic(auto)]
+
 ghost use Rattle.std.specs.Prelude.{◌≡◌, ◌+◌, ◌*◌, ◌%◌, ◌<◌, ◌≤◌, true, length, take, drop, slice_index};
 ghost use Rattle.intelhex.specs.Records.{record_lines, digit, bytes, shaped, named_from, record_refusal, refusal_from, named};
 ghost use Rattle.intelhex.specs.Records.{words_after, size, verdict, array_read};

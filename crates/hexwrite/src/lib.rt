@@ -1,6 +1,8 @@
-// Writes an array as Intel HEX into borrowed room (document 02, item 3). What the text is, is defined in the crate hex.
+// Writes an array as Intel HEX into borrowed room (document 02, item 3). What the text is, is defined in the crate intelhex.
 // A private function is told that its bytes fit, so none tests a place. It puts them at a place; the caller knows how
 // many there are.
+#![tactic(auto)]
+
 ghost use Rattle.std.specs.Prelude.{◌≡◌, ◌+◌, ◌*◌, ◌/◌, ◌%◌, ◌<◌, ◌≤◌, [], ◌∷◌, length, take, drop};
 ghost use Rattle.printing.specs.Text.{digit_of};
 ghost use Rattle.printing.specs.Room.{placed};

@@ -1,6 +1,8 @@
 // The step that one line of a script stands for: document 01, "The script program". A line comes without the LF that
 // ends it.
 // Each function takes every line and number: a place past the end of the line reads 0, which stands in no form.
+#![tactic(auto)]
+
 ghost use Rattle.std.specs.Prelude.{◌≡◌, ◌%◌, get_or};
 ghost use Rattle.line.specs.Forms.{hex_value, digits, number, begins, is_read, is_write, is_work, is_supply, is_reset};
 ghost use Rattle.line.specs.Forms.{step_of_line};

@@ -1,13 +1,12 @@
 -- A state that is a parameter fits its types, by what a function is told of it. Each path goes to a field, in the order
 -- of the declaration. Assumes nothing.
 use mathlib.Core.List.{List}
-use lib.ListN.{length-map}
 use mir.Syntax.{w16}
 use mir.Val.{Val}
 use denote.Laws.{Is}
 use denote.Struct.Declared.{row}
 use denote.Enum.Declared as enum
-use borrow.Author.Rules.{elem_fits_field}
+use borrow.Author.Rules.{elem_Fits}
 use Rattle.semantics.specs.contracts.Setup as setup-type
 use Rattle.semantics.specs.contracts.Running as running-type
 use Rattle.semantics.specs.contracts.SuspendedProgram as program-type
@@ -55,13 +54,13 @@ fits s vs p =
     let a = k.0.1.1 in
     let b = q.1.1.1.1.0 in
     record {
-      banks = simp length-map at q.1.0.1.0.1;
+      banks = q.1.0.1.0.1;
       setup = setup_fits_lem s.control.activity.setup _ a.0;
       running = running_fits_lem s.control.activity.running _ a.1.0;
       program = program_fits_lem s.control.activity.program _ a.1.1.0;
       erase = erase_fits_lem s.control.activity.erase _ a.1.1.1.0;
-      unprotected = simp length-map at q.1.1.0.1.0.1;
+      unprotected = q.1.1.0.1.0.1;
       configuration = k.1.1.0.1;
-      places = simp length-map at b.1.0.1;
-      buffer = λ i. (elem_fits_field w16 w16 s.buffer b.0 i b.1.1 tt).fits;
+      places = b.1.0.1;
+      buffer = λ i. (elem_Fits w16 w16 s.buffer b.0 i b.1.1 tt).fits;
     }

@@ -4,7 +4,7 @@ use Prim.Native.Nat.{ℕ, ◌≤◌}
 use mathlib.Core.List.{List}
 use mathlib.Core.Path.{◌≡◌}
 use native.Mathlib.Omega.{arith}
-use lib.ListN.{length, length-map}
+use lib.ListN.{length}
 use mir.Val.{Val}
 use denote.Laws.{Is}
 use denote.Struct.Declared.{row}
@@ -12,4 +12,4 @@ use Rattle.semantics.specs.contracts.State as state
 use Rattle.semantics.specs.declared.State.{State}
 
 pub past : (s : State) (vs : List Val) → Is (row state.the_type) s vs → (k : ℕ) → 16 ≤ k → length s.banks ≤ k
-past s vs p k h = let n : length s.banks ≡ 16 = simp length-map at p.1.1.1.0.1.0.1 in omega arith
+past s vs p k h = let n : length s.banks ≡ 16 = p.1.1.1.0.1.0.1 in omega arith

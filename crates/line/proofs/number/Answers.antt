@@ -1,5 +1,5 @@
 -- `line::number` meets its contract. The invariant: the number of the first i digits, modulo 2^24. Assumes nothing.
-use Prim.Native.Nat.{ℕ, ◌≤◌, ◌<◌, ◌+◌, ◌-◌, ◌*◌, ◌/◌, ◌%◌}
+use Prim.Native.Nat.{ℕ, ◌≤◌, ◌<◌, ◌+◌, ◌*◌, ◌/◌, ◌%◌}
 use mathlib.Core.Path.{◌≡◌, refl, sym, ap, ◌∙◌}
 use native.Mathlib.Nat.{mul-le-mul, mod-lt, div-add-mod', add-mul, mul_right_comm, mul-add-mod_self_right}
 use native.Mathlib.Numerals.{add-one}

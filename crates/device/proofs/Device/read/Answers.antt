@@ -1,0 +1,14 @@
+-- `Device::read` meets its contract: the step by the refusal that was found. Assumes nothing.
+use mathlib.Core.Path.{◌∙◌}
+use Rattle.semantics.specs.declared.Step.TheVariants.{Read}
+use Rattle.semantics.specs.Steps.{accepted}
+use Rattle.device.specs.Refusals.{outcome_accepted, outcome_refused}
+use Rattle.device.proofs.Device.read.Goals as goal
+
+pub returns-then-e-eq0 : goal.returns-then-e-eq0
+unfolding accepted
+returns-then-e-eq0 c = rw c.read_word-word.ensures
+    (outcome_accepted _ _ _ (Read _) _ _ _ (c.refusal_of.ensures _) c.address_refusal.ensures c.first_refusal-e.ensures c.if-e-eq0.true)
+
+pub returns : goal.returns
+returns c = c.refused.ensures ∙ outcome_refused _ _ _ (Read _) _ _ _ (c.refusal_of.ensures _) c.address_refusal.ensures c.first_refusal-e.ensures c.if-e-eq0.false

@@ -1,0 +1,17 @@
+-- `Device::write` meets its contract: the step by the refusal that was found. Assumes nothing.
+use mathlib.Core.Path.{◌∙◌}
+use Rattle.semantics.specs.declared.Step.TheVariants.{Write}
+use Rattle.semantics.specs.Card.{card}
+use Rattle.semantics.specs.Split.{step_refusal}
+use Rattle.semantics.specs.Steps.{accepted}
+use Rattle.device.specs.Refusals.{outcome_accepted, outcome_refused}
+use Rattle.device.proofs.Device.write.Goals as goal
+
+pub returns-then-e-eq0 : goal.returns-then-e-eq0
+unfolding accepted card step_refusal
+returns-then-e-eq0 c = rw c.written-next.ensures
+    (outcome_accepted _ _ _ (Write _ _) _ _ _ (c.refusal_of.ensures _) c.address_refusal.ensures c.first_refusal-e.ensures c.if-e-eq0.true)
+
+pub returns : goal.returns
+unfolding card step_refusal
+returns c = c.refused.ensures ∙ outcome_refused _ _ _ (Write _ _) _ _ _ (c.refusal_of.ensures _) c.address_refusal.ensures c.first_refusal-e.ensures c.if-e-eq0.false

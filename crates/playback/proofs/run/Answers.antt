@@ -1,0 +1,91 @@
+-- `playback::run` meets its contract. One number more is played by the task that it asks, and a write by what it changes.
+use Rattle.std.proofs.Common.{◌≡◌, ◌∙◌, refl, sym, ap, List, ℕ, arith}
+use Rattle.geometry.specs.Blocks.{geometry_of, bank_of}
+use Rattle.geometry.specs.declared.Part.{Part}
+use Rattle.semantics.specs.declared.Bank.{Bank}
+use Rattle.semantics.specs.declared.Control.{Control}
+use Rattle.semantics.specs.declared.State.{State}
+use Rattle.wear.specs.Counts.{lent}
+use Rattle.wear.specs.Held.{Held}
+use Rattle.wear.specs.Steps.{formed_with, refusal_with}
+use Rattle.reading.specs.Shown.{read_seen}
+use Rattle.writing.specs.Changes.{change_put, told_put}
+use Rattle.playback.specs.Tasks.{task_means}
+use Rattle.playback.specs.Laws.{going_none, going_turn, sofar_end, played_as, write_bank, plays_refused, plays_read, plays_write, plays_work, plays_supply, plays_reset, reset_pieces}
+use Rattle.playback.proofs.Fits.{five, sixteen, thirty_two}
+use Rattle.playback.proofs.run.Goals as goal
+use Rattle.playback.proofs.run.Goals.{in-Refused, in-Read, in-Write+in-First, in-Write+in-Activity, in-Write+in-Ended, in-Write+in-Data, in-Write+in-View, in-Work, in-Supply, in-Reset}
+use Rattle.playback.proofs.run.Goals.{then-refused-ne0, else-refused-ne0+else-loop-i-test, else-refused-ne0+then-loop-i-test+in-End}
+
+-- a state whose pieces are those of another
+pieces : (q : Part) (b b' : List Bank) (u u' : List ℕ) (c c' : Control) (f f' : List ℕ) → b ≡ b' → u ≡ u' → c ≡ c' → f ≡ f'
+    → ◌≡◌ {A = State} (record { part = q; banks = b; unprotected = u; control = c; buffer = f }) (record { part = q; banks = b'; unprotected = u'; control = c'; buffer = f' })
+pieces q b b' u u' c c' f f' i j k l = λ e. record { part = q; banks = i e; unprotected = j e; control = k e; buffer = l e }
+
+pub loop-i-init : goal.loop-i-init
+unfolding formed_with refusal_with
+loop-i-init c =
+    let d = c.args.device in
+    let p = c.well_formed.0 in
+    let same : Held c.refusal_beside-refused.result d.state (lent c.args.main.now c.args.small.now) c.args.array.now = record {
+      same = rw (← c.formed_of.ensures d.state.banks, ← c.shared_zero.ensures) c.refusal_beside-refused.ensures;
+      sixteen = sixteen d _ p;
+      five = five d _ p;
+      thirty_two = thirty_two d _ p;
+    } in (
+      going_none _ _ _ _ _ _ (record { same = sym c.if-refused-ne0.false ∙ same.same; sixteen = same.sixteen; five = same.five; thirty_two = same.thirty_two }),
+      c.least-n.ensures,
+      omega arith,
+    )
+
+pub bounds-banks-p : goal.bounds-banks-p
+bounds-banks-p c = write_bank 0 c.args.device.state.part _ _ _ (task_means 0 _ _ _ (sym c.in-Write.is ∙ c.task_of-task.ensures))
+
+pub bounds-banks-p-in-Data : goal.bounds-banks-p-in-Data
+bounds-banks-p-in-Data c = write_bank 0 c.args.device.state.part _ _ _ (task_means 0 _ _ _ (sym c.in-Write.is ∙ c.task_of-task.ensures))
+
+pub bounds-banks-p-in-View : goal.bounds-banks-p-in-View
+bounds-banks-p-in-View c = write_bank 0 c.args.device.state.part _ _ _ (task_means 0 _ _ _ (sym c.in-Write.is ∙ c.task_of-task.ensures))
+
+pub bounds-banks-p-in-View-2 : goal.bounds-banks-p-in-View-2
+bounds-banks-p-in-View-2 c = write_bank 0 c.args.device.state.part _ _ _ (task_means 0 _ _ _ (sym c.in-Write.is ∙ c.task_of-task.ensures))
+
+pub loop-i-preserved : goal.loop-i-preserved
+loop-i-preserved c =
+    let g = c.loop-i.invariant.0 in
+    let h = g.held in
+    let k = c.task_of-task.ensures in (
+      going_turn _ _ _ _ _ _ _ _ _ _ _ _ _ _ _ _ c.answer_code.ensures g (omega arith) (omega arith)
+          (elim c.match-task.branch [
+            | in-Refused w ↦ plays_refused _ _ _ _ h _ _ _ _ _ _ (task_means _ _ _ _ (sym w.in-Refused.is ∙ k)) (pieces _ _ _ _ _ _ _ _ _ w.banks-is w.unprotected-is w.control-is w.buffer-is) w.answer-is w.array-is (λ j. lent (w.main-is j) (w.small-is j))
+            | in-Read w ↦ plays_read _ _ _ _ h _ _ _ _ _ _ _ (task_means _ _ _ _ (sym w.in-Read.is ∙ k)) (read_seen _ _ _ _ _ _ _ w.location_of-location.ensures.value (w.bank_at-bank.ensures.value ∙ ap (bank_of _) (sym w.location_of-location.ensures.value)) refl w.read_at.ensures) (pieces _ _ _ _ _ _ _ _ _ w.banks-is w.unprotected-is w.control-is w.buffer-is) w.answer-is w.array-is (λ j. lent (w.main-is j) (w.small-is j))
+            | in-Write+in-First w ↦ plays_write _ _ _ _ h _ _ _ _ _ _ _ (task_means _ _ _ _ (sym w.in-Write.is ∙ k)) (pieces _ _ _ _ _ _ _ _ _ w.banks-is w.unprotected-is w.control-is w.buffer-is ∙ rw w.with_setup-control.ensures (change_put _ _ _ _ (sym w.in-First.is ∙ (rw w.activity_in.ensures at w.change_of-change.ensures)) refl)) w.answer-is w.array-is (λ j. lent (w.main-is j) (w.small-is j))
+            | in-Write+in-Activity w ↦ plays_write _ _ _ _ h _ _ _ _ _ _ _ (task_means _ _ _ _ (sym w.in-Write.is ∙ k)) (pieces _ _ _ _ _ _ _ _ _ w.banks-is w.unprotected-is w.control-is w.buffer-is ∙ rw w.with_activity-control.ensures (change_put _ _ _ _ (sym w.in-Activity.is ∙ (rw w.activity_in.ensures at w.change_of-change.ensures)) refl)) w.answer-is w.array-is (λ j. lent (w.main-is j) (w.small-is j))
+            | in-Write+in-Ended w ↦ plays_write _ _ _ _ h _ _ _ _ _ _ _ (task_means _ _ _ _ (sym w.in-Write.is ∙ k)) (pieces _ _ _ _ _ _ _ _ _ w.banks-is w.unprotected-is w.control-is w.buffer-is ∙ rw (w.end_running-control.ensures.control, w.end_running-control.ensures.buffer, w.with_activity-c.ensures) (change_put _ _ _ _ (sym w.in-Ended.is ∙ (rw w.activity_in.ensures at w.change_of-change.ensures)) refl)) w.answer-is w.array-is (λ j. lent (w.main-is j) (w.small-is j))
+            | in-Write+in-Data w ↦ plays_write _ _ _ _ h _ _ _ _ _ _ _ (task_means _ _ _ _ (sym w.in-Write.is ∙ k)) (pieces _ _ _ _ _ _ _ _ _ w.banks-is w.unprotected-is w.control-is w.buffer-is ∙ rw (w.load.ensures, w.with_setup-control-in-Data.ensures) (change_put _ _ _ _ (sym w.in-Data.is ∙ (rw w.activity_in.ensures at w.change_of-change.ensures)) refl)) w.answer-is w.array-is (λ j. lent (w.main-is j) (w.small-is j))
+            | in-Write+in-View w ↦ plays_write _ _ _ _ h _ _ _ _ _ _ _ (task_means _ _ _ _ (sym w.in-Write.is ∙ k)) (pieces _ _ _ _ _ _ _ _ _ w.banks-is w.unprotected-is w.control-is w.buffer-is ∙ rw (w.settled-control.ensures, w.bank_in.ensures) (told_put _ _ _ _ _ _ (sym w.in-View.is ∙ (rw w.activity_in.ensures at w.change_of-change.ensures)) (rw w.is_unprotected-on.ensures at w.told_view-v.ensures) w.set_block.ensures w.load_buffer.ensures)) w.answer-is w.array-is (λ j. lent (w.main-is j) (w.small-is j))
+            | in-Work w ↦ plays_work _ _ _ _ h _ _ _ _ _ _ _ _ (task_means _ _ _ _ (sym w.in-Work.is ∙ k)) (rw w.running_in-was.ensures at w.advance-o.ensures.progress) (rw w.running_in-was.ensures at w.advance-o.ensures.buffer) (pieces _ _ _ _ _ _ _ _ _ w.banks-is w.unprotected-is w.control-is w.buffer-is ∙ rw (w.with_activity-control-in-Work.ensures, w.advanced-a.ensures)) w.answer-is (w.array-is ∙ (rw w.running_in-was.ensures at w.advance-o.ensures.array)) ((λ j. lent (w.main-is j) (w.small-is j)) ∙ (rw w.running_in-was.ensures at w.count_finished.ensures))
+            | in-Supply w ↦ plays_supply _ _ _ _ h _ _ _ _ _ _ _ _ (task_means _ _ _ _ (sym w.in-Supply.is ∙ k)) w.switch_supply-control.ensures.control w.switch_supply-control.ensures.buffer (pieces _ _ _ _ _ _ _ _ _ w.banks-is w.unprotected-is w.control-is w.buffer-is) w.answer-is w.array-is (λ j. lent (w.main-is j) (w.small-is j))
+            | in-Reset w ↦ plays_reset _ _ _ _ h _ _ _ _ _ (task_means _ _ _ _ (sym w.in-Reset.is ∙ k)) (pieces _ _ _ _ _ _ _ _ _ w.banks-is w.unprotected-is w.control-is w.buffer-is ∙ reset_pieces _ _ _ (rw w.state_of.ensures at w.reset-z.ensures)) w.answer-is w.array-is (λ j. lent (w.main-is j) (w.small-is j))
+          ]),
+      c.loop-i.invariant.1,
+      omega arith,
+    )
+
+pub returns : goal.returns
+unfolding formed_with refusal_with
+returns c =
+    let d = c.args.device in
+    let p = c.well_formed.0 in
+    let held : Held c.refusal_beside-refused.result d.state (lent c.args.main.now c.args.small.now) c.args.array.now = record {
+      same = rw (← c.formed_of.ensures d.state.banks, ← c.shared_zero.ensures) c.refusal_beside-refused.ensures;
+      sixteen = sixteen d _ p;
+      five = five d _ p;
+      thirty_two = thirty_two d _ p;
+    } in
+    rw (c.ended.ensures, c.state_of-2.ensures)
+    (elim c.if-refused-ne0.branch [
+      | then-refused-ne0 w ↦ played_as _ _ _ _ _ _ _ _ _ _ _ _ _ _ _ w.i-is (pieces _ _ _ _ _ _ _ _ _ w.banks-is w.unprotected-is w.control-is w.buffer-is) (λ j. lent (w.main-is j) (w.small-is j)) w.answers-is w.array-is (w.refuse-i.ensures _ _ _ held w.if-refused-ne0.true)
+      | else-refused-ne0+else-loop-i-test w ↦ played_as _ _ _ _ _ _ _ _ _ _ _ _ _ _ _ w.i-is (pieces _ _ _ _ _ _ _ _ _ w.banks-is w.unprotected-is w.control-is w.buffer-is) (λ j. lent (w.main-is j) (w.small-is j)) w.answers-is w.array-is (sofar_end _ _ _ _ _ _ _ _ _ _ w.loop-i.invariant.0.sofar (λ p q. absurd (omega (arith, w.loop-i-test.false, w.loop-i.invariant.1))))
+      | else-refused-ne0+then-loop-i-test+in-End w ↦ played_as _ _ _ _ _ _ _ _ _ _ _ _ _ _ _ w.i-is (pieces _ _ _ _ _ _ _ _ _ w.banks-is w.unprotected-is w.control-is w.buffer-is) (λ j. lent (w.main-is j) (w.small-is j)) w.answers-is w.array-is (sofar_end _ _ _ _ _ _ _ _ _ _ w.loop-i.invariant.0.sofar (λ p q. task_means 0 (geometry_of c.args.device.state.part) _ _ (sym w.in-End.is ∙ w.task_of-task.ensures)))
+    ])

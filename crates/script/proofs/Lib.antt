@@ -1,2 +1,0 @@
--- The modules of the proofs by hand.
-pub mod Reborrow

@@ -1,0 +1,16 @@
+-- `script::play_at` meets its contract: what is taken at the place is a part of the script, and is played. Assumes nothing.
+use Rattle.lines.specs.Lines.{taken_within}
+use Rattle.script.specs.Laws.{played_at}
+use Rattle.script.proofs.play_at.Goals as goal
+
+pub slice_bounds-play_line-count : goal.slice_bounds-play_line-count
+slice_bounds-play_line-count c = (taken_within _ _ _ c.requires.0 c.taken_at-taken.ensures).0
+
+pub slice_bounds-play_line-start : goal.slice_bounds-play_line-start
+slice_bounds-play_line-start c = (taken_within _ _ _ c.requires.0 c.taken_at-taken.ensures).0
+
+pub slice_bounds-play_line-end : goal.slice_bounds-play_line-end
+slice_bounds-play_line-end c = (taken_within _ _ _ c.requires.0 c.taken_at-taken.ensures).1
+
+pub returns : goal.returns
+returns c = played_at _ _ _ _ _ _ _ _ _ _ _ c.taken_at-taken.ensures c.play_line-played.ensures

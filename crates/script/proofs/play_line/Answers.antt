@@ -1,0 +1,13 @@
+-- `script::play_line` meets its contract: a line with a step, and a line with none.
+use Rattle.std.proofs.Common.{◌∙◌, ℕ, sym, ap}
+use Rattle.semantics.specs.Split.{first_refusal}
+use Rattle.script.specs.Laws.{line_made, line_refused}
+use Rattle.script.proofs.play_line.Goals as goal
+
+pub returns-in-Valid : goal.returns-in-Valid
+returns-in-Valid c = line_made _ _ _ _ _ _ _ _ _ _ _ _ _ (sym c.step_of_line-found.ensures ∙ c.in-Valid.is) c.step-o.ensures.outcome c.step-o.ensures.array c.step-o.ensures.counts c.put_line-after.ensures
+
+pub returns-in-Invalid : goal.returns-in-Invalid
+returns-in-Invalid c =
+    line_refused _ _ _ _ _ _ _ _ _ _ (sym c.step_of_line-found.ensures ∙ c.in-Invalid.is)
+    (c.first_refusal-e.ensures ∙ ap (λ (n : ℕ). first_refusal n 6) (c.refusal_of.ensures _)) c.put_line-after-in-Invalid.ensures

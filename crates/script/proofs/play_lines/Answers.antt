@@ -1,0 +1,23 @@
+-- `script::play_lines` meets its contract: a turn of the loop plays the line at the reader's place, and goes on after it.
+use Rattle.std.proofs.Common.{◌≡◌, ◌<◌, refl, subst, ap, List, ℕ, length, arith}
+use Rattle.lines.specs.Lines.{next_later}
+use Rattle.wear.specs.Counts.{lent}
+use Rattle.script.specs.Laws.{PlayedAt, sofar_none, sofar_next, sofar_end}
+use Rattle.script.proofs.play_lines.Goals as goal
+
+pub loop-reader-init : goal.loop-reader-init
+loop-reader-init c = (refl, sofar_none _ _ _ _ _ c.requires)
+
+pub loop-reader-smaller : goal.loop-reader-smaller
+loop-reader-smaller c =
+    let later = next_later c.loop-reader.reader.text.now c.loop-reader.reader.at c.loop-reader-test.true in
+    omega (arith, c.play_at-p.ensures.next, later.0, later.1)
+
+pub loop-reader-preserved : goal.loop-reader-preserved
+loop-reader-preserved c =
+    let e : c.loop-reader.reader.text.now ≡ c.args.script.now = c.loop-reader.invariant.0 in
+    let less : c.loop-reader.reader.at < length c.args.script.now = omega (arith, ap (length {A = ℕ}) e, c.loop-reader-test.true) in
+    (e, sofar_next _ _ _ _ _ _ _ _ c.loop-reader.invariant.1 _ _ _ _ less (rw e at c.play_at-p.ensures))
+
+pub returns : goal.returns
+returns c = sofar_end _ _ _ _ _ _ _ _ c.loop-reader.invariant.1 (omega (arith, ap (length {A = ℕ}) c.loop-reader.invariant.0, c.loop-reader-test.false))
