@@ -23,8 +23,8 @@
  * address, reduced as above) is the last one that does not start above it, on a top
  * part the first.
  *
- * To link:  cc prog.c libm58.a      (x86-64 Linux only: rt staticlib writes
- * the library for no other machine)
+ * To link:  cc prog.c libm58.a      (x86-64 Linux only: rt lib writes the
+ * library for no other machine)
  */
 #ifndef M58_H
 #define M58_H

@@ -4,7 +4,7 @@
 # first two arguments:
 #   [build folder] [static library]
 # An empty or missing one has its default, from the repository: host/build and
-# target/staticlib/libm58.a
+# crates/m58/out/libm58.a
 
 fail() {
     echo "${0##*/}: $*" >&2
@@ -13,7 +13,7 @@ fail() {
 
 repository=$(dirname -- "$host")
 build=${1:-$repository/host/build}
-library=${2:-$repository/target/staticlib/libm58.a}
+library=${2:-$repository/crates/m58/out/libm58.a}
 
 command -v rustc >/dev/null 2>&1 || fail "rustc not found"
 mkdir -p -- "$build" || fail "cannot make the build folder: $build"
