@@ -31,6 +31,11 @@ APART = {
 LEMMAS = """answer-told bank-of-block bank-offset block-offset buffer-in changed-word digit-of erase-alone erase-fits program-fits running-fits
 setup-fits every-told holds-told plays-told other-type placed-byte powered-up under-way words-fit in-range bit-at put-at bit-and bit-or bit-xor every-code same-lock"""
 APART |= {it: it.replace("-", "_") + "_lem" for it in LEMMAS.split()}
+# constructors that one line declares together, and names that files give modules: words of comments too, which stay
+TOGETHER = """broken-off the-program the-erase no-setup program-setup erase-setup lock-setup resume-program resume-erase end-program end-erase
+suspend-command resume-command program-command lock-command erase-command buffer-command other-command device-type erase-type program-type
+running-type setup-type state-type suspended-erase suspended-program"""
+TOGETHER = {it: it.replace("-", "_") for it in TOGETHER.split()} | {"broken-off": "was_broken_off", "lineDigits": "line_digits"}
 # of these the old spelling is also a function's of src/: they are renamed in this crate's specs/ alone
 ALONE = {"none_runs": "semantics", "program_runs": "semantics"}
 
@@ -104,6 +109,14 @@ def turned(text, table):
     return WORD.sub(lambda m: table.get(m[0], m[0]), text)
 
 
+def turned_code(path, text):
+    """The words of TOGETHER outside comments."""
+    if path.endswith(".rt"):
+        return text
+    lines = [re.split(r"(?=--)", line, maxsplit=1) for line in text.split("\n")]
+    return "\n".join("".join([turned(it[0], TOGETHER), *it[1:]]) for it in lines)
+
+
 def main(argv):
     check = "--check" in argv
     rest = [a for a in argv if not a.startswith("--")]
@@ -137,7 +150,7 @@ def main(argv):
     for crate, path in texts(root, (".antt", ".rt", ".edit"), ["specs", "proofs", "src", "must-fail"]):
         text = read(path)
         here = {old: new for old, new in table.items() if ALONE.get(old, crate) == crate and path not in out.get(old, ())}
-        new = turned(text, here)
+        new = turned_code(path, turned(text, here))
         if new != text:
             with open(path, "w", encoding="utf-8", newline="") as f:
                 f.write(new)

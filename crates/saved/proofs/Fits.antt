@@ -7,11 +7,11 @@ use denote.Laws.{Is}
 use denote.Struct.Declared.{row}
 use denote.Enum.Declared as enum
 use borrow.Author.Rules.{elem_Fits}
-use Rattle.semantics.specs.contracts.Setup as setup-type
-use Rattle.semantics.specs.contracts.Running as running-type
-use Rattle.semantics.specs.contracts.SuspendedProgram as program-type
-use Rattle.semantics.specs.contracts.SuspendedErase as erase-type
-use Rattle.semantics.specs.contracts.State as state-type
+use Rattle.semantics.specs.contracts.Setup as setup_type
+use Rattle.semantics.specs.contracts.Running as running_type
+use Rattle.semantics.specs.contracts.SuspendedProgram as program_type
+use Rattle.semantics.specs.contracts.SuspendedErase as erase_type
+use Rattle.semantics.specs.contracts.State as state_type
 use Rattle.semantics.specs.declared.Setup.{Setup}
 use Rattle.semantics.specs.declared.Setup.TheVariants as setup
 use Rattle.semantics.specs.declared.Running.{Running}
@@ -23,7 +23,7 @@ use Rattle.semantics.specs.declared.SuspendedErase.TheVariants as erase
 use Rattle.semantics.specs.declared.State.{State}
 use Rattle.saved.specs.Laws.{SetupFitting, RunningFitting, ProgramFitting, EraseFitting, Fitting}
 
-setup_fits_lem : (r : Setup) (vs : List Val) → Is (enum.row setup-type.the_type) r vs → SetupFitting r
+setup_fits_lem : (r : Setup) (vs : List Val) → Is (enum.row setup_type.the_type) r vs → SetupFitting r
 setup_fits_lem setup.Nothing vs p = tt
 setup_fits_lem setup.Program vs p = tt
 setup_fits_lem setup.Erase vs p = tt
@@ -32,22 +32,22 @@ setup_fits_lem (setup.BufferCount b) vs p = p.1.1.1.1.0.1
 setup_fits_lem (setup.BufferFirst b n) vs p = let q = p.1.1.1.1 in (q.0.1, q.1.0.1)
 setup_fits_lem (setup.BufferWords l n k) vs p = let q = p.1.1.1.1 in (q.0.1, q.1.0.1, q.1.1.0.1)
 
-running_fits_lem : (r : Running) (vs : List Val) → Is (enum.row running-type.the_type) r vs → RunningFitting r
+running_fits_lem : (r : Running) (vs : List Val) → Is (enum.row running_type.the_type) r vs → RunningFitting r
 running_fits_lem running.Idle vs p = tt
 running_fits_lem (running.Program l w) vs p = let q = p.1.1.1.1 in (q.0.1, q.1.0.1)
 running_fits_lem (running.Erase b n) vs p = let q = p.1.1.1.1 in (q.0.1, q.1.0.1)
 running_fits_lem (running.Buffer l n d) vs p = let q = p.1.1.1.1 in (q.0.1, q.1.0.1, q.1.1.0.1)
 
-program_fits_lem : (r : SuspendedProgram) (vs : List Val) → Is (enum.row program-type.the_type) r vs → ProgramFitting r
+program_fits_lem : (r : SuspendedProgram) (vs : List Val) → Is (enum.row program_type.the_type) r vs → ProgramFitting r
 program_fits_lem program.Nothing vs p = tt
 program_fits_lem (program.Program l w) vs p = let q = p.1.1.1.1 in (q.0.1, q.1.0.1)
 program_fits_lem (program.Buffer l n d) vs p = let q = p.1.1.1.1 in (q.0.1, q.1.0.1, q.1.1.0.1)
 
-erase_fits_lem : (r : SuspendedErase) (vs : List Val) → Is (enum.row erase-type.the_type) r vs → EraseFitting r
+erase_fits_lem : (r : SuspendedErase) (vs : List Val) → Is (enum.row erase_type.the_type) r vs → EraseFitting r
 erase_fits_lem erase.Nothing vs p = tt
 erase_fits_lem (erase.Erase b n) vs p = let q = p.1.1.1.1 in (q.0.1, q.1.0.1)
 
-pub fits : (s : State) (vs : List Val) → Is (row state-type.the_type) s vs → Fitting s
+pub fits : (s : State) (vs : List Val) → Is (row state_type.the_type) s vs → Fitting s
 fits s vs p =
     let q = p.1.1 in
     let k = q.1.1.1.0.1.1 in

@@ -13,9 +13,9 @@ use Rattle.semantics.specs.Branches.{by_cond}
 use Rattle.semantics.specs.Tests.{and_true_l, and_true_r, or_false_l, or_false_r, not_true}
 use Rattle.semantics.specs.Numbers.{within}
 use Rattle.semantics.specs.Entries.{any_runs, any_suspended}
-use Rattle.semantics.specs.Recorder.{Operation, program, erase, buffer, Setup, no-setup, program-setup, erase-setup, lock-setup, count_setup, first_setup, words_setup, Event, nothing, supplied, was_reset, units, suspend, resume-program, resume-erase, end-program, end-erase, setup_is, unprotected_is, accept}
+use Rattle.semantics.specs.Recorder.{Operation, program, erase, buffer, Setup, no_setup, program_setup, erase_setup, lock_setup, count_setup, first_setup, words_setup, Event, nothing, supplied, was_reset, units, suspend, resume_program, resume_erase, end_program, end_erase, setup_is, unprotected_is, accept}
 use Rattle.semantics.specs.Recorder.{Conditions, conditions_after, rule, is_program, is_erase, is_erase_of, is_any, block_in, Recorder, event, first_cycle_event, goes_on, cycle, acceptable}
-use Rattle.semantics.specs.Recorder.{Command, command_of, suspend-command, resume-command, program-command, lock-command, erase-command, buffer-command, other-command}
+use Rattle.semantics.specs.Recorder.{Command, command_of, suspend_command, resume_command, program_command, lock_command, erase_command, buffer_command, other_command}
 use Rattle.semantics.specs.Demand.{ProtectionCommand, AcceptingCycle}
 use Rattle.semantics.proofs.Events.{OnConditions, switches, resets, protects, leaves, changes}
 
@@ -26,10 +26,10 @@ module _ (g : Geometry) where
 
   -- what holds while a set-up is pending
   abbrev pub Ready : Setup → Bool → ((Operation → Bool) → Bool) → Type 0
-  Ready no-setup r h = Unit {0}
-  Ready program-setup r h = (r ≡ false) × (h is_program ≡ false)
-  Ready lock-setup r h = (r ≡ false) × (h is_program ≡ false)
-  Ready erase-setup r h = (r ≡ false) × (h is_any ≡ false)
+  Ready no_setup r h = Unit {0}
+  Ready program_setup r h = (r ≡ false) × (h is_program ≡ false)
+  Ready lock_setup r h = (r ≡ false) × (h is_program ≡ false)
+  Ready erase_setup r h = (r ≡ false) × (h is_any ≡ false)
   Ready (count_setup b) r h = (r ≡ false) × (h is_program ≡ false) × (b < blocks g)
   Ready (first_setup b n) r h = (r ≡ false) × (h is_program ≡ false) × (b < blocks g) × (0 < n) × (n ≤ 32)
   Ready (words_setup l ws due) r h = (r ≡ false) × (h is_program ≡ false) × (due < length ws) × Spans l (length ws)
@@ -43,11 +43,11 @@ module _ (g : Geometry) where
     by_supply : (on : Bool) → s ≡ Supply on → Cause d r h s (supplied on)
     by_reset : s ≡ Reset → Cause d r h s was_reset
     by_work : (n : ℕ) → s ≡ Work n → Cause d r h s (units n)
-    by_suspend : d.setup ≡ no-setup → Cause d r h s suspend
-    by_resume_program : d.setup ≡ no-setup → r ≡ false → h is_program ≡ true → Cause d r h s resume-program
-    by_resume_erase : d.setup ≡ no-setup → r ≡ false → h is_program ≡ false → h is_erase ≡ true → Cause d r h s resume-erase
-    by_end_program : d.supply ≡ false → d.setup ≡ no-setup → r ≡ false → h is_program ≡ true → Cause d r h s end-program
-    by_end_erase : d.supply ≡ false → d.setup ≡ no-setup → r ≡ false → h is_program ≡ false → h is_erase ≡ true → Cause d r h s end-erase
+    by_suspend : d.setup ≡ no_setup → Cause d r h s suspend
+    by_resume_program : d.setup ≡ no_setup → r ≡ false → h is_program ≡ true → Cause d r h s resume_program
+    by_resume_erase : d.setup ≡ no_setup → r ≡ false → h is_program ≡ false → h is_erase ≡ true → Cause d r h s resume_erase
+    by_end_program : d.supply ≡ false → d.setup ≡ no_setup → r ≡ false → h is_program ≡ true → Cause d r h s end_program
+    by_end_erase : d.supply ≡ false → d.setup ≡ no_setup → r ≡ false → h is_program ≡ false → h is_erase ≡ true → Cause d r h s end_erase
     by_setup : (t : Setup) → (Sound g → Ready d.setup r h → Ready t r h) → Cause d r h s (setup_is t)
     by_protection : (b : ℕ) (o : Bool) → ProtectionCommand g b o d.setup s → Cause d r h s (unprotected_is b o)
     by_accept : (k : Operation) (a w : ℕ) → s ≡ Write a w → AcceptingCycle g d.setup a w k → Open d h (block_in g k) → Cause d r h s (accept k)
@@ -56,23 +56,23 @@ module _ (g : Geometry) where
     either : {s : Step} (b : Bool) {x y : Event} → (b ≡ true → Cause d r h s x) → (b ≡ false → Cause d r h s y) → Cause d r h s (cond b x y)
     either {s} b {x} {y} f k = by_cond (Cause d r h s) b x y f k
 
-    ends : {s : Step} → Cause d r h s (setup_is no-setup)
-    ends = by_setup no-setup (λ o y. tt)
+    ends : {s : Step} → Cause d r h s (setup_is no_setup)
+    ends = by_setup no_setup (λ o y. tt)
 
     -- a set-up that begins where nothing runs and none that is p is suspended
     begins : {s : Step} (p : Operation → Bool) (t : Setup) → (Sound g → r ≡ false → h p ≡ false → Ready t r h) → Cause d r h s (cond (r || h p) nothing (setup_is t))
     begins p t f = either (r || h p) (λ e. by_nothing) (λ e. by_setup t (λ o y. f o (or_false_l r (h p) e) (or_false_r r (h p) e)))
 
-    first_cause : (s : Step) → d.setup ≡ no-setup → (b : ℕ) → (Sound g → b < blocks g) → (c : Command) → Cause d r h s (first_cycle_event g d r h b c)
-    first_cause s z b q suspend-command = either r (λ e. by_suspend z) (λ e. by_nothing)
-    first_cause s z b q resume-command =
+    first_cause : (s : Step) → d.setup ≡ no_setup → (b : ℕ) → (Sound g → b < blocks g) → (c : Command) → Cause d r h s (first_cycle_event g d r h b c)
+    first_cause s z b q suspend_command = either r (λ e. by_suspend z) (λ e. by_nothing)
+    first_cause s z b q resume_command =
         either r (λ e. by_nothing) (λ x. either (h is_program) (λ y. either d.supply (λ e. by_resume_program z x y) (λ e. by_end_program e z x y))
         (λ y. either (h is_erase) (λ i. either d.supply (λ e. by_resume_erase z x y i) (λ e. by_end_erase e z x y i)) (λ e. by_nothing)))
-    first_cause s z b q program-command = begins is_program program-setup (λ o x y. (x, y))
-    first_cause s z b q lock-command = begins is_program lock-setup (λ o x y. (x, y))
-    first_cause s z b q erase-command = begins is_any erase-setup (λ o x y. (x, y))
-    first_cause s z b q buffer-command = begins is_program (count_setup b) (λ o x y. (x, y, q o))
-    first_cause s z b q other-command = by_nothing
+    first_cause s z b q program_command = begins is_program program_setup (λ o x y. (x, y))
+    first_cause s z b q lock_command = begins is_program lock_setup (λ o x y. (x, y))
+    first_cause s z b q erase_command = begins is_any erase_setup (λ o x y. (x, y))
+    first_cause s z b q buffer_command = begins is_program (count_setup b) (λ o x y. (x, y, q o))
+    first_cause s z b q other_command = by_nothing
 
     open_at : (b : ℕ) → acceptable g d r h b ≡ true → Open d h b
     open_at b e = let x = and_true_r d.supply _ e in (and_true_l d.supply _ e, and_true_l (d.unprotected b) _ x, not_true _ (and_true_r (d.unprotected b) _ x))
@@ -102,14 +102,14 @@ module _ (g : Geometry) where
           (λ x o y. rw (length-set ws (location g a - l) w) (y.0, y.1, omega (arith, y.2), y.3)))
 
       cycle_cause : (p : Setup) → d.setup ≡ p → Cause d r h (Write a w) (cycle g d r h p (location g a) (w % 256) w)
-      cycle_cause no-setup q = first_cause (Write a w) q (block_of g (location g a)) (λ o. laws.block_lt g o (location g a) (laws.location_lt g o a)) (command_of (w % 256))
-      cycle_cause lock-setup q =
+      cycle_cause no_setup q = first_cause (Write a w) q (block_of g (location g a)) (λ o. laws.block_lt g o (location g a) (laws.location_lt g o a)) (command_of (w % 256))
+      cycle_cause lock_setup q =
           either (eqb (w % 256) 0xD0) (λ e. by_protection (block_of g (location g a)) true (i, q, eqb-true (w % 256) 0xD0 e, refl))
           (λ x. either (eqb (w % 256) 0x01) (λ e. by_protection (block_of g (location g a)) false (i, q, eqb-true (w % 256) 0x01 e, refl)) (λ e. ends))
-      cycle_cause program-setup q =
+      cycle_cause program_setup q =
           let b : ℕ = block_of g (location g a) in
           either (acceptable g d r h b) (λ e. by_accept (program (location g a) w) a w refl (i, q, refl, refl) (open_at b e)) (λ e. ends)
-      cycle_cause erase-setup q =
+      cycle_cause erase_setup q =
           let b : ℕ = block_of g (location g a) in
           either (eqb (w % 256) 0xD0 && acceptable g d r h b)
           (λ e. by_accept (erase b) a w refl (i, q, eqb-true (w % 256) 0xD0 (and_true_l (eqb (w % 256) 0xD0) _ e), refl) (open_at b (and_true_r (eqb (w % 256) 0xD0) _ e)))
@@ -136,8 +136,8 @@ module _ (g : Geometry) where
 
   -- where an operation is accepted nothing runs, and no program is suspended; and at an erase nothing at all
   pub accept_free : (c : Setup) (r : Bool) (h : (Operation → Bool) → Bool) (a w : ℕ) (k : Operation) → AcceptingCycle g c a w k → Ready c r h → (r ≡ false) × (h (cond (is_erase k) is_any is_program) ≡ false)
-  accept_free c r h a w (program l d) x y = let z : Ready program-setup r h = rw x.1 at y in (z.0, z.1)
-  accept_free c r h a w (erase b) x y = let z : Ready erase-setup r h = rw x.1 at y in (z.0, z.1)
+  accept_free c r h a w (program l d) x y = let z : Ready program_setup r h = rw x.1 at y in (z.0, z.1)
+  accept_free c r h a w (erase b) x y = let z : Ready erase_setup r h = rw x.1 at y in (z.0, z.1)
   accept_free c r h a w (buffer l ws) x y = let z : Ready (words_setup l ws 0) r h = rw x.1 at y in (z.0, z.1)
 
   -- supply is as it was, but after a step that switches it

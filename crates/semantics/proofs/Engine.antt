@@ -15,7 +15,7 @@ pub use Rattle.semantics.specs.Tests.{or_false_l, or_false_r, and_true_l, and_tr
 use Rattle.semantics.specs.Layout.{inside, only}
 use Rattle.semantics.specs.Entries as entries
 use Rattle.semantics.specs.Entries.{Entry, entry, Live, live, resting, any_suspended, any_live, None}
-use Rattle.semantics.specs.Recorder.{Operation, program, erase, buffer, Setup, no-setup, program-setup, erase-setup, lock-setup, count_setup, first_setup, words_setup, Event, nothing, supplied, was_reset, units, suspend, resume-program, resume-erase, end-program, end-erase, setup_is, unprotected_is, accept}
+use Rattle.semantics.specs.Recorder.{Operation, program, erase, buffer, Setup, no_setup, program_setup, erase_setup, lock_setup, count_setup, first_setup, words_setup, Event, nothing, supplied, was_reset, units, suspend, resume_program, resume_erase, end_program, end_erase, setup_is, unprotected_is, accept}
 use Rattle.semantics.specs.Recorder.{Conditions, conditions_after, rule, len, kinds, is_program, is_erase, is_erase_of, is_any, is_none, block_in, event, journal_after}
 use Rattle.semantics.specs.Demand.{AcceptingCycle, operation_of}
 use Rattle.semantics.proofs.Events.{OnJournal, adds, works, rephases, changes}
@@ -54,10 +54,10 @@ module _ (g : Geometry) where
   engine_after was_reset e = engine false []
   engine_after (units n) e = engine_worked n e
   engine_after suspend e = engine false (stack e)
-  engine_after resume-program e = engine (some? (stack e)) (stack e)
-  engine_after resume-erase e = engine (some? (stack e)) (stack e)
-  engine_after end-program e = engine false (resting true (stack e))
-  engine_after end-erase e = engine false (resting true (stack e))
+  engine_after resume_program e = engine (some? (stack e)) (stack e)
+  engine_after resume_erase e = engine (some? (stack e)) (stack e)
+  engine_after end_program e = engine false (resting true (stack e))
+  engine_after end_erase e = engine false (resting true (stack e))
   engine_after (setup_is s) e = e
   engine_after (unprotected_is b o) e = e
   engine_after (accept k) e = engine true (live k 0 ∷ stack e)
@@ -231,10 +231,10 @@ module _ (g : Geometry) where
   fit_erase b (engine false (live i v ∷ s)) j x y z f = absurd (true≢false y)
 
   ready_run : (s : Setup) (h : (Operation → Bool) → Bool) (r : Bool) (k : (Operation → Bool) → Bool) → Ready g s true h → Ready g s r k
-  ready_run no-setup h r k y = tt
-  ready_run program-setup h r k y = absurd (true≢false y.0)
-  ready_run lock-setup h r k y = absurd (true≢false y.0)
-  ready_run erase-setup h r k y = absurd (true≢false y.0)
+  ready_run no_setup h r k y = tt
+  ready_run program_setup h r k y = absurd (true≢false y.0)
+  ready_run lock_setup h r k y = absurd (true≢false y.0)
+  ready_run erase_setup h r k y = absurd (true≢false y.0)
   ready_run (count_setup b) h r k y = absurd (true≢false y.0)
   ready_run (first_setup b n) h r k y = absurd (true≢false y.0)
   ready_run (words_setup l ws due) h r k y = absurd (true≢false y.0)
@@ -293,7 +293,7 @@ module _ (g : Geometry) where
   sim_do sound d e j v o s = go v o.cause
     where
       -- what the set-up promises, where none is pending and as the rule saw it
-      none : o.conditions.setup ≡ no-setup → (r : Bool) (h : (Operation → Bool) → Bool) → Ready g d.setup r h
+      none : o.conditions.setup ≡ no_setup → (r : Bool) (h : (Operation → Bool) → Bool) → Ready g d.setup r h
       none z r h = rw (o.pending, z) tt
 
       ready : Ready g o.conditions.setup (busy e) (held? e)
@@ -310,10 +310,10 @@ module _ (g : Geometry) where
       go v (by_reset z) = sim was_reset tt (entries.match_all_broken (kinds g) s.match, tt) tt
       go v (by_work n z) = sim (units n) tt (fit_work n e j (s.match, s.order)) (ready_work n d.setup e s.ready)
       go v (by_suspend z) = sim suspend tt (match_suspend e j s.match, s.order) (none z _ _)
-      go v (by_resume_program z x y) = sim resume-program tt (match_resume is_program e j x (program_top e x y s.order) s.match, s.order) (none z _ _)
-      go v (by_resume_erase z x y w) = sim resume-erase tt (match_resume is_erase e j x (erase_top e x y w s.order) s.match, s.order) (none z _ _)
-      go v (by_end_program i z x y) = sim end-program tt (match_end is_program e j x (program_top e x y s.order) s.match, order_resting true (stack e) s.order) (none z _ _)
-      go v (by_end_erase i z x y w) = sim end-erase tt (match_end is_erase e j x (erase_top e x y w s.order) s.match, order_resting true (stack e) s.order) (none z _ _)
+      go v (by_resume_program z x y) = sim resume_program tt (match_resume is_program e j x (program_top e x y s.order) s.match, s.order) (none z _ _)
+      go v (by_resume_erase z x y w) = sim resume_erase tt (match_resume is_erase e j x (erase_top e x y w s.order) s.match, s.order) (none z _ _)
+      go v (by_end_program i z x y) = sim end_program tt (match_end is_program e j x (program_top e x y s.order) s.match, order_resting true (stack e) s.order) (none z _ _)
+      go v (by_end_erase i z x y w) = sim end_erase tt (match_end is_erase e j x (erase_top e x y w s.order) s.match, order_resting true (stack e) s.order) (none z _ _)
       go v (by_setup t f) = sim (setup_is t) tt (s.match, s.order) (f sound ready)
       go v (by_protection b p x) = sim (unprotected_is b p) tt (s.match, s.order) tt
       go v (by_accept k a w z x y) = let f = accepted_fits sound o.conditions.setup e j k a w x ready y.2 (s.match, s.order) in sim (accept k) f.0 f.1 tt

@@ -6,7 +6,7 @@ use Rattle.std.proofs.Common.{ap, ◌∙◌}
 use Rattle.geometry.specs.declared.Geometry.{Geometry}
 use Rattle.semantics.specs.Entries.{Entry, Rephases, paused, resumed, paused_rephases, resumed_rephases, broken_rephases}
 use Rattle.semantics.specs.Recorder.{Operation, kinds, is_program, is_erase, is_any, is_none, Conditions, conditions_after, journal_after, all_broken, running_broken, suspended_broken}
-use Rattle.semantics.specs.Recorder.{Event, nothing, supplied, was_reset, units, suspend, resume-program, resume-erase, end-program, end-erase, setup_is, unprotected_is, accept}
+use Rattle.semantics.specs.Recorder.{Event, nothing, supplied, was_reset, units, suspend, resume_program, resume_erase, end_program, end_erase, setup_is, unprotected_is, accept}
 
 pub data OnJournal (g : Geometry) : Event → Type 0 where
   adds : (k : Operation) → OnJournal g (accept k)
@@ -35,10 +35,10 @@ module _ (g : Geometry) where
   changes was_reset = (rephases was_reset all_broken (broken_rephases (kinds g) true is_any) (λ j. refl), resets)
   changes (units n) = (works n, leaves (units n) (λ d. (refl, refl)))
   changes suspend = (rephases suspend paused (paused_rephases (kinds g)) (λ j. refl), leaves suspend (λ d. (refl, refl)))
-  changes resume-program = (rephases resume-program (resumed is_program) (resumed_rephases (kinds g) is_program) (λ j. refl), leaves resume-program (λ d. (refl, refl)))
-  changes resume-erase = (rephases resume-erase (resumed is_erase) (resumed_rephases (kinds g) is_erase) (λ j. refl), leaves resume-erase (λ d. (refl, refl)))
-  changes end-program = (rephases end-program (suspended_broken is_program) (broken_rephases (kinds g) false is_program) (λ j. refl), leaves end-program (λ d. (refl, refl)))
-  changes end-erase = (rephases end-erase (suspended_broken is_erase) (broken_rephases (kinds g) false is_erase) (λ j. refl), leaves end-erase (λ d. (refl, refl)))
+  changes resume_program = (rephases resume_program (resumed is_program) (resumed_rephases (kinds g) is_program) (λ j. refl), leaves resume_program (λ d. (refl, refl)))
+  changes resume_erase = (rephases resume_erase (resumed is_erase) (resumed_rephases (kinds g) is_erase) (λ j. refl), leaves resume_erase (λ d. (refl, refl)))
+  changes end_program = (rephases end_program (suspended_broken is_program) (broken_rephases (kinds g) false is_program) (λ j. refl), leaves end_program (λ d. (refl, refl)))
+  changes end_erase = (rephases end_erase (suspended_broken is_erase) (broken_rephases (kinds g) false is_erase) (λ j. refl), leaves end_erase (λ d. (refl, refl)))
   changes (setup_is s) = (stays (setup_is s) (λ j. refl), leaves (setup_is s) (λ d. (refl, refl)))
   changes (unprotected_is b o) = (stays (unprotected_is b o) (λ j. refl), protects b o)
   changes (accept k) = (adds k, leaves (accept k) (λ d. (refl, refl)))

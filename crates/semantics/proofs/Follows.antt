@@ -40,7 +40,7 @@ use Rattle.semantics.proofs.Supplied.{only_resume, first_holds}
 use Rattle.semantics.specs.WellFormed.{erasing}
 use Rattle.semantics.specs.Writing as writing
 use Rattle.semantics.specs.Writing.{command_of, suspended, resume, program_free, accepts, set_up, clear_status, first_cycle, program_runs, erase_cycle, lock_command_of, lock_cycle, settle, loads, count_right, first_right, later_right, confirm_right, confirm_cycle, words_cycle, kept_if, first_loaded, words_loaded, held_after, loaded, cycle_at, loaded_at, written_at}
-use Rattle.semantics.specs.Recorder.{Event, nothing, suspend, resume-program, resume-erase, end-program, end-erase, setup_is, unprotected_is, accept, Conditions, conditions_after, rule, is_program, is_erase, first_cycle_event, cycle, no-setup, first_setup, words_setup}
+use Rattle.semantics.specs.Recorder.{Event, nothing, suspend, resume_program, resume_erase, end_program, end_erase, setup_is, unprotected_is, accept, Conditions, conditions_after, rule, is_program, is_erase, first_cycle_event, cycle, no_setup, first_setup, words_setup}
 use Rattle.semantics.specs.Recorder as recorder
 use Rattle.semantics.proofs.Engine.{busy, held?, engine_after, words_after_event, Ready}
 pub use Rattle.semantics.proofs.UnderWay.{setup_of, conditions, add_erase, add_program, add_running, under_way_of, under_way, Together, Lacking, under_way_program, under_way_any, under_way_worked, under_way_off, words_under_way}
@@ -121,7 +121,7 @@ module _ (g : Geometry) where
     abbrev Resumes : View → Bool → Running → SuspendedProgram → SuspendedErase → Type 0
     Resumes x t r q e =
         FollowsTo
-        (cond (runs r) nothing (cond (held? (under_way_of s.buffer r q e) is_program) (cond t resume-program end-program) (cond (held? (under_way_of s.buffer r q e) is_erase) (cond t resume-erase end-erase) nothing)))
+        (cond (runs r) nothing (cond (held? (under_way_of s.buffer r q e) is_program) (cond t resume_program end_program) (cond (held? (under_way_of s.buffer r q e) is_erase) (cond t resume_erase end_erase) nothing)))
         (at x setup.Nothing r q e) (with_control x (resume (at x setup.Nothing r q e).control)) (held_after q (resume (at x setup.Nothing r q e).control).activity s.buffer)
 
     follows_resume : (x : View) (t : Bool) → x.control.supply ≡ t → {r : Running} {q : SuspendedProgram} {e : SuspendedErase} → Beside r q e → Resumes x t r q e
@@ -198,13 +198,13 @@ module _ (g : Geometry) where
         go false i = refl
 
     follows_lock : (x : View) (c : Setup) (r : Running) (q : SuspendedProgram) (e : SuspendedErase) (d : ℕ) (h k z : Bool) → eqb d 0x01 ≡ h → eqb d 0xD0 ≡ k → eqb d 0x03 ≡ z
-        → FollowsAt (cond k (unprotected_is p.block true) (cond h (unprotected_is p.block false) (setup_is no-setup))) (at x c r q e) (lock_cycle (settle (at x c r q e)) p (lock_command_of d))
+        → FollowsAt (cond k (unprotected_is p.block true) (cond h (unprotected_is p.block false) (setup_is no_setup))) (at x c r q e) (lock_cycle (settle (at x c r q e)) p (lock_command_of d))
     unfolding lock_cycle lock_command_of settle
     follows_lock x c r q e d true true z hh hk hz = absurd (omega (arith, eqb-true d 0x01 hh, eqb-true d 0xD0 hk))
     follows_lock x c r q e d true false z hh hk hz =
-        rw hh (ap (λ (u : ℕ → Bool). record { supply = x.control.supply; unprotected = u; setup = no-setup }) (twice false x.unprotected), refl, λ m. refl)
+        rw hh (ap (λ (u : ℕ → Bool). record { supply = x.control.supply; unprotected = u; setup = no_setup }) (twice false x.unprotected), refl, λ m. refl)
     follows_lock x c r q e d false true z hh hk hz =
-        rw (hh, hk) (ap (λ (u : ℕ → Bool). record { supply = x.control.supply; unprotected = u; setup = no-setup }) (twice true x.unprotected), refl, λ m. refl)
+        rw (hh, hk) (ap (λ (u : ℕ → Bool). record { supply = x.control.supply; unprotected = u; setup = no_setup }) (twice true x.unprotected), refl, λ m. refl)
     follows_lock x c r q e d false false true hh hk hz = rw (hh, hk, hz) (refl, refl, λ m. refl)
     follows_lock x c r q e d false false false hh hk hz = rw (hh, hk, hz) (refl, refl, λ m. refl)
 
@@ -215,7 +215,7 @@ module _ (g : Geometry) where
 
     -- where the cycle is right, the load goes on, with the buffer f true
     follows_loads : (x : View) (c : Setup) (e : SuspendedErase) (t : Setup) (d : recorder.Setup) (f : Bool → List ℕ) (b : Bool) → (b ≡ true → setup_of (f true) t ≡ d)
-        → FollowsTo (cond b (setup_is d) (setup_is no-setup)) (loading x c e) (loads b (loading x c e) t) (f b)
+        → FollowsTo (cond b (setup_is d) (setup_is no_setup)) (loading x c e) (loads b (loading x c e) t) (f b)
     unfolding loads settle
     follows_loads x c e t d f true z = (ap (λ (i : recorder.Setup). record { supply = x.control.supply; unprotected = (seen s.buffer x).unprotected; setup = i }) (z refl), refl, λ m. refl)
     follows_loads x c e t d f false z = (refl, refl, λ m. refl)
@@ -255,7 +255,7 @@ module _ (g : Geometry) where
         let u : Bool = is_unprotected s.unprotected (block_of g (location g a)) in
         accepting (λ (v : Event) (y : View). FollowsTo s (place_of g a) v (seen_as setup.Erase running.Idle program.Nothing erase.Nothing) y s.buffer)
         (eqb (w % 256) 0xD0) s.control.supply (not u) (u && true) (and_not u)
-        (accept (recorder.erase (block_of g (location g a)))) (setup_is no-setup) (refl, refl, λ m. refl) (refl, refl, λ m. refl) (refl, refl, λ m. refl) (refl, refl, λ m. refl)
+        (accept (recorder.erase (block_of g (location g a)))) (setup_is no_setup) (refl, refl, λ m. refl) (refl, refl, λ m. refl) (refl, refl, λ m. refl) (refl, refl, λ m. refl)
     lone_erase (erase.Erase b n) k = absurd (true≢false k)
 
     -- the confirming cycle of a load, and the cycles before it
@@ -263,9 +263,9 @@ module _ (g : Geometry) where
     unfolding writing.cycle words_cycle loaded words_loaded held_after confirm_right confirm_cycle program_runs settle kept_if later_right
     goes_words l n due e h k true z =
         rw (z, under_way_erasing g s.buffer running.Idle program.Nothing e (block_of g (location g a)))
-        (guarded Confirmed (eqb (w % 256) 0xD0 && eqb (block_of g (location g a)) (block_of g l)) _ accepted (setup_is no-setup) (refl, refl, λ m. refl)
+        (guarded Confirmed (eqb (w % 256) 0xD0 && eqb (block_of g (location g a)) (block_of g l)) _ accepted (setup_is no_setup) (refl, refl, λ m. refl)
         (accepting Confirmed s.control.supply (is_unprotected s.unprotected (block_of g (location g a))) (erasing e (block_of g (location g a))) _ refl
-        accepted (setup_is no-setup) (refl, refl, λ m. refl) (refl, refl, λ m. refl) (refl, refl, λ m. refl) (refl, refl, λ m. refl)))
+        accepted (setup_is no_setup) (refl, refl, λ m. refl) (refl, refl, λ m. refl) (refl, refl, λ m. refl) (refl, refl, λ m. refl)))
       where
         accepted : Event
         accepted = accept (recorder.buffer l (words_in s.buffer n))
@@ -286,7 +286,7 @@ module _ (g : Geometry) where
         (rw (under_way_erasing g s.buffer running.Idle program.Nothing e (block_of g (location g a)))
         (accepting (λ (v : Event) (x : View). FollowsTo s (place_of g a) v (seen_as setup.Program running.Idle program.Nothing e) x s.buffer)
         s.control.supply (is_unprotected s.unprotected (block_of g (location g a))) (erasing e (block_of g (location g a))) _ refl
-        (accept (recorder.program (location g a) w)) (setup_is no-setup) (refl, refl, λ m. refl) (refl, refl, λ m. refl) (refl, refl, λ m. refl) (refl, refl, λ m. refl)))
+        (accept (recorder.program (location g a) w)) (setup_is no_setup) (refl, refl, λ m. refl) (refl, refl, λ m. refl) (refl, refl, λ m. refl) (refl, refl, λ m. refl)))
     follows_cycle setup.Erase r q e m y h =
         let i : (program_suspended q || erase_suspended e) ≡ false = sym (under_way_any s.buffer r q e) ∙ y.1 in
         lone setup.Erase r q e y.0 (or_false_l (program_suspended q) _ i) (lone_erase e (or_false_r (program_suspended q) _ i))

@@ -135,7 +135,7 @@ setup_stays g (setup.BufferWords a i k) (running.Buffer l n d) t bs h y = absurd
 
 no_conditions_yet : (s : State) → conditions (with_supply (power_up s.part) s.control.supply) ≡ conditions_after was_reset (conditions s)
 unfolding power_up
-no_conditions_yet s = ap (λ (u : ℕ → Bool). record { supply = s.control.supply; unprotected = u; setup = recorder.no-setup }) (fun_ext (λ b. protection.all_none b))
+no_conditions_yet s = ap (λ (u : ℕ → Bool). record { supply = s.control.supply; unprotected = u; setup = recorder.no_setup }) (fun_ext (λ b. protection.all_none b))
 
 module _ (s : State) (xs : List ℕ) (good : refusal_of s (length xs) Reset ≡ 0) (fit : Fit s) where
   sound : Sound (geometry s)
@@ -378,7 +378,7 @@ agree_fresh p xs h = record {
   spared = zero_empty _;
   reserved = default_zero p;
   powered = idle_supplied _ refl;
-  same = ap (λ (u : ℕ → Bool). record { supply = false; unprotected = u; setup = recorder.no-setup }) (fun_ext (λ b. protection.all_none b));
+  same = ap (λ (u : ℕ → Bool). record { supply = false; unprotected = u; setup = recorder.no_setup }) (fun_ext (λ b. protection.all_none b));
   sim = record { match = entries.start; order = tt; inside = tt; lying = tt; ready = tt };
   word = λ L k. refl;
 }

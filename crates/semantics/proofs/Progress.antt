@@ -42,7 +42,7 @@ use Rattle.semantics.proofs.Invariant.{Steps, kept_step, agree_fit, steps, state
 use Rattle.semantics.proofs.Theorem.{reached, reached_formed}
 use Rattle.semantics.proofs.Kept.{own_of, formed_sim, keeps}
 use Rattle.semantics.specs.Flags.{told_by}
-use Rattle.semantics.specs.Progress.{Followed, runs_now, lives, suspended_left, left_of, lives_in, left_in, offered, told, offered_all, told_all, lives_all, Lasting, Good, the-erase, the-program}
+use Rattle.semantics.specs.Progress.{Followed, runs_now, lives, suspended_left, left_of, lives_in, left_in, offered, told, offered_all, told_all, lives_all, Lasting, Good, the_erase, the_program}
 
 -- ---- states with nothing wrong
 
@@ -66,8 +66,8 @@ good_after m x o =
 -- ---- what an event makes of the operation, on the stack of those that are under way
 
 abbrev is_of : Followed → Operation → Bool
-is_of the-program o = is_program o
-is_of the-erase o = is_erase o
+is_of the_program o = is_program o
+is_of the_erase o = is_erase o
 
 -- steps that are no work, no reset and no loss of supply
 abbrev Mild : Step → Type 0
@@ -106,8 +106,8 @@ module _ (g : Geometry) where
   -- an operation that is accepted is not the one that is followed
   program_lacks : (k : Followed) (e : Engine) (o : Operation) → is_erase o ≡ false → busy e ≡ false → held? e is_program ≡ false → 0 < lacks k (stack e) → lacks k (live o 0 ∷ stack e) ≡ lacks k (stack e)
   program_lacks k (engine true s) o a x y h = absurd (true≢false x)
-  program_lacks the-program (engine false s) o a x y h = absurd (omega (arith, none_lacks the-program s y))
-  program_lacks the-erase (engine false s) o a x y h = rw a
+  program_lacks the_program (engine false s) o a x y h = absurd (omega (arith, none_lacks the_program s y))
+  program_lacks the_erase (engine false s) o a x y h = rw a
 
   nothing_lacks : (k : Followed) (e : Engine) → busy e ≡ false → held? e is_any ≡ false → 0 < lacks k (stack e) → ⊥
   nothing_lacks k (engine true s) x y h = true≢false x
@@ -139,8 +139,8 @@ module _ (g : Geometry) where
   -- the one below it is of the other kind
   rest_lacks : (k : Followed) (o : Operation) (u : ℕ) (s : List (Live Operation)) → Order g (live o u ∷ s) → is_of k o ≡ true → lacks k s ≡ 0
   rest_lacks k o u [] q h = refl
-  rest_lacks the-program o u (live i v ∷ []) q h = rw q.1
-  rest_lacks the-erase o u (live i v ∷ []) q h = absurd (true≢false (sym h ∙ q.0))
+  rest_lacks the_program o u (live i v ∷ []) q h = rw q.1
+  rest_lacks the_erase o u (live i v ∷ []) q h = absurd (true≢false (sym h ∙ q.0))
   rest_lacks k o u (live i v ∷ (x ∷ s)) q h = absurd q
 
   -- work gives it what is offered, while it runs
@@ -164,58 +164,58 @@ module _ (g : Geometry) where
 module _ (g : Geometry) (bs : List ℕ) where
   -- the stack says what the device does: the units that it lacks, whether it runs, and whether it is under way
   erase_lacks : (k : Followed) (e : SuspendedErase) → lacks g k (add_erase e) ≡ suspended_left g k program.Nothing e
-  erase_lacks the-program erase.Nothing = refl
-  erase_lacks the-erase erase.Nothing = refl
-  erase_lacks the-program (erase.Erase b n) = refl
-  erase_lacks the-erase (erase.Erase b n) = omega arith
+  erase_lacks the_program erase.Nothing = refl
+  erase_lacks the_erase erase.Nothing = refl
+  erase_lacks the_program (erase.Erase b n) = refl
+  erase_lacks the_erase (erase.Erase b n) = omega arith
 
   program_lives : (k : Followed) (p : SuspendedProgram) (e : SuspendedErase) → lacks g k (add_program bs p (add_erase e)) ≡ suspended_left g k p e
   program_lives k program.Nothing e = erase_lacks k e
-  program_lives the-program (program.Program l w) e = omega (arith, erase_lacks the-program e)
-  program_lives the-erase (program.Program l w) e = erase_lacks the-erase e
-  program_lives the-program (program.Buffer l n d) e = omega (arith, erase_lacks the-program e, words_length bs n)
-  program_lives the-erase (program.Buffer l n d) e = erase_lacks the-erase e
+  program_lives the_program (program.Program l w) e = omega (arith, erase_lacks the_program e)
+  program_lives the_erase (program.Program l w) e = erase_lacks the_erase e
+  program_lives the_program (program.Buffer l n d) e = omega (arith, erase_lacks the_program e, words_length bs n)
+  program_lives the_erase (program.Buffer l n d) e = erase_lacks the_erase e
 
   left_lacks : (k : Followed) {r : Running} {p : SuspendedProgram} {e : SuspendedErase} → Beside r p e → left_of g k r p e ≡ lacks g k (stack (under_way_of bs r p e))
   unfolding units_left
   left_lacks k (none_is_running p e) = sym (program_lives k p e)
-  left_lacks the-program (program_is_running l w e) = omega (arith, erase_lacks the-program e)
-  left_lacks the-erase (program_is_running l w e) = sym (erase_lacks the-erase e)
-  left_lacks the-program (buffer_is_running l n d e) = omega (arith, erase_lacks the-program e, words_length bs n)
-  left_lacks the-erase (buffer_is_running l n d e) = sym (erase_lacks the-erase e)
-  left_lacks the-program (erase_is_running b n) = refl
-  left_lacks the-erase (erase_is_running b n) = omega arith
+  left_lacks the_program (program_is_running l w e) = omega (arith, erase_lacks the_program e)
+  left_lacks the_erase (program_is_running l w e) = sym (erase_lacks the_erase e)
+  left_lacks the_program (buffer_is_running l n d e) = omega (arith, erase_lacks the_program e, words_length bs n)
+  left_lacks the_erase (buffer_is_running l n d e) = sym (erase_lacks the_erase e)
+  left_lacks the_program (erase_is_running b n) = refl
+  left_lacks the_erase (erase_is_running b n) = omega arith
 
   runs_top : (k : Followed) (r : Running) (p : SuspendedProgram) (e : SuspendedErase) → runs_now k r ≡ top g k (under_way_of bs r p e)
   runs_top k running.Idle p e = refl
-  runs_top the-program (running.Program l w) p e = refl
-  runs_top the-erase (running.Program l w) p e = refl
-  runs_top the-program (running.Erase b n) p e = refl
-  runs_top the-erase (running.Erase b n) p e = refl
-  runs_top the-program (running.Buffer l n d) p e = refl
-  runs_top the-erase (running.Buffer l n d) p e = refl
+  runs_top the_program (running.Program l w) p e = refl
+  runs_top the_erase (running.Program l w) p e = refl
+  runs_top the_program (running.Erase b n) p e = refl
+  runs_top the_erase (running.Erase b n) p e = refl
+  runs_top the_program (running.Buffer l n d) p e = refl
+  runs_top the_erase (running.Buffer l n d) p e = refl
 
   live_erase : (k : Followed) (e : SuspendedErase) → lives k running.Idle program.Nothing e ≡ any_live (is_of k) (add_erase e)
-  live_erase the-program erase.Nothing = refl
-  live_erase the-erase erase.Nothing = refl
-  live_erase the-program (erase.Erase b n) = refl
-  live_erase the-erase (erase.Erase b n) = refl
+  live_erase the_program erase.Nothing = refl
+  live_erase the_erase erase.Nothing = refl
+  live_erase the_program (erase.Erase b n) = refl
+  live_erase the_erase (erase.Erase b n) = refl
 
   live_program : (k : Followed) (p : SuspendedProgram) (e : SuspendedErase) → lives k running.Idle p e ≡ any_live (is_of k) (add_program bs p (add_erase e))
   live_program k program.Nothing e = live_erase k e
-  live_program the-program (program.Program l w) e = refl
-  live_program the-erase (program.Program l w) e = live_erase the-erase e
-  live_program the-program (program.Buffer l n d) e = refl
-  live_program the-erase (program.Buffer l n d) e = live_erase the-erase e
+  live_program the_program (program.Program l w) e = refl
+  live_program the_erase (program.Program l w) e = live_erase the_erase e
+  live_program the_program (program.Buffer l n d) e = refl
+  live_program the_erase (program.Buffer l n d) e = live_erase the_erase e
 
   lives_any : (k : Followed) (r : Running) (p : SuspendedProgram) (e : SuspendedErase) → lives k r p e ≡ any_live (is_of k) (stack (under_way_of bs r p e))
   lives_any k running.Idle p e = live_program k p e
-  lives_any the-program (running.Program l w) p e = refl
-  lives_any the-erase (running.Program l w) p e = live_program the-erase p e
-  lives_any the-program (running.Erase b n) p e = live_program the-program p e
-  lives_any the-erase (running.Erase b n) p e = refl
-  lives_any the-program (running.Buffer l n d) p e = refl
-  lives_any the-erase (running.Buffer l n d) p e = live_program the-erase p e
+  lives_any the_program (running.Program l w) p e = refl
+  lives_any the_erase (running.Program l w) p e = live_program the_erase p e
+  lives_any the_program (running.Erase b n) p e = live_program the_program p e
+  lives_any the_erase (running.Erase b n) p e = refl
+  lives_any the_program (running.Buffer l n d) p e = refl
+  lives_any the_erase (running.Buffer l n d) p e = live_program the_erase p e
 
 -- a count that is refused offers nothing
 none_offered : (k : Followed) (b : Bool) (n : ℕ) → leb n 65535 ≡ false → cond b (cond (leb n 65535) n 0) 0 ≡ 0

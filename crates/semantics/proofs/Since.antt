@@ -6,14 +6,14 @@ use Rattle.std.proofs.lemmas.Bool.{false≢true}
 use Rattle.geometry.specs.declared.Geometry.{Geometry}
 use Rattle.semantics.specs.declared.Step.{Step}
 use Rattle.semantics.specs.declared.Step.TheVariants.{Read, Write, Work, Supply, Reset}
-use Rattle.semantics.specs.Recorder.{Event, supplied, was_reset, unprotected_is, no-setup, Conditions, conditions_after, Recorder, recorded, recorded_all, event}
+use Rattle.semantics.specs.Recorder.{Event, supplied, was_reset, unprotected_is, no_setup, Conditions, conditions_after, Recorder, recorded, recorded_all, event}
 use Rattle.semantics.specs.Demand.{NoSupply, SupplyOn, ProtectionCommand, Undisturbed, LastUnprotected, at_this, at_later}
 use Rattle.semantics.proofs.Events.{OnConditions, switches, resets, protects, leaves, changes}
 use Rattle.semantics.proofs.Causes.{event_cause, protection_event, cause_protection, cause_reset, supply_kept}
 
 -- every block is unprotected, or every one protected
 abbrev all_are : Bool → Conditions
-all_are o = record { supply = false; unprotected = λ c. o; setup = no-setup }
+all_are o = record { supply = false; unprotected = λ c. o; setup = no_setup }
 
 -- an event that leaves the protection of block b, whatever it is
 abbrev Leaves : ℕ → Event → Type 0

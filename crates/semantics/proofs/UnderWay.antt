@@ -29,15 +29,15 @@ use Rattle.semantics.specs.Writing.{kept_if}
 use Rattle.semantics.specs.Working.{units_left, units_done, running_after, word_after, buffer_after}
 use Rattle.semantics.specs.Entries.{Live, live, any_live}
 use Rattle.semantics.specs.Recorder as recorder
-use Rattle.semantics.specs.Recorder.{Operation, supplied, units, Conditions, is_program, is_erase_of, is_any, no-setup, program-setup, erase-setup, lock-setup, count_setup, first_setup, words_setup}
+use Rattle.semantics.specs.Recorder.{Operation, supplied, units, Conditions, is_program, is_erase_of, is_any, no_setup, program_setup, erase_setup, lock_setup, count_setup, first_setup, words_setup}
 use Rattle.semantics.proofs.Engine.{Engine, engine, held?, engine_after, words_after_event}
 
 -- with the buffer bs
 abbrev pub setup_of : List ℕ → Setup → recorder.Setup
-setup_of bs setup.Nothing = no-setup
-setup_of bs setup.Program = program-setup
-setup_of bs setup.Erase = erase-setup
-setup_of bs setup.Lock = lock-setup
+setup_of bs setup.Nothing = no_setup
+setup_of bs setup.Program = program_setup
+setup_of bs setup.Erase = erase_setup
+setup_of bs setup.Lock = lock_setup
 setup_of bs (setup.BufferCount b) = count_setup b
 setup_of bs (setup.BufferFirst b n) = first_setup b n
 setup_of bs (setup.BufferWords l n due) = words_setup l (words_in bs n) due

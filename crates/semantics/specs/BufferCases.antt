@@ -9,9 +9,9 @@ use Rattle.semantics.specs.declared.State.{State}
 use Rattle.semantics.specs.declared.Setup.{Setup}
 use Rattle.semantics.specs.declared.Setup.TheVariants as setup
 use Rattle.semantics.specs.declared.Running.TheVariants as running
-use Rattle.semantics.specs.declared.SuspendedProgram.TheVariants as suspended-program
+use Rattle.semantics.specs.declared.SuspendedProgram.TheVariants as suspended_program
 use Rattle.semantics.specs.declared.SuspendedErase.{SuspendedErase}
-use Rattle.semantics.specs.declared.SuspendedErase.TheVariants as suspended-erase
+use Rattle.semantics.specs.declared.SuspendedErase.TheVariants as suspended_erase
 use Rattle.semantics.specs.State.{with_buffer}
 use Rattle.semantics.specs.Cases.{◌⟶◌, Exchange, Case, plays, starts, write, cycles, shows, works, supply, reset, unprotect, protect, program, erase, prepared, bench}
 use Rattle.semantics.specs.RefusalCases.{under_way, bad, good}
@@ -48,16 +48,16 @@ abbrev filled : ℕ → ℕ → ℕ → List ℕ
 filled n w rest = replicate n w ++ replicate rest 0
 
 abbrev loading : Setup → SuspendedErase → List ℕ → State
-loading c e bs = with_buffer (under_way BenchBottom c running.Idle suspended-program.Nothing e) bs
+loading c e bs = with_buffer (under_way BenchBottom c running.Idle suspended_program.Nothing e) bs
 
 abbrev runs : ℕ → ℕ → ℕ → SuspendedErase → List ℕ → State
-runs l n d e bs = with_buffer (under_way BenchBottom setup.Nothing (running.Buffer l n d) suspended-program.Nothing e) bs
+runs l n d e bs = with_buffer (under_way BenchBottom setup.Nothing (running.Buffer l n d) suspended_program.Nothing e) bs
 
 abbrev waits : ℕ → ℕ → ℕ → SuspendedErase → List ℕ → State
-waits l n d e bs = with_buffer (under_way BenchBottom setup.Nothing running.Idle (suspended-program.Buffer l n d) e) bs
+waits l n d e bs = with_buffer (under_way BenchBottom setup.Nothing running.Idle (suspended_program.Buffer l n d) e) bs
 
 abbrev none : SuspendedErase
-none = suspended-erase.Nothing
+none = suspended_erase.Nothing
 
 abbrev pub buffer_cases : List Case
 buffer_cases =
@@ -145,21 +145,21 @@ buffer_cases =
     ∷ good (loading (setup.BufferWords 0x3FFF 1 0) none (filled 1 1 31)) ∷ bad (loading (setup.BufferWords 0x4000 1 0) none (filled 1 1 31))
     ∷ good (loading (setup.BufferWords 0x40 32 31) none (filled 32 1 0)) ∷ bad (loading (setup.BufferWords 0x40 33 31) none (filled 32 1 0)) ∷ bad (loading (setup.BufferWords 0x40 2 2) none (filled 2 1 30))
     -- nothing runs beside it and no program is suspended; the suspended erase may be of its block
-    ∷ bad (with_buffer (under_way BenchBottom (setup.BufferCount 4) (running.Program 0x40 1) suspended-program.Nothing none) (filled 0 0 32))
-    ∷ bad (with_buffer (under_way BenchBottom (setup.BufferFirst 4 1) running.Idle (suspended-program.Program 0x40 1) none) (filled 0 0 32))
-    ∷ bad (with_buffer (under_way BenchBottom (setup.BufferWords 0x40 1 0) (running.Erase 4 0) suspended-program.Nothing none) (filled 1 1 31))
-    ∷ good (loading (setup.BufferWords 0x40 1 0) (suspended-erase.Erase 4 0) (filled 1 1 31)) ∷ good (loading (setup.BufferCount 4) (suspended-erase.Erase 4 0) (filled 0 0 32))
+    ∷ bad (with_buffer (under_way BenchBottom (setup.BufferCount 4) (running.Program 0x40 1) suspended_program.Nothing none) (filled 0 0 32))
+    ∷ bad (with_buffer (under_way BenchBottom (setup.BufferFirst 4 1) running.Idle (suspended_program.Program 0x40 1) none) (filled 0 0 32))
+    ∷ bad (with_buffer (under_way BenchBottom (setup.BufferWords 0x40 1 0) (running.Erase 4 0) suspended_program.Nothing none) (filled 1 1 31))
+    ∷ good (loading (setup.BufferWords 0x40 1 0) (suspended_erase.Erase 4 0) (filled 1 1 31)) ∷ good (loading (setup.BufferCount 4) (suspended_erase.Erase 4 0) (filled 0 0 32))
     -- a buffer program, running or suspended: its words lie in one block, and are more than it has done
     ∷ good (runs 0x7E 2 1 none (filled 2 1 30)) ∷ bad (runs 0x7F 2 1 none (filled 2 1 30)) ∷ bad (runs 0x7E 2 2 none (filled 2 1 30)) ∷ bad (runs 0x4000 1 0 none (filled 1 1 31))
     ∷ bad (runs 0x40 33 0 none (filled 32 1 0))
     ∷ good (waits 0x7E 2 1 none (filled 2 1 30)) ∷ bad (waits 0x7F 2 1 none (filled 2 1 30)) ∷ bad (waits 0x7E 2 2 none (filled 2 1 30)) ∷ bad (waits 0x4000 1 0 none (filled 1 1 31))
     ∷ bad (waits 0x40 33 0 none (filled 32 1 0))
     -- in another block than the suspended erase, and beside nothing else
-    ∷ good (runs 0x80 1 0 (suspended-erase.Erase 4 0) (filled 1 1 31)) ∷ bad (runs 0x40 1 0 (suspended-erase.Erase 4 0) (filled 1 1 31))
-    ∷ good (waits 0x80 1 0 (suspended-erase.Erase 4 0) (filled 1 1 31)) ∷ bad (waits 0x40 1 0 (suspended-erase.Erase 4 0) (filled 1 1 31))
-    ∷ bad (with_buffer (under_way BenchBottom setup.Program (running.Buffer 0x40 1 0) suspended-program.Nothing none) (filled 1 1 31))
-    ∷ bad (with_buffer (under_way BenchBottom setup.Nothing (running.Buffer 0x40 1 0) (suspended-program.Program 0x80 1) none) (filled 1 1 31))
-    ∷ bad (with_buffer (under_way BenchBottom setup.Program running.Idle (suspended-program.Buffer 0x40 1 0) none) (filled 1 1 31))
+    ∷ good (runs 0x80 1 0 (suspended_erase.Erase 4 0) (filled 1 1 31)) ∷ bad (runs 0x40 1 0 (suspended_erase.Erase 4 0) (filled 1 1 31))
+    ∷ good (waits 0x80 1 0 (suspended_erase.Erase 4 0) (filled 1 1 31)) ∷ bad (waits 0x40 1 0 (suspended_erase.Erase 4 0) (filled 1 1 31))
+    ∷ bad (with_buffer (under_way BenchBottom setup.Program (running.Buffer 0x40 1 0) suspended_program.Nothing none) (filled 1 1 31))
+    ∷ bad (with_buffer (under_way BenchBottom setup.Nothing (running.Buffer 0x40 1 0) (suspended_program.Program 0x80 1) none) (filled 1 1 31))
+    ∷ bad (with_buffer (under_way BenchBottom setup.Program running.Idle (suspended_program.Buffer 0x40 1 0) none) (filled 1 1 31))
     -- spare places are 0: all where no word is loaded, else those from the number of words on
     ∷ bad (loading setup.Nothing none (filled 1 1 31)) ∷ bad (loading setup.Program none (filled 1 1 31)) ∷ bad (loading (setup.BufferCount 4) none (filled 1 1 31)) ∷ bad (loading (setup.BufferFirst 4 2) none (filled 1 1 31))
     ∷ bad (loading (setup.BufferWords 0x40 2 0) none (filled 3 1 29)) ∷ bad (runs 0x40 2 0 none (filled 3 1 29)) ∷ bad (waits 0x40 2 0 none (filled 3 1 29)) ∷ bad (loading setup.Nothing none (replicate 31 0 ++ 1 ∷ []))
@@ -200,7 +200,7 @@ buffer_cases =
     ∷ good (runs 0xE 2 0 none (filled 2 1 30)) ∷ bad (runs 0xF 2 0 none (filled 2 1 30))
     -- spare places are 0 beside everything else that may be pending, run or be suspended
     ∷ bad (loading setup.Erase none (filled 1 1 31)) ∷ bad (loading setup.Lock none (filled 1 1 31))
-    ∷ bad (with_buffer (under_way BenchBottom setup.Nothing (running.Program 0x40 1) suspended-program.Nothing none) (filled 1 1 31))
-    ∷ bad (with_buffer (under_way BenchBottom setup.Nothing (running.Erase 4 0) suspended-program.Nothing none) (filled 1 1 31))
-    ∷ bad (with_buffer (under_way BenchBottom setup.Nothing running.Idle (suspended-program.Program 0x40 1) none) (filled 1 1 31))
+    ∷ bad (with_buffer (under_way BenchBottom setup.Nothing (running.Program 0x40 1) suspended_program.Nothing none) (filled 1 1 31))
+    ∷ bad (with_buffer (under_way BenchBottom setup.Nothing (running.Erase 4 0) suspended_program.Nothing none) (filled 1 1 31))
+    ∷ bad (with_buffer (under_way BenchBottom setup.Nothing running.Idle (suspended_program.Program 0x40 1) none) (filled 1 1 31))
     ∷ []

@@ -9,18 +9,18 @@ use Rattle.semantics.specs.Recorder as recorder
 
 -- what a command of the device is for the recorder
 abbrev pub bears : Command → recorder.Command
-bears command.ReadArray = recorder.other-command
-bears command.ReadStatus = recorder.other-command
-bears command.ReadSignature = recorder.other-command
-bears command.ReadQuery = recorder.other-command
-bears command.Suspend = recorder.suspend-command
-bears command.Resume = recorder.resume-command
-bears command.ClearStatus = recorder.other-command
-bears command.SetUpProgram = recorder.program-command
-bears command.SetUpErase = recorder.erase-command
-bears command.SetUpLock = recorder.lock-command
-bears command.SetUpBuffer = recorder.buffer-command
-bears command.Unknown = recorder.other-command
+bears command.ReadArray = recorder.other_command
+bears command.ReadStatus = recorder.other_command
+bears command.ReadSignature = recorder.other_command
+bears command.ReadQuery = recorder.other_command
+bears command.Suspend = recorder.suspend_command
+bears command.Resume = recorder.resume_command
+bears command.ClearStatus = recorder.other_command
+bears command.SetUpProgram = recorder.program_command
+bears command.SetUpErase = recorder.erase_command
+bears command.SetUpLock = recorder.lock_command
+bears command.SetUpBuffer = recorder.buffer_command
+bears command.Unknown = recorder.other_command
 
 module _ (c : ℕ) where
   abbrev Bears : Command → Type 0

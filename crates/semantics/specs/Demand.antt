@@ -9,7 +9,7 @@ use Rattle.semantics.specs.declared.Step.{Step}
 use Rattle.semantics.specs.declared.Step.TheVariants.{Read, Write, Work, Supply, Reset}
 use Rattle.semantics.specs.Numbers.{within}
 use Rattle.semantics.specs.Entries.{Entry, entry}
-use Rattle.semantics.specs.Recorder.{Operation, program, erase, buffer, Setup, program-setup, erase-setup, lock-setup, words_setup, accept, block_in, Recorder, beginning, recorded, recorded_all, journal_of, event, applied}
+use Rattle.semantics.specs.Recorder.{Operation, program, erase, buffer, Setup, program_setup, erase_setup, lock_setup, words_setup, accept, block_in, Recorder, beginning, recorded, recorded_all, journal_of, event, applied}
 
 -- ---- what a step is, told from the step itself and from the set-up that is pending before it
 
@@ -35,7 +35,7 @@ module _ (g : Geometry) where
   -- The set-up p is the one that the recorder holds before the step; it draws it up from the steps alone
   abbrev pub ProtectionCommand : ℕ → Bool → Setup → Step → Type 0
   ProtectionCommand b v p (Read a) = ⊥
-  ProtectionCommand b v p (Write a w) = (a < 16777216) × (p ≡ lock-setup) × (w % 256 ≡ protection_code v) × (block_of g (location g a) ≡ b)
+  ProtectionCommand b v p (Write a w) = (a < 16777216) × (p ≡ lock_setup) × (w % 256 ≡ protection_code v) × (block_of g (location g a) ≡ b)
   ProtectionCommand b v p (Work n) = ⊥
   ProtectionCommand b v p (Supply on) = ⊥
   ProtectionCommand b v p Reset = ⊥
@@ -43,8 +43,8 @@ module _ (g : Geometry) where
   -- a write of w to address a is the cycle that an operation is accepted at, after its set-up: of a program with its data at its location, of an erase with D0h in its block, of
   -- a buffer program with D0h in its block, after all its words
   abbrev pub AcceptingCycle : Setup → ℕ → ℕ → Operation → Type 0
-  AcceptingCycle p a w (program l d) = (a < 16777216) × (p ≡ program-setup) × (location g a ≡ l) × (w ≡ d)
-  AcceptingCycle p a w (erase b) = (a < 16777216) × (p ≡ erase-setup) × (w % 256 ≡ 0xD0) × (block_of g (location g a) ≡ b)
+  AcceptingCycle p a w (program l d) = (a < 16777216) × (p ≡ program_setup) × (location g a ≡ l) × (w ≡ d)
+  AcceptingCycle p a w (erase b) = (a < 16777216) × (p ≡ erase_setup) × (w % 256 ≡ 0xD0) × (block_of g (location g a) ≡ b)
   AcceptingCycle p a w (buffer l ws) = (a < 16777216) × (p ≡ words_setup l ws 0) × (w % 256 ≡ 0xD0) × (block_of g (location g a) ≡ block_of g l)
 
   -- the words that an operation covers

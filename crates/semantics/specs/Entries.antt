@@ -8,26 +8,26 @@ use Rattle.semantics.specs.Numbers.{within, within_in, within_out, within_true, 
 
 -- "whether it is running, suspended, finished or broken off"
 pub data Phase : Type 0 where
-  running suspended finished broken-off : Phase
+  running suspended finished was_broken_off : Phase
 
 abbrev pub is_running : Phase → Bool
 is_running running = true
 is_running suspended = false
 is_running finished = false
-is_running broken-off = false
+is_running was_broken_off = false
 
 abbrev pub is_suspended : Phase → Bool
 is_suspended running = false
 is_suspended suspended = true
 is_suspended finished = false
-is_suspended broken-off = false
+is_suspended was_broken_off = false
 
 -- "All but the finished are unfinished."
 abbrev pub is_finished : Phase → Bool
 is_finished running = false
 is_finished suspended = false
 is_finished finished = true
-is_finished broken-off = false
+is_finished was_broken_off = false
 
 -- an operation that was accepted, the units that it received, and its phase
 pub data Entry (K : Type 0) : Type 0 where
@@ -47,7 +47,7 @@ module _ {K : Type 0} where
 
   -- what runs is broken off where r is true, and what is suspended where it is p
   abbrev pub broken_off : Bool → (K → Bool) → Entry K → Entry K
-  broken_off r p (entry k u t) = entry k u (cond (cond (is_running t) r (is_suspended t && p k)) broken-off t)
+  broken_off r p (entry k u t) = entry k u (cond (cond (is_running t) r (is_suspended t && p k)) was_broken_off t)
 
   abbrev pub None : (K → Bool) → List (Live K) → Type 0
   None p [] = Unit {0}
@@ -122,12 +122,12 @@ module _ (κ : Kinds) where
   abbrev pub Rephases : (Entry K → Entry K) → Type 0
   Rephases f = (k : K) (u : ℕ) (t : Phase) → (f (entry k u t) ≡ entry k u (phase_of (f (entry k u t)))) × (is_finished (phase_of (f (entry k u t))) ≡ is_finished t)
 
-  by_phase : (f : Phase → Phase) → is_finished (f running) ≡ false → is_finished (f suspended) ≡ false → is_finished (f finished) ≡ true → is_finished (f broken-off) ≡ false
+  by_phase : (f : Phase → Phase) → is_finished (f running) ≡ false → is_finished (f suspended) ≡ false → is_finished (f finished) ≡ true → is_finished (f was_broken_off) ≡ false
       → (t : Phase) → is_finished (f t) ≡ is_finished t
   by_phase f w x y z running = w
   by_phase f w x y z suspended = x
   by_phase f w x y z finished = y
-  by_phase f w x y z broken-off = z
+  by_phase f w x y z was_broken_off = z
 
   pub paused_rephases : Rephases paused
   paused_rephases k u t = (refl, by_phase (λ s. phase_of (paused (entry k u s))) refl refl refl refl t)
@@ -138,8 +138,8 @@ module _ (κ : Kinds) where
   pub broken_rephases : (r : Bool) (p : K → Bool) → Rephases (broken_off r p)
   broken_rephases r p k u t = (
     refl,
-    by_phase (λ s. phase_of (broken_off r p (entry k u s))) (of_cond (λ (x : Phase). is_finished x ≡ false) r broken-off running refl refl)
-        (of_cond (λ (x : Phase). is_finished x ≡ false) (p k) broken-off suspended refl refl) refl refl t,
+    by_phase (λ s. phase_of (broken_off r p (entry k u s))) (of_cond (λ (x : Phase). is_finished x ≡ false) r was_broken_off running refl refl)
+        (of_cond (λ (x : Phase). is_finished x ≡ false) (p k) was_broken_off suspended refl refl) refl refl t,
   )
 
   -- no operation is of no kind
@@ -162,7 +162,7 @@ module _ (κ : Kinds) where
     done : {r : Bool} {s : List (Live K)} {j : List (Entry K)} (k : K) (u : ℕ) → u ≡ len k → Apart k s → Match r s j
         → Match r s (entry k u finished ∷ j)
     lost : {r : Bool} {s : List (Live K)} {j : List (Entry K)} (k : K) (u : ℕ) → u < len k → Apart k s → Match r s j
-        → Match r s (entry k u broken-off ∷ j)
+        → Match r s (entry k u was_broken_off ∷ j)
     runs : {s : List (Live K)} {j : List (Entry K)} (k : K) (u : ℕ) → u < len k → Apart k s → Match false s j
         → Match true (live k u ∷ s) (entry k u running ∷ j)
     waits : {s : List (Live K)} {j : List (Entry K)} (k : K) (u : ℕ) → u < len k → Apart k s → Match false s j
@@ -174,7 +174,7 @@ module _ (κ : Kinds) where
       → {r : Bool} {s : List (Live K)} {j : List (Entry K)} → Match r s j → P j
   match_each P x f start = x
   match_each P x f (done k u e a m) = f k u finished _ e (match_each P x f m)
-  match_each P x f (lost k u e a m) = f k u broken-off _ e (match_each P x f m)
+  match_each P x f (lost k u e a m) = f k u was_broken_off _ e (match_each P x f m)
   match_each P x f (runs k u e a m) = f k u running _ e (match_each P x f m)
   match_each P x f (waits k u e a m) = f k u suspended _ e (match_each P x f m)
 
@@ -199,7 +199,7 @@ module _ (κ : Kinds) where
 
   -- what leaves each entry that is over, and each suspended one that is not p, leaves a journal in which nothing runs
   -- and none that is p is suspended
-  idle : (f : Entry K → Entry K) (p : K → Bool) → ((k : K) (u : ℕ) → f (entry k u finished) ≡ entry k u finished) → ((k : K) (u : ℕ) → f (entry k u broken-off) ≡ entry k u broken-off)
+  idle : (f : Entry K → Entry K) (p : K → Bool) → ((k : K) (u : ℕ) → f (entry k u finished) ≡ entry k u finished) → ((k : K) (u : ℕ) → f (entry k u was_broken_off) ≡ entry k u was_broken_off)
       → ((k : K) (u : ℕ) → p k ≡ false → f (entry k u suspended) ≡ entry k u suspended) → {s : List (Live K)} {j : List (Entry K)} → None p s → Match false s j → map f j ≡ j
   idle f p x y z h start = refl
   idle f p x y z h (done k u e a m) = rw (x k u, idle f p x y z h m)

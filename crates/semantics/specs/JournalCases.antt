@@ -6,7 +6,7 @@ use Rattle.geometry.specs.declared.Part.TheVariants.{FullBottom, FullTop, BenchB
 use Rattle.geometry.specs.Blocks.{geometry_of, mirror, block_from, block_of, size_of, start_from, start_of}
 use Rattle.semantics.specs.declared.Step.{Step}
 use Rattle.semantics.specs.declared.Step.TheVariants.{Write, Work, Supply, Reset}
-use Rattle.semantics.specs.Entries.{Entry, entry, running, suspended, finished, broken-off}
+use Rattle.semantics.specs.Entries.{Entry, entry, running, suspended, finished, was_broken_off}
 use Rattle.semantics.specs.Recorder.{Operation, program, erase, buffer, journal_of}
 
 infix 20 ◌⟶◌
@@ -68,12 +68,12 @@ journals =
     ∷ (ready ++ erases ++ work 10 ++ work 5 ⟶ entry (erase 4) 15 running ∷ [])
     ∷ (ready ++ cycles 0x0 0x60 0xD0 ++ cycles 0x0 0x20 0xD0 ++ work 65535 ⟶ entry (erase 0) 16 finished ∷ [])
     -- "When supply goes off, a running operation ends then and there .. Demand 3 counts such an entry as unfinished": for good, and the units that it had stay
-    ∷ (ready ++ erases ++ work 10 ++ off ⟶ entry (erase 4) 10 broken-off ∷ [])
-    ∷ (ready ++ erases ++ work 10 ++ off ++ on ++ resume ++ work 65535 ⟶ entry (erase 4) 10 broken-off ∷ [])
-    ∷ (ready ++ programs ++ off ++ on ++ resume ++ work 5 ⟶ entry (program 0x80 0x1234) 0 broken-off ∷ [])
-    ∷ (ready ++ two ++ work 1 ++ off ++ on ++ resume ++ work 5 ⟶ entry (buffer 0x80 words) 1 broken-off ∷ [])
+    ∷ (ready ++ erases ++ work 10 ++ off ⟶ entry (erase 4) 10 was_broken_off ∷ [])
+    ∷ (ready ++ erases ++ work 10 ++ off ++ on ++ resume ++ work 65535 ⟶ entry (erase 4) 10 was_broken_off ∷ [])
+    ∷ (ready ++ programs ++ off ++ on ++ resume ++ work 5 ⟶ entry (program 0x80 0x1234) 0 was_broken_off ∷ [])
+    ∷ (ready ++ two ++ work 1 ++ off ++ on ++ resume ++ work 5 ⟶ entry (buffer 0x80 words) 1 was_broken_off ∷ [])
     -- a new one is a new entry
-    ∷ (ready ++ programs ++ off ++ on ++ programs ++ work 1 ⟶ entry (program 0x80 0x1234) 1 finished ∷ entry (program 0x80 0x1234) 0 broken-off ∷ [])
+    ∷ (ready ++ programs ++ off ++ on ++ programs ++ work 1 ⟶ entry (program 0x80 0x1234) 1 finished ∷ entry (program 0x80 0x1234) 0 was_broken_off ∷ [])
     -- a finished one stays finished; supply off a second time, and supply on, break off nothing
     ∷ (ready ++ programs ++ work 1 ++ off ++ off ⟶ entry (program 0x80 0x1234) 1 finished ∷ [])
     ∷ (ready ++ erases ++ work 10 ++ on ⟶ entry (erase 4) 10 running ∷ [])
@@ -84,14 +84,14 @@ journals =
     ∷ (ready ++ programs ++ pause ++ off ++ on ++ resume ⟶ entry (program 0x80 0x1234) 0 running ∷ [])
     ∷ (ready ++ two ++ work 1 ++ pause ++ off ⟶ entry (buffer 0x80 words) 1 suspended ∷ [])
     -- "resumed without supply, they end": each alone, and the program before the erase
-    ∷ (ready ++ erases ++ work 10 ++ pause ++ off ++ resume ⟶ entry (erase 4) 10 broken-off ∷ [])
-    ∷ (ready ++ programs ++ pause ++ off ++ resume ++ on ++ resume ++ work 5 ⟶ entry (program 0x80 0x1234) 0 broken-off ∷ [])
-    ∷ (ready ++ two ++ work 1 ++ pause ++ off ++ resume ++ on ++ resume ++ work 5 ⟶ entry (buffer 0x80 words) 1 broken-off ∷ [])
-    ∷ (ready ++ erases ++ work 10 ++ pause ++ programs ++ pause ++ off ++ resume ⟶ entry (program 0x80 0x1234) 0 broken-off ∷ entry (erase 4) 10 suspended ∷ [])
-    ∷ (ready ++ erases ++ work 10 ++ pause ++ programs ++ pause ++ off ++ resume ++ resume ⟶ entry (program 0x80 0x1234) 0 broken-off ∷ entry (erase 4) 10 broken-off ∷ [])
-    ∷ (ready ++ erases ++ work 10 ++ pause ++ two ++ pause ++ off ++ resume ++ on ++ resume ++ work 65535 ⟶ entry (buffer 0x80 words) 0 broken-off ∷ entry (erase 4) 64 finished ∷ [])
+    ∷ (ready ++ erases ++ work 10 ++ pause ++ off ++ resume ⟶ entry (erase 4) 10 was_broken_off ∷ [])
+    ∷ (ready ++ programs ++ pause ++ off ++ resume ++ on ++ resume ++ work 5 ⟶ entry (program 0x80 0x1234) 0 was_broken_off ∷ [])
+    ∷ (ready ++ two ++ work 1 ++ pause ++ off ++ resume ++ on ++ resume ++ work 5 ⟶ entry (buffer 0x80 words) 1 was_broken_off ∷ [])
+    ∷ (ready ++ erases ++ work 10 ++ pause ++ programs ++ pause ++ off ++ resume ⟶ entry (program 0x80 0x1234) 0 was_broken_off ∷ entry (erase 4) 10 suspended ∷ [])
+    ∷ (ready ++ erases ++ work 10 ++ pause ++ programs ++ pause ++ off ++ resume ++ resume ⟶ entry (program 0x80 0x1234) 0 was_broken_off ∷ entry (erase 4) 10 was_broken_off ∷ [])
+    ∷ (ready ++ erases ++ work 10 ++ pause ++ two ++ pause ++ off ++ resume ++ on ++ resume ++ work 65535 ⟶ entry (buffer 0x80 words) 0 was_broken_off ∷ entry (erase 4) 64 finished ∷ [])
     -- a program that runs beside a suspended erase is broken off alone
-    ∷ (ready ++ erases ++ work 10 ++ pause ++ programs ++ off ⟶ entry (program 0x80 0x1234) 0 broken-off ∷ entry (erase 4) 10 suspended ∷ [])
+    ∷ (ready ++ erases ++ work 10 ++ pause ++ programs ++ off ⟶ entry (program 0x80 0x1234) 0 was_broken_off ∷ entry (erase 4) 10 suspended ∷ [])
     -- what D0h confirms or unprotects is no resume
     ∷ (ready ++ erases ++ work 10 ++ pause ++ off ++ cycles 0xC0 0x60 0xD0 ⟶ entry (erase 4) 10 suspended ∷ [])
     -- a set-up stays, and meets the supply at its second cycle, and so does a load
@@ -101,19 +101,19 @@ journals =
     ∷ (ready ++ loads ++ off ++ Write 0x80 0xD0 ∷ [] ⟶ [])
     ∷ (ready ++ loads ++ off ++ on ++ Write 0x80 0xD0 ∷ [] ⟶ entry (buffer 0x80 words) 0 running ∷ [])
     -- also with no unit done, with the last one left, and in a small block; a whole buffer, and one word
-    ∷ (ready ++ erases ++ off ⟶ entry (erase 4) 0 broken-off ∷ [])
-    ∷ (ready ++ erases ++ work 1 ++ off ⟶ entry (erase 4) 1 broken-off ∷ [])
-    ∷ (ready ++ erases ++ work 63 ++ off ⟶ entry (erase 4) 63 broken-off ∷ [])
-    ∷ (ready ++ cycles 0x0 0x60 0xD0 ++ cycles 0x0 0x20 0xD0 ++ work 3 ++ off ⟶ entry (erase 0) 3 broken-off ∷ [])
-    ∷ (ready ++ cycles 0x3FC0 0x60 0xD0 ++ cycles 0x3FC0 0x20 0xD0 ++ work 3 ++ off ⟶ entry (erase 258) 3 broken-off ∷ [])
-    ∷ (ready ++ two ++ off ⟶ entry (buffer 0x80 words) 0 broken-off ∷ [])
-    ∷ (ready ++ cycles 0x80 0xE8 0 ++ Write 0x80 0xAAAA ∷ Write 0x80 0xD0 ∷ off ⟶ entry (buffer 0x80 (0xAAAA ∷ [])) 0 broken-off ∷ [])
-    ∷ (ready ++ cycles 0x80 0xE8 2 ++ Write 0x80 0xAAAA ∷ Write 0x81 0xBBBB ∷ Write 0x82 0 ∷ Write 0x80 0xD0 ∷ work 2 ++ off ⟶ entry (buffer 0x80 (0xAAAA ∷ 0xBBBB ∷ 0 ∷ [])) 2 broken-off ∷ [])
-    ∷ (ready ++ cycles 0x81 0x40 0 ++ off ⟶ entry (program 0x81 0) 0 broken-off ∷ [])
-    ∷ (ready ++ cycles 0x81 0x40 0xFFFF ++ off ⟶ entry (program 0x81 0xFFFF) 0 broken-off ∷ [])
+    ∷ (ready ++ erases ++ off ⟶ entry (erase 4) 0 was_broken_off ∷ [])
+    ∷ (ready ++ erases ++ work 1 ++ off ⟶ entry (erase 4) 1 was_broken_off ∷ [])
+    ∷ (ready ++ erases ++ work 63 ++ off ⟶ entry (erase 4) 63 was_broken_off ∷ [])
+    ∷ (ready ++ cycles 0x0 0x60 0xD0 ++ cycles 0x0 0x20 0xD0 ++ work 3 ++ off ⟶ entry (erase 0) 3 was_broken_off ∷ [])
+    ∷ (ready ++ cycles 0x3FC0 0x60 0xD0 ++ cycles 0x3FC0 0x20 0xD0 ++ work 3 ++ off ⟶ entry (erase 258) 3 was_broken_off ∷ [])
+    ∷ (ready ++ two ++ off ⟶ entry (buffer 0x80 words) 0 was_broken_off ∷ [])
+    ∷ (ready ++ cycles 0x80 0xE8 0 ++ Write 0x80 0xAAAA ∷ Write 0x80 0xD0 ∷ off ⟶ entry (buffer 0x80 (0xAAAA ∷ [])) 0 was_broken_off ∷ [])
+    ∷ (ready ++ cycles 0x80 0xE8 2 ++ Write 0x80 0xAAAA ∷ Write 0x81 0xBBBB ∷ Write 0x82 0 ∷ Write 0x80 0xD0 ∷ work 2 ++ off ⟶ entry (buffer 0x80 (0xAAAA ∷ 0xBBBB ∷ 0 ∷ [])) 2 was_broken_off ∷ [])
+    ∷ (ready ++ cycles 0x81 0x40 0 ++ off ⟶ entry (program 0x81 0) 0 was_broken_off ∷ [])
+    ∷ (ready ++ cycles 0x81 0x40 0xFFFF ++ off ⟶ entry (program 0x81 0xFFFF) 0 was_broken_off ∷ [])
     -- a suspended one that has had no unit stays too; a buffer program beside a suspended erase ends alone
     ∷ (ready ++ erases ++ pause ++ off ⟶ entry (erase 4) 0 suspended ∷ [])
-    ∷ (ready ++ erases ++ pause ++ two ++ work 1 ++ off ⟶ entry (buffer 0x80 words) 1 broken-off ∷ entry (erase 4) 0 suspended ∷ [])
+    ∷ (ready ++ erases ++ pause ++ two ++ work 1 ++ off ⟶ entry (buffer 0x80 words) 1 was_broken_off ∷ entry (erase 4) 0 suspended ∷ [])
     -- supply on leaves each kind, running and suspended, alone and beside a suspended erase; and both suspended stay at supply off and on
     ∷ (ready ++ programs ++ on ⟶ entry (program 0x80 0x1234) 0 running ∷ [])
     ∷ (ready ++ programs ++ pause ++ on ⟶ entry (program 0x80 0x1234) 0 suspended ∷ [])
@@ -124,27 +124,27 @@ journals =
     ∷ (ready ++ erases ++ work 3 ++ pause ++ two ++ work 1 ++ pause ++ off ++ on ⟶ entry (buffer 0x80 words) 1 suspended ∷ entry (erase 4) 3 suspended ∷ [])
     -- what was broken off or finished stays so, through later drops, resumes and operations
     ∷ (ready ++ erases ++ work 3 ++ off ++ off ++ on ++ resume ++ work 5 ++ programs ++ off ++ on ++ two ++ work 2 ++ off
-    ⟶ entry (buffer 0x80 words) 2 finished ∷ entry (program 0x80 0x1234) 0 broken-off ∷ entry (erase 4) 3 broken-off ∷ [])
-    ∷ (ready ++ programs ++ work 1 ++ programs ++ work 1 ++ erases ++ work 3 ++ off ⟶ entry (erase 4) 3 broken-off ∷ entry (program 0x80 0x1234) 1 finished ∷ entry (program 0x80 0x1234) 1 finished ∷ [])
+    ⟶ entry (buffer 0x80 words) 2 finished ∷ entry (program 0x80 0x1234) 0 was_broken_off ∷ entry (erase 4) 3 was_broken_off ∷ [])
+    ∷ (ready ++ programs ++ work 1 ++ programs ++ work 1 ++ erases ++ work 3 ++ off ⟶ entry (erase 4) 3 was_broken_off ∷ entry (program 0x80 0x1234) 1 finished ∷ entry (program 0x80 0x1234) 1 finished ∷ [])
     ∷ (ready ++ erases ++ work 64 ++ programs ++ work 1 ++ programs ++ pause ++ off ++ resume ++ on ++ erases ++ pause ++ off ++ resume
-    ⟶ entry (erase 4) 0 broken-off ∷ entry (program 0x80 0x1234) 0 broken-off ∷ entry (program 0x80 0x1234) 1 finished ∷ entry (erase 4) 64 finished ∷ [])
+    ⟶ entry (erase 4) 0 was_broken_off ∷ entry (program 0x80 0x1234) 0 was_broken_off ∷ entry (program 0x80 0x1234) 1 finished ∷ entry (erase 4) 64 finished ∷ [])
     -- resumed without supply at any address and with any upper byte; a block that was protected meanwhile counts for nothing; the supply is off still, and the blocks are as they were
-    ∷ (ready ++ programs ++ pause ++ off ++ Write 0x480 0x12D0 ∷ programs ++ on ++ cycles 0xC0 0x40 0 ++ programs ⟶ entry (program 0x80 0x1234) 0 running ∷ entry (program 0x80 0x1234) 0 broken-off ∷ [])
+    ∷ (ready ++ programs ++ pause ++ off ++ Write 0x480 0x12D0 ∷ programs ++ on ++ cycles 0xC0 0x40 0 ++ programs ⟶ entry (program 0x80 0x1234) 0 running ∷ entry (program 0x80 0x1234) 0 was_broken_off ∷ [])
     ∷ (ready ++ erases ++ pause ++ cycles 0x40 0x60 0x01 ++ off ++ Write 0x480 0xFFD0 ∷ cycles 0x81 0x40 0 ++ on ++ erases ++ cycles 0xC0 0x40 0 ++ programs
-    ⟶ entry (program 0x80 0x1234) 0 running ∷ entry (erase 4) 0 broken-off ∷ [])
-    ∷ (ready ++ two ++ pause ++ off ++ Write 0x40 0xD0 ∷ two ++ on ++ erases ⟶ entry (erase 4) 0 running ∷ entry (buffer 0x80 words) 0 broken-off ∷ [])
+    ⟶ entry (program 0x80 0x1234) 0 running ∷ entry (erase 4) 0 was_broken_off ∷ [])
+    ∷ (ready ++ two ++ pause ++ off ++ Write 0x40 0xD0 ∷ two ++ on ++ erases ⟶ entry (erase 4) 0 running ∷ entry (buffer 0x80 words) 0 was_broken_off ∷ [])
     -- a resume with supply sets each kind running, and a resume changes nothing else: the supply is on still, no set-up is pending, and the blocks are as they were
     ∷ (ready ++ programs ++ pause ++ resume ++ work 1 ++ programs ++ work 1 ++ cycles 0xC0 0x40 0 ⟶ entry (program 0x80 0x1234) 1 finished ∷ entry (program 0x80 0x1234) 1 finished ∷ [])
     ∷ (ready ++ erases ++ pause ++ resume ++ work 64 ++ programs ++ work 1 ++ cycles 0xC0 0x40 0 ⟶ entry (program 0x80 0x1234) 1 finished ∷ entry (erase 4) 64 finished ∷ [])
-    ∷ (ready ++ erases ++ pause ++ off ++ resume ++ on ++ programs ⟶ entry (program 0x80 0x1234) 0 running ∷ entry (erase 4) 0 broken-off ∷ [])
+    ∷ (ready ++ erases ++ pause ++ off ++ resume ++ on ++ programs ⟶ entry (program 0x80 0x1234) 0 running ∷ entry (erase 4) 0 was_broken_off ∷ [])
     ∷ (ready ++ erases ++ pause ++ programs ++ pause ++ resume ⟶ entry (program 0x80 0x1234) 0 running ∷ entry (erase 4) 0 suspended ∷ [])
     ∷ (ready ++ erases ++ pause ++ two ++ pause ++ resume ⟶ entry (buffer 0x80 words) 0 running ∷ entry (erase 4) 0 suspended ∷ [])
     ∷ (ready ++ two ++ pause ++ resume ⟶ entry (buffer 0x80 words) 0 running ∷ [])
     ∷ (ready ++ programs ++ pause ++ Write 0x480 0xD0 ∷ [] ⟶ entry (program 0x80 0x1234) 0 running ∷ [])
     ∷ (ready ++ erases ++ pause ++ Write 0x480 0xD0 ∷ [] ⟶ entry (erase 4) 0 running ∷ [])
     -- after a drop the supply is off, and the blocks are as they were
-    ∷ (ready ++ programs ++ off ++ programs ++ on ++ erases ++ off ++ programs ++ on ++ cycles 0xC0 0x40 0 ⟶ entry (erase 4) 0 broken-off ∷ entry (program 0x80 0x1234) 0 broken-off ∷ [])
-    ∷ (ready ++ two ++ off ++ two ++ on ++ two ⟶ entry (buffer 0x80 words) 0 running ∷ entry (buffer 0x80 words) 0 broken-off ∷ [])
+    ∷ (ready ++ programs ++ off ++ programs ++ on ++ erases ++ off ++ programs ++ on ++ cycles 0xC0 0x40 0 ⟶ entry (erase 4) 0 was_broken_off ∷ entry (program 0x80 0x1234) 0 was_broken_off ∷ [])
+    ∷ (ready ++ two ++ off ++ two ++ on ++ two ⟶ entry (buffer 0x80 words) 0 running ∷ entry (buffer 0x80 words) 0 was_broken_off ∷ [])
     -- it is noted whatever is suspended or pending: an erase, and a lock set-up, which does not look at it; each stage of a load
     ∷ (ready ++ erases ++ pause ++ off ++ programs ++ on ++ programs ⟶ entry (program 0x80 0x1234) 0 running ∷ entry (erase 4) 0 suspended ∷ [])
     ∷ (ready ++ Write 0x40 0x20 ∷ off ++ Write 0x40 0xD0 ∷ programs ⟶ [])
@@ -160,32 +160,32 @@ journals =
     ∷ (ready ++ erases ++ pause ++ off ++ pause ++ Write 0x40 0x20 ∷ Write 0x40 0x50 ∷ Write 0x40 0xFF ∷ Write 0x40 0x70 ∷ programs ++ cycles 0xC0 0x60 0x01 ++ loads ++ Write 0x80 0xD0 ∷ [] ⟶ entry (erase 4) 0 suspended ∷ [])
     ∷ (ready ++ programs ++ pause ++ off ++ pause ++ Write 0x40 0x20 ∷ Write 0x40 0x50 ∷ Write 0x40 0xFF ∷ Write 0x40 0x40 ∷ Write 0x40 0x60 ∷ Write 0x40 0xE8 ∷ Write 0x40 0x70 ∷ [] ⟶ entry (program 0x80 0x1234) 0 suspended ∷ [])
     -- reset breaks off all that is under way, whatever the supply
-    ∷ (ready ++ erases ++ work 10 ++ pause ++ programs ++ Reset ∷ [] ⟶ entry (program 0x80 0x1234) 0 broken-off ∷ entry (erase 4) 10 broken-off ∷ [])
-    ∷ (ready ++ erases ++ work 10 ++ pause ++ off ++ Reset ∷ on ++ resume ⟶ entry (erase 4) 10 broken-off ∷ [])
+    ∷ (ready ++ erases ++ work 10 ++ pause ++ programs ++ Reset ∷ [] ⟶ entry (program 0x80 0x1234) 0 was_broken_off ∷ entry (erase 4) 10 was_broken_off ∷ [])
+    ∷ (ready ++ erases ++ work 10 ++ pause ++ off ++ Reset ∷ on ++ resume ⟶ entry (erase 4) 10 was_broken_off ∷ [])
     -- it keeps the supply, on or off; every block is protected after it, and the set-up ends
     ∷ (ready ++ Reset ∷ cycles 0x80 0x60 0xD0 ++ programs ⟶ entry (program 0x80 0x1234) 0 running ∷ [])
     ∷ (ready ++ off ++ Reset ∷ cycles 0x80 0x60 0xD0 ++ programs ⟶ [])
     ∷ (ready ++ Reset ∷ programs ⟶ [])
     ∷ (ready ++ Write 0x80 0x40 ∷ Reset ∷ cycles 0x80 0x60 0xD0 ++ programs ⟶ entry (program 0x80 0x1234) 0 running ∷ [])
-    ∷ (ready ++ programs ++ pause ++ Reset ∷ resume ++ work 5 ⟶ entry (program 0x80 0x1234) 0 broken-off ∷ [])
+    ∷ (ready ++ programs ++ pause ++ Reset ∷ resume ++ work 5 ⟶ entry (program 0x80 0x1234) 0 was_broken_off ∷ [])
     -- D0h goes by no block: an erase of block 5, and of block 0; one whose block was protected meanwhile; and from any address
     ∷ (ready ++ cycles 0x80 0x20 0xD0 ++ work 10 ++ pause ++ resume ⟶ entry (erase 5) 10 running ∷ [])
-    ∷ (ready ++ cycles 0x80 0x20 0xD0 ++ work 10 ++ pause ++ off ++ resume ⟶ entry (erase 5) 10 broken-off ∷ [])
+    ∷ (ready ++ cycles 0x80 0x20 0xD0 ++ work 10 ++ pause ++ off ++ resume ⟶ entry (erase 5) 10 was_broken_off ∷ [])
     ∷ (ready ++ cycles 0x0 0x60 0xD0 ++ cycles 0x0 0x20 0xD0 ++ work 10 ++ pause ++ resume ⟶ entry (erase 0) 10 running ∷ [])
     ∷ (ready ++ erases ++ work 10 ++ pause ++ cycles 0x40 0x60 0x01 ++ resume ⟶ entry (erase 4) 10 running ∷ [])
     ∷ (ready ++ programs ++ pause ++ Write 0x80 0xD0 ∷ [] ⟶ entry (program 0x80 0x1234) 0 running ∷ [])
     -- and it leaves the other blocks' protection
-    ∷ (ready ++ cycles 0x80 0x20 0xD0 ++ pause ++ off ++ resume ++ on ++ cycles 0x40 0x40 0x1234 ⟶ entry (program 0x40 0x1234) 0 running ∷ entry (erase 5) 0 broken-off ∷ [])
-    ∷ (ready ++ cycles 0x0 0x60 0xD0 ++ cycles 0x0 0x20 0xD0 ++ pause ++ off ++ resume ++ on ++ programs ⟶ entry (program 0x80 0x1234) 0 running ∷ entry (erase 0) 0 broken-off ∷ [])
+    ∷ (ready ++ cycles 0x80 0x20 0xD0 ++ pause ++ off ++ resume ++ on ++ cycles 0x40 0x40 0x1234 ⟶ entry (program 0x40 0x1234) 0 running ∷ entry (erase 5) 0 was_broken_off ∷ [])
+    ∷ (ready ++ cycles 0x0 0x60 0xD0 ++ cycles 0x0 0x20 0xD0 ++ pause ++ off ++ resume ++ on ++ programs ⟶ entry (program 0x80 0x1234) 0 running ∷ entry (erase 0) 0 was_broken_off ∷ [])
     -- with nothing under way it is nothing, with supply or without
     ∷ (ready ++ resume ++ programs ⟶ entry (program 0x80 0x1234) 0 running ∷ [])
     ∷ (ready ++ off ++ resume ++ on ++ programs ⟶ entry (program 0x80 0x1234) 0 running ∷ [])
     -- and revives nothing that was broken off
-    ∷ (ready ++ programs ++ off ++ on ++ programs ++ pause ++ resume ⟶ entry (program 0x80 0x1234) 0 running ∷ entry (program 0x80 0x1234) 0 broken-off ∷ [])
-    ∷ (ready ++ erases ++ off ++ on ++ erases ++ pause ++ resume ⟶ entry (erase 4) 0 running ∷ entry (erase 4) 0 broken-off ∷ [])
+    ∷ (ready ++ programs ++ off ++ on ++ programs ++ pause ++ resume ⟶ entry (program 0x80 0x1234) 0 running ∷ entry (program 0x80 0x1234) 0 was_broken_off ∷ [])
+    ∷ (ready ++ erases ++ off ++ on ++ erases ++ pause ++ resume ⟶ entry (erase 4) 0 running ∷ entry (erase 4) 0 was_broken_off ∷ [])
     -- nor does a reset, or D0h without supply, make anything of it
-    ∷ (ready ++ erases ++ work 10 ++ off ++ Reset ∷ [] ⟶ entry (erase 4) 10 broken-off ∷ [])
-    ∷ (ready ++ programs ++ off ++ on ++ programs ++ pause ++ off ++ resume ⟶ entry (program 0x80 0x1234) 0 broken-off ∷ entry (program 0x80 0x1234) 0 broken-off ∷ [])
+    ∷ (ready ++ erases ++ work 10 ++ off ++ Reset ∷ [] ⟶ entry (erase 4) 10 was_broken_off ∷ [])
+    ∷ (ready ++ programs ++ off ++ on ++ programs ++ pause ++ off ++ resume ⟶ entry (program 0x80 0x1234) 0 was_broken_off ∷ entry (program 0x80 0x1234) 0 was_broken_off ∷ [])
     -- a set-up is taken without supply
     ∷ (ready ++ off ++ Write 0x80 0x40 ∷ on ++ Write 0x80 0x1234 ∷ [] ⟶ entry (program 0x80 0x1234) 0 running ∷ [])
     ∷ (ready ++ off ++ Write 0x40 0x20 ∷ on ++ Write 0x40 0xD0 ∷ [] ⟶ entry (erase 4) 0 running ∷ [])
@@ -224,9 +224,9 @@ lasts p =
 -- of an erase of block b, and a program at location l
 abbrev pub lasts_so : ℕ → ℕ → List (List (Entry Operation))
 lasts_so b l =
-    (entry (erase b) 10 broken-off ∷ []) ∷ (entry (erase b) 10 suspended ∷ []) ∷ (entry (erase b) 10 broken-off ∷ []) ∷ (entry (program l 0x1234) 0 broken-off ∷ entry (erase b) 10 suspended ∷ [])
-    ∷ (entry (program l 0x1234) 0 broken-off ∷ entry (erase b) 10 suspended ∷ [])
-    ∷ (entry (program l 0x1234) 0 broken-off ∷ entry (erase b) 10 broken-off ∷ [])
+    (entry (erase b) 10 was_broken_off ∷ []) ∷ (entry (erase b) 10 suspended ∷ []) ∷ (entry (erase b) 10 was_broken_off ∷ []) ∷ (entry (program l 0x1234) 0 was_broken_off ∷ entry (erase b) 10 suspended ∷ [])
+    ∷ (entry (program l 0x1234) 0 was_broken_off ∷ entry (erase b) 10 suspended ∷ [])
+    ∷ (entry (program l 0x1234) 0 was_broken_off ∷ entry (erase b) 10 was_broken_off ∷ [])
     ∷ []
 
 pub parts_hold : (lasts FullBottom ≡ lasts_so 0 0xFFFFFF) × (lasts FullTop ≡ lasts_so 258 0xFFFFFF) × (lasts BenchBottom ≡ lasts_so 0 0x3FFF) × (lasts BenchTop ≡ lasts_so 258 0x3FFF)

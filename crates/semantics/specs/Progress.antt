@@ -22,22 +22,22 @@ use Rattle.semantics.specs.Flags.{told_by}
 
 -- at most one program, of a word or of a buffer, and at most one erase is under way at a time: one of the two is followed
 pub data Followed : Type 0 where
-  the-program the-erase : Followed
+  the_program the_erase : Followed
 
 -- it runs
 abbrev pub runs_now : Followed → Running → Bool
 runs_now k running.Idle = false
-runs_now the-program (running.Program l w) = true
-runs_now the-erase (running.Program l w) = false
-runs_now the-program (running.Erase b n) = false
-runs_now the-erase (running.Erase b n) = true
-runs_now the-program (running.Buffer l n d) = true
-runs_now the-erase (running.Buffer l n d) = false
+runs_now the_program (running.Program l w) = true
+runs_now the_erase (running.Program l w) = false
+runs_now the_program (running.Erase b n) = false
+runs_now the_erase (running.Erase b n) = true
+runs_now the_program (running.Buffer l n d) = true
+runs_now the_erase (running.Buffer l n d) = false
 
 -- it runs or is suspended
 abbrev pub lives : Followed → Running → SuspendedProgram → SuspendedErase → Bool
-lives the-program r p e = runs_now the-program r || program_suspended p
-lives the-erase r p e = runs_now the-erase r || erase_suspended e
+lives the_program r p e = runs_now the_program r || program_suspended p
+lives the_erase r p e = runs_now the_erase r || erase_suspended e
 
 module _ (g : Geometry) where
   -- the units that it lacks: of a suspended program, of a suspended erase, and of whichever runs
@@ -51,8 +51,8 @@ module _ (g : Geometry) where
   erase_left (erase.Erase b n) = size_of g b - n
 
   abbrev pub suspended_left : Followed → SuspendedProgram → SuspendedErase → ℕ
-  suspended_left the-program p e = program_left p
-  suspended_left the-erase p e = erase_left e
+  suspended_left the_program p e = program_left p
+  suspended_left the_erase p e = erase_left e
 
   abbrev pub left_of : Followed → Running → SuspendedProgram → SuspendedErase → ℕ
   left_of k r p e = cond (runs_now k r) (units_left g r) (suspended_left k p e)

@@ -71,7 +71,7 @@ module _ (g : Geometry) where
 -- the set-up that is pending. Of the load of a buffer program: its block, and its count is due; its block and number of words, and its first data cycle is due; the location
 -- that its words start at, the words, and so many data cycles are due, with 0 of them the confirming cycle
 pub data Setup : Type 0 where
-  no-setup program-setup erase-setup lock-setup : Setup
+  no_setup program_setup erase_setup lock_setup : Setup
   count_setup : ℕ → Setup
   first_setup : ℕ → ℕ → Setup
   words_setup : ℕ → List ℕ → ℕ → Setup
@@ -88,7 +88,7 @@ pub record Recorder : Type 0 where
 
 -- "He begins with supply off, no block open, no set-up and no entry."
 abbrev pub no_conditions : Conditions
-no_conditions = record { supply = false; unprotected = λ b. false; setup = no-setup }
+no_conditions = record { supply = false; unprotected = λ b. false; setup = no_setup }
 
 abbrev pub beginning : Recorder
 beginning = record { conditions = no_conditions; journal = [] }
@@ -101,7 +101,7 @@ pub data Event : Type 0 where
   was_reset : Event
   units : ℕ → Event
   suspend : Event
-  resume-program resume-erase end-program end-erase : Event
+  resume_program resume_erase end_program end_erase : Event
   setup_is : Setup → Event
   unprotected_is : ℕ → Bool → Event
   accept : Operation → Event
@@ -122,16 +122,16 @@ is_none k = false
 
 -- the commands of a write with no set-up that bear on the journal
 pub data Command : Type 0 where
-  suspend-command resume-command program-command lock-command erase-command buffer-command other-command : Command
+  suspend_command resume_command program_command lock_command erase_command buffer_command other_command : Command
 
 abbrev pub command_of : ℕ → Command
 command_of c =
-    cond (eqb c 0xB0) suspend-command
-    (cond (eqb c 0xD0) resume-command
-    (cond (eqb c 0x10 || eqb c 0x40) program-command
-    (cond (eqb c 0x60) lock-command
-    (cond (eqb c 0x20) erase-command
-    (cond (eqb c 0xE8) buffer-command other-command)))))
+    cond (eqb c 0xB0) suspend_command
+    (cond (eqb c 0xD0) resume_command
+    (cond (eqb c 0x10 || eqb c 0x40) program_command
+    (cond (eqb c 0x60) lock_command
+    (cond (eqb c 0x20) erase_command
+    (cond (eqb c 0xE8) buffer_command other_command)))))
 
 module _ (g : Geometry) where
   -- the block that an operation lies in
@@ -153,20 +153,20 @@ module _ (g : Geometry) where
     -- (program) and 60h (lock) become the set-up if no program is suspended, 20h (erase) if nothing is. Else nothing." "E8h is taken when 40h is": with its block b. Document 02,
     -- item 5, of what D0h would set running: "resumed without supply, they end .. Demand 3 counts such an entry as unfinished": it is broken off
     abbrev pub first_cycle_event : ℕ → Command → Event
-    first_cycle_event b suspend-command = cond runs suspend nothing
-    first_cycle_event b resume-command =
+    first_cycle_event b suspend_command = cond runs suspend nothing
+    first_cycle_event b resume_command =
         cond runs nothing
-        (cond (held is_program) (cond d.supply resume-program end-program)
-        (cond (held is_erase) (cond d.supply resume-erase end-erase) nothing))
-    first_cycle_event b program-command = cond (runs || held is_program) nothing (setup_is program-setup)
-    first_cycle_event b lock-command = cond (runs || held is_program) nothing (setup_is lock-setup)
-    first_cycle_event b erase-command = cond (runs || held is_any) nothing (setup_is erase-setup)
-    first_cycle_event b buffer-command = cond (runs || held is_program) nothing (setup_is (count_setup b))
-    first_cycle_event b other-command = nothing
+        (cond (held is_program) (cond d.supply resume_program end_program)
+        (cond (held is_erase) (cond d.supply resume_erase end_erase) nothing))
+    first_cycle_event b program_command = cond (runs || held is_program) nothing (setup_is program_setup)
+    first_cycle_event b lock_command = cond (runs || held is_program) nothing (setup_is lock_setup)
+    first_cycle_event b erase_command = cond (runs || held is_any) nothing (setup_is erase_setup)
+    first_cycle_event b buffer_command = cond (runs || held is_program) nothing (setup_is (count_setup b))
+    first_cycle_event b other_command = nothing
 
     -- the set-up is s from here on where the cycle is right, and ends where it is wrong
     abbrev pub goes_on : Bool → Setup → Event
-    goes_on right s = cond right (setup_is s) (setup_is no-setup)
+    goes_on right s = cond right (setup_is s) (setup_is no_setup)
 
     -- "Buffer Program (E8h, word count less one, the words, then D0h) by section 4.9": all in the block of E8h, the words in a run from the first on, of two data for one word
     -- the later, FFFFh for a word that was given none; at D0h accepted as a program is. At location l, command c, data w
@@ -180,15 +180,15 @@ module _ (g : Geometry) where
     later_word_cycle s ws due l w = goes_on (within s (length ws) l) (words_setup s (set ws (l - s) w) (due - 1))
 
     abbrev pub confirm_cycle_event : ℕ → List ℕ → ℕ → ℕ → Event
-    confirm_cycle_event s ws l c = cond ((eqb c 0xD0 && eqb (block_of g l) (block_of g s)) && acceptable (block_of g l)) (accept (buffer s ws)) (setup_is no-setup)
+    confirm_cycle_event s ws l c = cond ((eqb c 0xD0 && eqb (block_of g l) (block_of g s)) && acceptable (block_of g l)) (accept (buffer s ws)) (setup_is no_setup)
 
     -- "Write, set-up: it ends. Lock: the protection commands D0h and 01h open and shut the block. Program with any data, erase with D0h: if supply is
     -- on, the block open and no erase of it suspended, a running entry with 0 units is added. Else nothing.": at location l, command c, data w
     abbrev pub cycle : Setup → ℕ → ℕ → ℕ → Event
-    cycle no-setup l c w = first_cycle_event (block_of g l) (command_of c)
-    cycle lock-setup l c w = cond (eqb c 0xD0) (unprotected_is (block_of g l) true) (cond (eqb c 0x01) (unprotected_is (block_of g l) false) (setup_is no-setup))
-    cycle program-setup l c w = cond (acceptable (block_of g l)) (accept (program l w)) (setup_is no-setup)
-    cycle erase-setup l c w = cond (eqb c 0xD0 && acceptable (block_of g l)) (accept (erase (block_of g l))) (setup_is no-setup)
+    cycle no_setup l c w = first_cycle_event (block_of g l) (command_of c)
+    cycle lock_setup l c w = cond (eqb c 0xD0) (unprotected_is (block_of g l) true) (cond (eqb c 0x01) (unprotected_is (block_of g l) false) (setup_is no_setup))
+    cycle program_setup l c w = cond (acceptable (block_of g l)) (accept (program l w)) (setup_is no_setup)
+    cycle erase_setup l c w = cond (eqb c 0xD0 && acceptable (block_of g l)) (accept (erase (block_of g l))) (setup_is no_setup)
     cycle (count_setup b) l c w = count_cycle b l w
     cycle (first_setup b n) l c w = first_word_cycle b n l w
     cycle (words_setup s ws due) l c w = cond (eqb due 0) (confirm_cycle_event s ws l c) (later_word_cycle s ws due l w)
@@ -205,16 +205,16 @@ module _ (g : Geometry) where
 abbrev pub conditions_after : Event → Conditions → Conditions
 conditions_after nothing d = d
 conditions_after (supplied on) d = record { supply = on; unprotected = d.unprotected; setup = d.setup }
-conditions_after was_reset d = record { supply = d.supply; unprotected = λ b. false; setup = no-setup }
+conditions_after was_reset d = record { supply = d.supply; unprotected = λ b. false; setup = no_setup }
 conditions_after (units n) d = d
 conditions_after suspend d = d
-conditions_after resume-program d = d
-conditions_after resume-erase d = d
-conditions_after end-program d = d
-conditions_after end-erase d = d
+conditions_after resume_program d = d
+conditions_after resume_erase d = d
+conditions_after end_program d = d
+conditions_after end_erase d = d
 conditions_after (setup_is s) d = record { supply = d.supply; unprotected = d.unprotected; setup = s }
-conditions_after (unprotected_is b v) d = record { supply = d.supply; unprotected = λ c. cond (eqb c b) v (d.unprotected c); setup = no-setup }
-conditions_after (accept k) d = record { supply = d.supply; unprotected = d.unprotected; setup = no-setup }
+conditions_after (unprotected_is b v) d = record { supply = d.supply; unprotected = λ c. cond (eqb c b) v (d.unprotected c); setup = no_setup }
+conditions_after (accept k) d = record { supply = d.supply; unprotected = d.unprotected; setup = no_setup }
 
 -- all that is under way is broken off; what runs; and what is suspended and is p
 abbrev pub all_broken : Entry Operation → Entry Operation
@@ -237,10 +237,10 @@ module _ (g : Geometry) where
   journal_after was_reset j = map all_broken j
   journal_after (units n) j = map (worked (kinds g) n) j
   journal_after suspend j = map paused j
-  journal_after resume-program j = map (resumed is_program) j
-  journal_after resume-erase j = map (resumed is_erase) j
-  journal_after end-program j = map (suspended_broken is_program) j
-  journal_after end-erase j = map (suspended_broken is_erase) j
+  journal_after resume_program j = map (resumed is_program) j
+  journal_after resume_erase j = map (resumed is_erase) j
+  journal_after end_program j = map (suspended_broken is_program) j
+  journal_after end_erase j = map (suspended_broken is_erase) j
   journal_after (setup_is s) j = j
   journal_after (unprotected_is b v) j = j
   journal_after (accept k) j = entry k 0 running ∷ j

@@ -10,7 +10,7 @@ use Rattle.geometry.specs.Blocks.{geometry_of, mirror, block_from, block_of, siz
 use Rattle.semantics.specs.declared.Step.{Step}
 use Rattle.semantics.specs.declared.Step.TheVariants.{Read, Write}
 use Rattle.semantics.specs.Exactly.{exactly}
-use Rattle.semantics.specs.Entries.{Entry, entry, running, suspended, finished, broken-off}
+use Rattle.semantics.specs.Entries.{Entry, entry, running, suspended, finished, was_broken_off}
 use Rattle.semantics.specs.Recorder.{Operation, program, erase, buffer, applied, journal_of}
 use Rattle.semantics.specs.JournalCases.{Case, ◌⟶◌, drawn, expected, cycles, ready, erases, programs, pause, work}
 
@@ -129,14 +129,14 @@ waits [] = false
 waits (entry k u running ∷ j) = false
 waits (entry k u suspended ∷ j) = true
 waits (entry k u finished ∷ j) = false
-waits (entry k u broken-off ∷ j) = false
+waits (entry k u was_broken_off ∷ j) = false
 
 abbrev runs : List (Entry Operation) → Bool
 runs [] = false
 runs (entry k u running ∷ j) = true
 runs (entry k u suspended ∷ j) = false
 runs (entry k u finished ∷ j) = false
-runs (entry k u broken-off ∷ j) = false
+runs (entry k u was_broken_off ∷ j) = false
 
 abbrev empty : List (Entry Operation) → Bool
 empty [] = true
@@ -195,30 +195,30 @@ made =
     makes BenchBottom [] 0x80 0x0FF0 0x0FF0
     -- "Finished program: data anded in; unfinished: nothing."
     ∷ one (entry f0 1 finished) 0x80 0x00F0 ∷ one (entry f0 1 finished) 0x7F 0x0FF0 ∷ one (entry f0 1 finished) 0x81 0x0FF0
-    ∷ one (entry f0 0 running) 0x80 0x0FF0 ∷ one (entry f0 0 suspended) 0x80 0x0FF0 ∷ one (entry f0 0 broken-off) 0x80 0x0FF0
+    ∷ one (entry f0 0 running) 0x80 0x0FF0 ∷ one (entry f0 0 suspended) 0x80 0x0FF0 ∷ one (entry f0 0 was_broken_off) 0x80 0x0FF0
     -- "Finished erase: FFFFh; unfinished: FFFFh in as many of the block's lowest words as it had units."
     ∷ one (entry (erase 4) 64 finished) 0x3F 0x0FF0 ∷ one (entry (erase 4) 64 finished) 0x40 0xFFFF ∷ one (entry (erase 4) 64 finished) 0x7F 0xFFFF ∷ one (entry (erase 4) 64 finished) 0x80 0x0FF0
     ∷ one (entry (erase 4) 10 running) 0x3F 0x0FF0 ∷ one (entry (erase 4) 10 running) 0x40 0xFFFF ∷ one (entry (erase 4) 10 running) 0x49 0xFFFF ∷ one (entry (erase 4) 10 running) 0x4A 0x0FF0
     ∷ one (entry (erase 4) 10 suspended) 0x3F 0x0FF0 ∷ one (entry (erase 4) 10 suspended) 0x40 0xFFFF ∷ one (entry (erase 4) 10 suspended) 0x49 0xFFFF ∷ one (entry (erase 4) 10 suspended) 0x4A 0x0FF0
-    ∷ one (entry (erase 4) 10 broken-off) 0x3F 0x0FF0 ∷ one (entry (erase 4) 10 broken-off) 0x40 0xFFFF ∷ one (entry (erase 4) 10 broken-off) 0x49 0xFFFF ∷ one (entry (erase 4) 10 broken-off) 0x4A 0x0FF0
-    ∷ one (entry (erase 4) 0 running) 0x40 0x0FF0 ∷ one (entry (erase 4) 0 suspended) 0x40 0x0FF0 ∷ one (entry (erase 4) 0 broken-off) 0x40 0x0FF0
+    ∷ one (entry (erase 4) 10 was_broken_off) 0x3F 0x0FF0 ∷ one (entry (erase 4) 10 was_broken_off) 0x40 0xFFFF ∷ one (entry (erase 4) 10 was_broken_off) 0x49 0xFFFF ∷ one (entry (erase 4) 10 was_broken_off) 0x4A 0x0FF0
+    ∷ one (entry (erase 4) 0 running) 0x40 0x0FF0 ∷ one (entry (erase 4) 0 suspended) 0x40 0x0FF0 ∷ one (entry (erase 4) 0 was_broken_off) 0x40 0x0FF0
     -- a small block, of 16 words; and on the top part, upward by location, block 4 from 3F80h on
     ∷ one (entry (erase 1) 16 finished) 0xF 0x0FF0 ∷ one (entry (erase 1) 16 finished) 0x10 0xFFFF ∷ one (entry (erase 1) 16 finished) 0x1F 0xFFFF ∷ one (entry (erase 1) 16 finished) 0x20 0x0FF0
-    ∷ makes BenchTop (entry (erase 4) 10 broken-off ∷ []) 0x3F80 0x0FF0 0xFFFF ∷ makes BenchTop (entry (erase 4) 10 broken-off ∷ []) 0x3F89 0x0FF0 0xFFFF
-    ∷ makes BenchTop (entry (erase 4) 10 broken-off ∷ []) 0x3F8A 0x0FF0 0x0FF0 ∷ makes BenchTop (entry (erase 4) 10 broken-off ∷ []) 0x3FBF 0x0FF0 0x0FF0
+    ∷ makes BenchTop (entry (erase 4) 10 was_broken_off ∷ []) 0x3F80 0x0FF0 0xFFFF ∷ makes BenchTop (entry (erase 4) 10 was_broken_off ∷ []) 0x3F89 0x0FF0 0xFFFF
+    ∷ makes BenchTop (entry (erase 4) 10 was_broken_off ∷ []) 0x3F8A 0x0FF0 0x0FF0 ∷ makes BenchTop (entry (erase 4) 10 was_broken_off ∷ []) 0x3FBF 0x0FF0 0x0FF0
     ∷ makes BenchTop (entry (erase 4) 64 finished ∷ []) 0x3FBF 0x0FF0 0xFFFF
     -- of a buffer "an unfinished one has reached as many of its lowest as it had units", each anded in
     ∷ one (entry three 3 finished) 0x7F 0x0FF0 ∷ one (entry three 3 finished) 0x80 0x00F0 ∷ one (entry three 3 finished) 0x81 0x00F0 ∷ one (entry three 3 finished) 0x82 0x0330
     ∷ one (entry three 3 finished) 0x83 0x0FF0
     ∷ one (entry three 2 running) 0x80 0x00F0 ∷ one (entry three 2 running) 0x81 0x00F0 ∷ one (entry three 2 running) 0x82 0x0FF0 ∷ one (entry three 2 running) 0x7F 0x0FF0
     ∷ one (entry three 2 suspended) 0x80 0x00F0 ∷ one (entry three 2 suspended) 0x81 0x00F0 ∷ one (entry three 2 suspended) 0x82 0x0FF0 ∷ one (entry three 2 suspended) 0x7F 0x0FF0
-    ∷ one (entry three 2 broken-off) 0x80 0x00F0 ∷ one (entry three 2 broken-off) 0x81 0x00F0 ∷ one (entry three 2 broken-off) 0x82 0x0FF0 ∷ one (entry three 2 broken-off) 0x7F 0x0FF0
-    ∷ one (entry three 0 running) 0x80 0x0FF0 ∷ one (entry three 0 suspended) 0x80 0x0FF0 ∷ one (entry three 0 broken-off) 0x80 0x0FF0
+    ∷ one (entry three 2 was_broken_off) 0x80 0x00F0 ∷ one (entry three 2 was_broken_off) 0x81 0x00F0 ∷ one (entry three 2 was_broken_off) 0x82 0x0FF0 ∷ one (entry three 2 was_broken_off) 0x7F 0x0FF0
+    ∷ one (entry three 0 running) 0x80 0x0FF0 ∷ one (entry three 0 suspended) 0x80 0x0FF0 ∷ one (entry three 0 was_broken_off) 0x80 0x0FF0
     -- "applied in order of acceptance": the erase, then the program; the program, then the erase; two programs and a
     -- buffer over one another
     ∷ makes BenchBottom (entry (program 0x40 0x1234) 1 finished ∷ entry (erase 4) 64 finished ∷ []) 0x40 0x0FF0 0x1234
     ∷ makes BenchBottom (entry (erase 4) 64 finished ∷ entry (program 0x40 0x1234) 1 finished ∷ []) 0x40 0x0FF0 0xFFFF
-    ∷ makes BenchBottom (entry (erase 4) 0 broken-off ∷ entry (program 0x40 0x00F0) 1 finished ∷ []) 0x40 0x0FF0 0x00F0
+    ∷ makes BenchBottom (entry (erase 4) 0 was_broken_off ∷ entry (program 0x40 0x00F0) 1 finished ∷ []) 0x40 0x0FF0 0x00F0
     ∷ makes BenchBottom (entry three 3 finished ∷ entry (program 0x80 0x0F30) 1 finished ∷ entry (program 0x80 0x7777) 1 finished ∷ []) 0x80 0x0FF0 0x0030
     ∷ []
 

@@ -13,9 +13,9 @@ use Rattle.semantics.specs.declared.Setup.TheVariants as setup
 use Rattle.semantics.specs.declared.Running.{Running}
 use Rattle.semantics.specs.declared.Running.TheVariants as running
 use Rattle.semantics.specs.declared.SuspendedProgram.{SuspendedProgram}
-use Rattle.semantics.specs.declared.SuspendedProgram.TheVariants as suspended-program
+use Rattle.semantics.specs.declared.SuspendedProgram.TheVariants as suspended_program
 use Rattle.semantics.specs.declared.SuspendedErase.{SuspendedErase}
-use Rattle.semantics.specs.declared.SuspendedErase.TheVariants as suspended-erase
+use Rattle.semantics.specs.declared.SuspendedErase.TheVariants as suspended_erase
 use Rattle.semantics.specs.State.{power_up, with_control, with_protection, with_buffer, with_flags, with_supply, set_configuration, flags_of}
 use Rattle.semantics.specs.Writing.{written}
 use Rattle.semantics.specs.Steps.{step_of}
@@ -52,17 +52,17 @@ busy s r q e w = configured (under_way BenchBottom s r q e) w
 
 -- with a set-up alone, or something that runs alone
 abbrev pends : Setup → ℕ → State
-pends s w = busy s running.Idle suspended-program.Nothing suspended-erase.Nothing w
+pends s w = busy s running.Idle suspended_program.Nothing suspended_erase.Nothing w
 
 abbrev working : Running → ℕ → State
-working r w = busy setup.Nothing r suspended-program.Nothing suspended-erase.Nothing w
+working r w = busy setup.Nothing r suspended_program.Nothing suspended_erase.Nothing w
 
 -- with a suspended program alone, or a suspended erase alone
 abbrev waits : SuspendedProgram → ℕ → State
-waits q w = busy setup.Nothing running.Idle q suspended-erase.Nothing w
+waits q w = busy setup.Nothing running.Idle q suspended_erase.Nothing w
 
 abbrev erase_waits : ℕ → State
-erase_waits w = busy setup.Nothing running.Idle suspended-program.Nothing (suspended-erase.Erase 4 0) w
+erase_waits w = busy setup.Nothing running.Idle suspended_program.Nothing (suspended_erase.Erase 4 0) w
 
 -- a state of any part, taken for one of the bench bottom part, whose array a case has room for
 abbrev on_bench : State → State
@@ -160,13 +160,13 @@ register_cases =
     ∷ refused 0x4000 ++ refused 0x0020 ++ refused 0x0010 ++ refused 0xFFFF
     ++ bad (registered 0x4030) ∷ bad (registered 0xFFCF) ∷ bad (registered 0xBFEF) ∷ bad (registered 0xBFDF) ∷ bad (configured (power_up BenchTop) 0x4000)
     ∷ bad (working (running.Program 0x40 0x1234) 0x0010)
-    ∷ bad (busy setup.Lock running.Idle suspended-program.Nothing (suspended-erase.Erase 4 0) 0x4000)
+    ∷ bad (busy setup.Lock running.Idle suspended_program.Nothing (suspended_erase.Erase 4 0) 0x4000)
     -- with two of them set
     ∷ bad (registered 0x4020) ∷ bad (registered 0x4010) ∷ bad (registered 0x0030)
     -- each set-up, what runs, what is suspended
     ∷ bad (pends setup.Program 0x4000) ∷ bad (pends setup.Erase 0x4000) ∷ bad (pends setup.Lock 0x4000) ∷ bad (pends (setup.BufferCount 4) 0x4000) ∷ bad (pends (setup.BufferFirst 4 1) 0x4000)
     ∷ bad (pends (setup.BufferWords 0x40 1 0) 0x4000) ∷ bad (with_buffer (pends (setup.BufferWords 0x40 1 0) 0x4000) (0x1234 ∷ replicate 31 0)) ∷ bad (working (running.Erase 4 0) 0x4000) ∷ bad (working (running.Buffer 0x40 1 0) 0x4000)
-    ∷ bad (waits (suspended-program.Program 0x40 0x1234) 0x4000) ∷ bad (waits (suspended-program.Buffer 0x40 1 0) 0x4000) ∷ bad (erase_waits 0x4000)
+    ∷ bad (waits (suspended_program.Program 0x40 0x1234) 0x4000) ∷ bad (waits (suspended_program.Buffer 0x40 1 0) 0x4000) ∷ bad (erase_waits 0x4000)
     -- supply on, each flag, a block unprotected, each mode of a bank; and on the full parts, by the report
     ∷ bad (with_supply (registered 0x4000) true) ∷ bad (with_flags (registered 0x4000) (flags_of true false false false)) ∷ bad (with_flags (registered 0x4000) (flags_of false true false false))
     ∷ bad (with_flags (registered 0x4000) (flags_of false false true false)) ∷ bad (with_flags (registered 0x4000) (flags_of false false false true))
@@ -179,5 +179,5 @@ register_cases =
     ∷ allowed 0x0 ∷ allowed 0x1 ∷ allowed 0x2 ∷ allowed 0x4 ∷ allowed 0x8 ∷ allowed 0x40 ∷ allowed 0x80 ∷ allowed 0x100 ∷ allowed 0x200 ∷ allowed 0x400 ∷ allowed 0x800 ∷ allowed 0x1000
     ∷ allowed 0x2000 ∷ allowed 0x8000 ∷ allowed 0xBFCF ∷ counted (configured (power_up FullBottom) 0x8041) 0 259 ∷ counted (configured (power_up FullTop) 0x8041) 0 259
     ∷ starts (working (running.Program 0x40 0x1234) 0x8041) (bench 0xFFFF) (works 1 1 ++ has 0x8041)
-    ∷ starts (erase_waits 0x8041) (bench 0) (has 0x8041) ∷ starts (waits (suspended-program.Program 0x40 0x1234) 0x8041) (bench 0) (has 0x8041) ∷ starts (with_supply (registered 0x8041) true) (bench 0) (has 0x8041)
+    ∷ starts (erase_waits 0x8041) (bench 0) (has 0x8041) ∷ starts (waits (suspended_program.Program 0x40 0x1234) 0x8041) (bench 0) (has 0x8041) ∷ starts (with_supply (registered 0x8041) true) (bench 0) (has 0x8041)
     ∷ []

@@ -9,9 +9,9 @@ use Rattle.semantics.specs.declared.Setup.TheVariants as setup
 use Rattle.semantics.specs.declared.Running.{Running}
 use Rattle.semantics.specs.declared.Running.TheVariants as running
 use Rattle.semantics.specs.declared.SuspendedProgram.{SuspendedProgram}
-use Rattle.semantics.specs.declared.SuspendedProgram.TheVariants as suspended-program
+use Rattle.semantics.specs.declared.SuspendedProgram.TheVariants as suspended_program
 use Rattle.semantics.specs.declared.SuspendedErase.{SuspendedErase}
-use Rattle.semantics.specs.declared.SuspendedErase.TheVariants as suspended-erase
+use Rattle.semantics.specs.declared.SuspendedErase.TheVariants as suspended_erase
 use Rattle.semantics.specs.declared.State.{State}
 use Rattle.semantics.specs.State.{with_buffer, with_supply}
 use Rattle.semantics.specs.Steps.{switched_to}
@@ -56,7 +56,7 @@ holds a w = write a 0xFF ++ shows a w
 
 -- something runs, with supply on or off; a buffer of two words where it is a buffer program
 abbrev runs : Part → Running → SuspendedErase → Bool → State
-runs p r e t = with_supply (under_way p setup.Nothing r suspended-program.Nothing e) t
+runs p r e t = with_supply (under_way p setup.Nothing r suspended_program.Nothing e) t
 
 abbrev runs_two : SuspendedErase → Bool → State
 runs_two e t = with_buffer (runs BenchBottom (running.Buffer 0x80 2 0) e t) (0xAAAA ∷ 0xBBBB ∷ replicate 30 0)
@@ -66,17 +66,17 @@ abbrev waits : SuspendedProgram → SuspendedErase → Bool → State
 waits q e t = with_supply (under_way BenchBottom setup.Nothing running.Idle q e) t
 
 abbrev waits_two : SuspendedErase → Bool → State
-waits_two e t = with_buffer (waits (suspended-program.Buffer 0x80 2 0) e t) (0xAAAA ∷ 0xBBBB ∷ replicate 30 0)
+waits_two e t = with_buffer (waits (suspended_program.Buffer 0x80 2 0) e t) (0xAAAA ∷ 0xBBBB ∷ replicate 30 0)
 
 abbrev pends : Setup → Bool → State
-pends c t = with_supply (under_way BenchBottom c running.Idle suspended-program.Nothing suspended-erase.Nothing) t
+pends c t = with_supply (under_way BenchBottom c running.Idle suspended_program.Nothing suspended_erase.Nothing) t
 
 abbrev none : SuspendedErase
-none = suspended-erase.Nothing
+none = suspended_erase.Nothing
 
 -- the erase of block 4, with three words done, suspended
 abbrev three : SuspendedErase
-three = suspended-erase.Erase 4 3
+three = suspended_erase.Erase 4 3
 
 -- a state that is not well formed: every step is refused 2, and on an array of another length 1, and the report is refused 2
 abbrev refused : State → List Case
@@ -194,9 +194,9 @@ supply_cases =
     ∷ good (runs BenchBottom (running.Program 0x80 0x1234) three true) ∷ good (runs_two three true)
     ∷ counted (runs FullBottom (running.Erase 4 65535) none true) 0 259 ∷ counted (runs FullTop (running.Program 0xFFFFFF 0x1234) none true) 0 259
     -- what is suspended or pending may stand without supply
-    ∷ good (waits (suspended-program.Program 0x80 0x1234) none false) ∷ good (waits suspended-program.Nothing three false) ∷ good (waits_two none false) ∷ good (waits (suspended-program.Program 0x80 0x1234) three false)
+    ∷ good (waits (suspended_program.Program 0x80 0x1234) none false) ∷ good (waits suspended_program.Nothing three false) ∷ good (waits_two none false) ∷ good (waits (suspended_program.Program 0x80 0x1234) three false)
     ∷ good (waits_two three false) ∷ good (pends setup.Program false) ∷ good (pends setup.Erase false) ∷ good (pends setup.Lock false) ∷ good (pends (setup.BufferCount 4) false) ∷ good (pends (setup.BufferFirst 4 1) false)
-    ∷ good (pends (setup.BufferWords 0x40 1 0) false) ∷ counted (waits (suspended-program.Program 0x80 0x1234) three false) 0 259
+    ∷ good (pends (setup.BufferWords 0x40 1 0) false) ∷ counted (waits (suspended_program.Program 0x80 0x1234) three false) 0 259
     -- on the full parts what runs ends alike: no longer does it run without supply
     ∷ counted (switched_to (runs FullBottom (running.Erase 4 65535) none true) false) 0 259 ∷ counted (switched_to (runs FullTop (running.Program 0xFFFFFF 0x1234) none true) false) 0 259
     ∷ []

@@ -11,9 +11,9 @@ use Rattle.semantics.specs.declared.Setup.TheVariants as setup
 use Rattle.semantics.specs.declared.Running.{Running}
 use Rattle.semantics.specs.declared.Running.TheVariants as running
 use Rattle.semantics.specs.declared.SuspendedProgram.{SuspendedProgram}
-use Rattle.semantics.specs.declared.SuspendedProgram.TheVariants as suspended-program
+use Rattle.semantics.specs.declared.SuspendedProgram.TheVariants as suspended_program
 use Rattle.semantics.specs.declared.SuspendedErase.{SuspendedErase}
-use Rattle.semantics.specs.declared.SuspendedErase.TheVariants as suspended-erase
+use Rattle.semantics.specs.declared.SuspendedErase.TheVariants as suspended_erase
 use Rattle.semantics.specs.declared.Activity.{Activity}
 use Rattle.semantics.specs.declared.Flags.{Flags}
 use Rattle.semantics.specs.declared.Mode.TheVariants.{Array, Status, Signature, Query}
@@ -30,11 +30,11 @@ use Rattle.semantics.specs.Working.{buffer_after}
 use Rattle.semantics.specs.Steps.{switched_to, accepted}
 
 abbrev none : SuspendedErase
-none = suspended-erase.Nothing
+none = suspended_erase.Nothing
 
 -- the erase of block 4, with three words done, suspended
 abbrev three : SuspendedErase
-three = suspended-erase.Erase 4 3
+three = suspended_erase.Erase 4 3
 
 -- ---- a step that is accepted leaves just this state
 
@@ -78,9 +78,9 @@ erase_ended f = flags_of true f.sr4 true f.sr1
 -- supply off ends what runs, and supply on leaves it
 abbrev cut : Part → Bool → Running → SuspendedErase → Flags → Flags → List ℕ → List Move
 cut p o r e f h bs =
-    leaves (stands p o (activity setup.Nothing r suspended-program.Nothing e) f true bs) (Supply false) (stands p o (activity setup.Nothing running.Idle suspended-program.Nothing e) h false empty)
-    ∷ leaves (stands p o (activity setup.Nothing r suspended-program.Nothing e) f true bs) (Supply true) (stands p o (activity setup.Nothing r suspended-program.Nothing e) f true bs)
-    ∷ leaves (stands p o (activity setup.Nothing r suspended-program.Nothing e) f true bs) Reset (with_supply (power_up p) true)
+    leaves (stands p o (activity setup.Nothing r suspended_program.Nothing e) f true bs) (Supply false) (stands p o (activity setup.Nothing running.Idle suspended_program.Nothing e) h false empty)
+    ∷ leaves (stands p o (activity setup.Nothing r suspended_program.Nothing e) f true bs) (Supply true) (stands p o (activity setup.Nothing r suspended_program.Nothing e) f true bs)
+    ∷ leaves (stands p o (activity setup.Nothing r suspended_program.Nothing e) f true bs) Reset (with_supply (power_up p) true)
     ∷ []
 
 -- from a state that stands without supply and one that stands with it, supply off and supply on are noted, and no more
@@ -113,19 +113,19 @@ ignored p o a f bs =
 
 -- what is under way: a set-up beside a suspended erase; a suspended program, or none, and a suspended erase, or none
 abbrev pending_beside : Setup → SuspendedErase → Activity
-pending_beside c e = activity c running.Idle suspended-program.Nothing e
+pending_beside c e = activity c running.Idle suspended_program.Nothing e
 
 abbrev waiting : SuspendedProgram → SuspendedErase → Activity
 waiting q e = activity setup.Nothing running.Idle q e
 
 abbrev one : SuspendedProgram
-one = suspended-program.Program 0x80 0x1234
+one = suspended_program.Program 0x80 0x1234
 
 abbrev both : ℕ → SuspendedProgram
-both d = suspended-program.Buffer 0x80 3 d
+both d = suspended_program.Buffer 0x80 3 d
 
 abbrev no_program : SuspendedProgram
-no_program = suspended-program.Nothing
+no_program = suspended_program.Nothing
 
 abbrev beside : Part → Bool → Flags → SuspendedErase → List Move
 beside p o f e =
@@ -146,10 +146,10 @@ moves_of p o f =
     beside p o f none ++ beside p o f three
     ++ cut p o (running.Erase 4 1) none f (erase_ended f) empty ++ cut p o (running.Erase 4 3) none f (erase_ended f) empty
     ++ noted p o (pending_beside setup.Erase none) f empty
-    ++ ends p o (waiting no_program three) (waiting no_program none) f (erase_ended f) empty empty ++ ends p o (waiting no_program (suspended-erase.Erase 0 0)) (waiting no_program none) f (erase_ended f) empty empty
+    ++ ends p o (waiting no_program three) (waiting no_program none) f (erase_ended f) empty empty ++ ends p o (waiting no_program (suspended_erase.Erase 0 0)) (waiting no_program none) f (erase_ended f) empty empty
     ++ ends p o (waiting no_program none) (waiting no_program none) f f empty empty
     ++ resumes p o (waiting no_program three) (activity setup.Nothing (running.Erase 4 3) no_program none) f empty
-    ++ resumes p o (waiting no_program (suspended-erase.Erase 0 0)) (activity setup.Nothing (running.Erase 0 0) no_program none) f empty
+    ++ resumes p o (waiting no_program (suspended_erase.Erase 0 0)) (activity setup.Nothing (running.Erase 0 0) no_program none) f empty
     ++ resumes p o (waiting no_program none) (waiting no_program none) f empty
     ++ leaves (stands p o (waiting no_program three) f false empty) (Write 0x40 0xB0) (stands p o (waiting no_program three) f false empty) ∷ []
 
@@ -162,7 +162,7 @@ moves =
     ++ moves_of BenchBottom true no_flags ++ moves_of BenchBottom false no_flags ++ moves_of BenchBottom true all_flags ++ moves_of BenchBottom false (flags_of false false false true)
     -- a whole buffer
     ++ cut BenchBottom true (running.Buffer 0x80 32 0) none no_flags (program_ended no_flags) (replicate 32 1)
-    ++ ends BenchBottom true (waiting (suspended-program.Buffer 0x80 32 0) none) (waiting no_program none) no_flags (program_ended no_flags) (replicate 32 1) empty
+    ++ ends BenchBottom true (waiting (suspended_program.Buffer 0x80 32 0) none) (waiting no_program none) no_flags (program_ended no_flags) (replicate 32 1) empty
 
 pub moves_hold : map left moves ≡ map told moves
 unfolding mirror block_from block_of bank_of bit bit_at is_unprotected with_unprotected all_protected empty_buffer power_up end_flags ended ended_if_unsupplied switched command_of resume accepts set_up clear_status first_cycle cycle kept_if held_after loaded written_at written buffer_after switched_to accepted

@@ -4,7 +4,7 @@
 use Rattle.std.specs.Prelude.{ℕ, zero, suc, ◌+◌, ◌-◌, true, false, List, [], ◌∷◌, ◌++◌, map, ◌≡◌, refl, replicate}
 use Rattle.semantics.specs.declared.Running.{Running}
 use Rattle.semantics.specs.declared.Running.TheVariants as running
-use Rattle.semantics.specs.Entries.{Entry, entry, running, suspended, finished, broken-off}
+use Rattle.semantics.specs.Entries.{Entry, entry, running, suspended, finished, was_broken_off}
 use Rattle.semantics.specs.Recorder.{Operation, program, erase, buffer}
 use Rattle.wear.specs.Counts.{Counts, lent, row_of, place_in, count_at, count_of, shared_zero, no_counts, put_at, with_count, one_more, counts_after}
 use Rattle.wear.specs.Claim.{finished_erases}
@@ -157,14 +157,14 @@ after_hold = (refl, refl)
 
 abbrev journal : List (Entry Operation)
 journal =
-    entry (erase 4) 10 running ∷ entry (erase 4) 63 broken-off ∷ entry (erase 4) 64 finished ∷ entry (program 4 0x1234) 1 finished ∷ entry (buffer 4 (1 ∷ 2 ∷ [])) 2 finished
-    ∷ entry (erase 19) 64 finished ∷ entry (erase 4) 64 finished ∷ entry (erase 0) 16 finished ∷ entry (erase 5) 3 broken-off ∷ entry (program 5 5) 0 suspended ∷ entry (buffer 5 (5 ∷ [])) 0 broken-off
+    entry (erase 4) 10 running ∷ entry (erase 4) 63 was_broken_off ∷ entry (erase 4) 64 finished ∷ entry (program 4 0x1234) 1 finished ∷ entry (buffer 4 (1 ∷ 2 ∷ [])) 2 finished
+    ∷ entry (erase 19) 64 finished ∷ entry (erase 4) 64 finished ∷ entry (erase 0) 16 finished ∷ entry (erase 5) 3 was_broken_off ∷ entry (program 5 5) 0 suspended ∷ entry (buffer 5 (5 ∷ [])) 0 was_broken_off
     ∷ entry (erase 258) 64 finished ∷ entry (erase 4) 64 finished ∷ entry (erase 5) 63 suspended ∷ []
 
 -- in a journal of several, and in those of one entry
 pub finished_hold : (map (λ b. finished_erases b journal) (0 ∷ 1 ∷ 3 ∷ 4 ∷ 5 ∷ 18 ∷ 19 ∷ 20 ∷ 258 ∷ 259 ∷ []) ≡ 1 ∷ 0 ∷ 0 ∷ 3 ∷ 0 ∷ 0 ∷ 1 ∷ 0 ∷ 1 ∷ 0 ∷ [])
     × (map (λ e. finished_erases 4 (e ∷ []))
-    (entry (erase 4) 64 running ∷ entry (erase 4) 64 suspended ∷ entry (erase 4) 64 broken-off ∷ entry (erase 4) 64 finished ∷ entry (erase 4) 0 finished ∷ entry (erase 5) 64 finished
+    (entry (erase 4) 64 running ∷ entry (erase 4) 64 suspended ∷ entry (erase 4) 64 was_broken_off ∷ entry (erase 4) 64 finished ∷ entry (erase 4) 0 finished ∷ entry (erase 5) 64 finished
     ∷ entry (program 4 4) 1 finished ∷ entry (buffer 4 (4 ∷ [])) 1 finished ∷ [])
     ≡ 0 ∷ 0 ∷ 0 ∷ 1 ∷ 1 ∷ 0 ∷ 0 ∷ 0 ∷ [])
     × (finished_erases 4 [] ≡ 0)

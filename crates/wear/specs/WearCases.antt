@@ -9,8 +9,8 @@ use Rattle.geometry.specs.Blocks.{mirror, block_from, block_of, bank_of, size_of
 use Rattle.protection.specs.Words.{bit, bit_at, is_unprotected, with_unprotected, spare_zero, all_protected}
 use Rattle.semantics.specs.declared.Setup.TheVariants as setup
 use Rattle.semantics.specs.declared.Running.TheVariants as running
-use Rattle.semantics.specs.declared.SuspendedProgram.TheVariants as suspended-program
-use Rattle.semantics.specs.declared.SuspendedErase.TheVariants as suspended-erase
+use Rattle.semantics.specs.declared.SuspendedProgram.TheVariants as suspended_program
+use Rattle.semantics.specs.declared.SuspendedErase.TheVariants as suspended_erase
 use Rattle.semantics.specs.declared.Step.{Step}
 use Rattle.semantics.specs.declared.Step.TheVariants.{Read, Write, Work, Supply, Reset}
 use Rattle.semantics.specs.declared.Answer.{Answer}
@@ -157,11 +157,11 @@ six_b =
 
 -- an erase of block b that runs with n of its words done
 abbrev pub erasing : Part → ℕ → ℕ → State
-erasing p b n = with_supply (with_activity (power_up p) (activity setup.Nothing (running.Erase b n) suspended-program.Nothing suspended-erase.Nothing)) true
+erasing p b n = with_supply (with_activity (power_up p) (activity setup.Nothing (running.Erase b n) suspended_program.Nothing suspended_erase.Nothing)) true
 
 -- one that is suspended, with supply on
 abbrev pub waiting : Part → ℕ → ℕ → State
-waiting p b n = with_supply (with_activity (power_up p) (activity setup.Nothing running.Idle suspended-program.Nothing (suspended-erase.Erase b n))) true
+waiting p b n = with_supply (with_activity (power_up p) (activity setup.Nothing running.Idle suspended_program.Nothing (suspended_erase.Erase b n))) true
 
 -- one that runs without supply: not well formed
 abbrev pub unsupplied : State
