@@ -1,5 +1,7 @@
 // The 32 words of the write buffer (document 02, item 1): empty, loaded word by word, kept or emptied, and the test of its spare places.
 // Every function takes any words and any number. When a word is loaded, or in use, is not said here.
+#![tactic(auto)]
+
 ghost use Rattle.std.specs.Prelude.{◌≡◌, cond, ◌≤◌, ltb, eqb, set};
 ghost use Rattle.semantics.specs.State.{empty_buffer};
 ghost use Rattle.semantics.specs.WellFormed.{zero_from};

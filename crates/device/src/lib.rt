@@ -1,6 +1,8 @@
 // The device: one method for each of the five steps, each of which takes the device by value, with the borrowed array and the borrowed erase counts (crate wear), and gives back
 // the next device with its answer. No method asks anything of its caller: what document 01's card refuses is refused with its number, the device given back, and the array and the
 // counts left.
+#![tactic(auto)]
+
 ghost use Rattle.std.specs.Prelude.{List, ◌≡◌, ℕ};
 ghost use Rattle.semantics.specs.State.{power_up};
 ghost use Rattle.wear.specs.Counts.{lent, no_counts};

@@ -1,5 +1,7 @@
 // The words, blocks and banks of a part: document 01, "Words, blocks, banks".
 // Each public function takes every number: one that is no block, bank or location has the answer that its definition gives it.
+#![tactic(auto)]
+
 ghost use Rattle.std.specs.Prelude.{◌≡◌, true, cond, ◌+◌, ◌-◌, ◌<◌, ◌≤◌};
 ghost use Rattle.geometry.specs.Blocks.{geometry_of, words, blocks, location, mirror, block_from, block_of, bank_of, size_of, start_of, bank_start, block_offset, bank_offset, bank_of_block, Sound, part_numbered, lookup_of};
 ghost use Rattle.geometry.specs.Bits.{unit_bits, small_bits, bank_bits, turned};

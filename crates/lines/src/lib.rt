@@ -1,4 +1,6 @@
 // Where the lines of a text begin and end. Each function takes every text and place.
+#![tactic(auto)]
+
 ghost use Rattle.std.specs.Prelude.{◌≡◌};
 ghost use Rattle.lines.specs.Lines.{line_end, taken_at};
 

@@ -2,6 +2,8 @@
 // A device is kept as the 25 words of the crate saved, and beside them its erase counts, which C hands over as two
 // pointers: sixteen rows of sixteen, and four. A call copies none of them. A step, and an answer, is a number of 64
 // bits (crate playback).
+#![tactic(auto)]
+
 ghost use Rattle.std.specs.Prelude.{◌≡◌};
 ghost use Rattle.geometry.specs.Blocks.{lookup_of};
 ghost use Rattle.semantics.specs.Reading.{bit_if};

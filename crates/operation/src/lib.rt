@@ -1,4 +1,6 @@
 // What is under way on a device: the tests of it, and its changes. Each function takes every value, well formed or not.
+#![tactic(auto)]
+
 ghost use Rattle.std.specs.Prelude.{◌≡◌};
 ghost use Rattle.geometry.specs.Blocks.{geometry_of};
 ghost use Rattle.semantics.specs.State.{with_setup, with_running, runs, program_suspended, erase_suspended};

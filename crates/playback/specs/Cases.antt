@@ -1,7 +1,7 @@
 -- Answers and lists as a C program has them, computed: the number of each answer, which numbers of a list are played
 -- with so much room, and the room after its answers. That a list is played right is said of every list by `Played`.
 -- Assumes nothing.
-use Rattle.std.specs.Prelude.{ℕ, true, false, List, [], ◌∷◌, map, ◌≡◌, refl}
+use Rattle.std.specs.Prelude.{ℕ, true, List, [], ◌∷◌, map, ◌≡◌, refl}
 use Rattle.semantics.specs.declared.Step.TheVariants.{Read, Write, Work, Supply, Reset}
 use Rattle.semantics.specs.declared.Answer.TheVariants.{Word, Units, Done, Refused}
 use Rattle.semantics.specs.Encoding.{decoded_as, decode}

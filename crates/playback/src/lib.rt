@@ -1,5 +1,7 @@
 // A list of encoded steps played on a device, its borrowed erase counts and a borrowed array, with the answers written into borrowed room. Demand 3 stands in its contract, and the
 // counts' theorem beside it.
+#![tactic(auto)]
+
 ghost use Rattle.std.specs.Prelude.{List, ◌≡◌, ℕ};
 ghost use Rattle.geometry.specs.Blocks.{geometry_of};
 ghost use Rattle.semantics.specs.State.{set_activity, with_setup, with_running};

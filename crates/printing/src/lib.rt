@@ -1,6 +1,8 @@
 // The text that the script program prints (document 01, "The script program"), written into borrowed room.
 // Each function puts its bytes at a place and gives the next place. It takes every number: what does not fit the room
 // is dropped.
+#![tactic(auto)]
+
 ghost use Rattle.std.specs.Prelude.{◌≡◌, [], ◌∷◌, ◌%◌};
 ghost use Rattle.printing.specs.Text.{digit_of, decimal, hex4, answer_text, line_text, end_text};
 ghost use Rattle.printing.specs.Room.{Put};

@@ -1,5 +1,7 @@
 // What a read shows: the status word, the signature, the query and the word at a location (document 01, "Read, address." and "Status word.").
 // Each function takes every number: a location past the array reads 0.
+#![tactic(auto)]
+
 ghost use Rattle.std.specs.Prelude.{◌≡◌, not, ◌&&◌, ℕ, ◌≤◌, get_or};
 ghost use Rattle.geometry.specs.Blocks.{geometry_of};
 ghost use Rattle.semantics.specs.State.{runs};

@@ -1,5 +1,7 @@
 // A device's state as 25 words, so that programs in C can keep it, and back. Each public function takes every state and
 // all words.
+#![tactic(auto)]
+
 ghost use Rattle.std.specs.Prelude.{◌≡◌, ◌+◌, ◌<◌, ◌≤◌, length, get_or};
 ghost use Rattle.std.proofs.lemmas.List.Edits.{sets};
 ghost use Rattle.geometry.specs.Blocks.{part_numbered};

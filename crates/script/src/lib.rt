@@ -1,5 +1,7 @@
 // A script text played whole on a device, with the transcript written into borrowed room: document 01, "The script program".
 // Each public function takes every text, place and number.
+#![tactic(auto)]
+
 ghost use Rattle.std.specs.Prelude.{◌≡◌, ◌<◌, length};
 ghost use Rattle.wear.specs.Counts.{lent};
 ghost use Rattle.script.specs.Script.{script_of, LinePlayed, LinesPlayed, Transcribed};

@@ -1,5 +1,7 @@
 // What a device holds (document 01, "What a device holds"), the five steps, and their answers: the types, and no function. What the
 // steps mean and the journal are in specs/, and the theorem that ties the two is in proofs/. The code is in the crates above this one.
+#![tactic(auto)]
+
 use geometry::Part;
 
 // The read mode of a bank.

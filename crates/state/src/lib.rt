@@ -1,5 +1,7 @@
 // A device's state: power-up, the states that differ from another in one field, and whether a state and a step's numbers are refused.
 // Each function takes every state and number. What these mean is in the crate semantics.
+#![tactic(auto)]
+
 ghost use Rattle.std.specs.Prelude.{List, ◌≡◌, ◌<◌};
 ghost use Rattle.geometry.specs.declared.Geometry.{Geometry};
 ghost use Rattle.geometry.specs.Blocks.{geometry_of};

@@ -1,5 +1,7 @@
 // The erase counts of the blocks (document 02, item 6), in memory that is lent: an array of arrays by bank and place, beside the four counts of the small blocks. Each function
 // takes every count and number. What they mean is in specs/.
+#![tactic(auto)]
+
 ghost use Rattle.std.specs.Prelude.{◌≡◌};
 ghost use Rattle.wear.specs.Counts.{lent, count_of, shared_zero, no_counts, with_count, one_more, counts_after, most_worn};
 

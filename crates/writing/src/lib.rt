@@ -1,5 +1,7 @@
 // What a write makes of what it sees of a state: the first and the second cycles of the commands (document 01, "Write, address, data."), and the cycles of a buffer
 // program's load (document 02, item 1), with what they make of the buffer. The array is not touched. Each function takes every view and number.
+#![tactic(auto)]
+
 ghost use Rattle.std.specs.Prelude.{◌≡◌, ◌-◌};
 ghost use Rattle.geometry.specs.Blocks.{geometry_of};
 ghost use Rattle.semantics.specs.Supply.{ended};

@@ -1,5 +1,4 @@
 -- `geometry::not_above` meets its contract: what the halving knows at its end is how many entries are not above. Assumes nothing.
-use Prim.Native.Nat.{◌-◌}
 use Rattle.geometry.specs.Listed.{Halved}
 use Rattle.geometry.proofs.not_above.Given as goal
 

@@ -1,5 +1,4 @@
 -- `lines::line_end` meets its contract. The invariant: the line that begins at `at` ends where one that begins at `i` does. Assumes nothing.
-use Prim.Native.Nat.{◌-◌}
 use mathlib.Core.Path.{refl, sym, ◌∙◌}
 use native.Mathlib.Numerals.{add-one}
 use Rattle.lines.specs.Lines.{end_out, end_here, end_later}

@@ -1,5 +1,4 @@
 -- `playback::few_reads` meets its contract. The invariant: all are reads where those from `i` on are. Assumes nothing.
-use Prim.Native.Nat.{◌-◌}
 use mathlib.Core.Path.{sym, ap, ◌∙◌}
 use native.Mathlib.Numerals.{add-one}
 use native.Mathlib.Omega.{arith}

@@ -1,6 +1,5 @@
 -- `playback::refuse` meets its contract. The invariant: of every device that is refused so, the first i numbers have been played. Assumes nothing.
 use mathlib.Core.Path.{◌≡◌, refl, sym, ◌∙◌}
-use Prim.Native.Nat.{◌-◌}
 use native.Mathlib.Omega.{arith}
 use native.Mathlib.Numerals.{add-one}
 use lib.ListN.{length-set}

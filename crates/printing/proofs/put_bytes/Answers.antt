@@ -1,5 +1,5 @@
 -- `printing::put_bytes` meets its contract. The invariant: the bytes before `i` are put. Assumes nothing.
-use Prim.Native.Nat.{ℕ, ◌-◌}
+use Prim.Native.Nat.{ℕ}
 use mathlib.Core.Path.{ap, ◌∙◌}
 use native.Mathlib.Numerals.{add-one}
 use lib.ListN.{length}

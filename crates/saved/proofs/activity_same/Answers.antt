@@ -2,7 +2,6 @@
 -- nothing.
 use mathlib.Core.Bool.{true, false}
 use mathlib.Core.Path.{refl, sym, ap, ◌∙◌}
-use borrow.Author.Tests.{not-true, not-false}
 use Rattle.saved.specs.Saved.{holds}
 use Rattle.saved.specs.Ranges.{same_by}
 use Rattle.saved.proofs.activity_same.Goals as goal

@@ -1,6 +1,5 @@
 -- `saved::buffer_of` meets its contract. The invariant: the words of the buffer that the first `j` words hold are
 -- taken. Assumes nothing.
-use Prim.Native.Nat.{◌-◌}
 use mathlib.Core.Path.{◌≡◌, refl, ◌∙◌}
 use native.Mathlib.Omega.{arith}
 use borrow.Author.Rules.{rules}

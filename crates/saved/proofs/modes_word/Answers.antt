@@ -4,7 +4,6 @@ use mathlib.Core.Path.{◌≡◌, refl}
 use native.Mathlib.Omega.{arith}
 use borrow.Author.Rules.{rules}
 use Rattle.semantics.specs.Tabulate.{tabulate}
-use Rattle.saved.specs.Saved.{bank_number}
 use Rattle.saved.specs.Laws.{modes_small, modes_next}
 use Rattle.saved.proofs.modes_word.Goals as goal
 

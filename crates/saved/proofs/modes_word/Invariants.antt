@@ -1,5 +1,5 @@
 -- `saved::modes_word` meets its contract. The invariant: the bytes from `i` on are joined. Assumes nothing.
-use Prim.Native.Nat.{◌≤◌, ◌+◌, ◌-◌}
+use Prim.Native.Nat.{◌≤◌, ◌+◌}
 use mathlib.Core.Path.{◌≡◌}
 use lib.ListN.{get_or, drop}
 use Rattle.semantics.specs.declared.Mode.TheVariants.{Array}

@@ -1,5 +1,4 @@
 -- `saved::put_buffer` meets its contract. The invariant: the first `j` words of the buffer are stored. Assumes nothing.
-use Prim.Native.Nat.{◌-◌}
 use mathlib.Core.Path.{◌≡◌, refl, ◌∙◌}
 use native.Mathlib.Omega.{arith}
 use lib.ListN.{length-set}

@@ -1,6 +1,6 @@
 -- `saved::rest_in_range` meets its contract: by the tests that led to each return. Assumes nothing.
 use mathlib.Core.Path.{sym, ◌∙◌}
-use borrow.Author.Tests.{eq-eqb, ne_eqb, lt-ltb, le-ltb, not-true, not-false}
+use borrow.Author.Tests.{eq-eqb, ne_eqb, lt-ltb, le-ltb}
 use Rattle.saved.specs.Saved.{rest_in_range}
 use Rattle.saved.proofs.rest_in_range.Goals as goal
 

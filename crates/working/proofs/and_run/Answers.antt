@@ -1,5 +1,5 @@
 -- `working::and_run` meets its contract. The invariant: the words from `from` to below `at` are anded in, and `at` has not passed the end. Assumes nothing.
-use Prim.Native.Nat.{◌<◌, ◌-◌}
+use Prim.Native.Nat.{◌<◌}
 use mathlib.Core.Path.{ap, ◌∙◌}
 use native.Mathlib.Omega.{arith}
 use lib.ListN.{length}

@@ -1,5 +1,4 @@
 -- `working::fill` meets its contract. The invariant: the words from `from` to below `i` are filled, and `i` has not passed the end. Assumes nothing.
-use Prim.Native.Nat.{◌-◌}
 use mathlib.Core.Path.{refl, ◌∙◌}
 use native.Mathlib.Omega.{arith}
 use lib.ListN.{length-set}
