@@ -1,5 +1,4 @@
 -- The modules of the specification.
 pub mod Script
 pub mod Laws
-pub mod Fits
 pub mod Cases

@@ -1,6 +1,6 @@
 -- `script::play_at` meets its contract: what is taken at the place is a part of the script, and is played. Assumes nothing.
 use Rattle.lines.specs.Lines.{taken_within}
-use Rattle.script.specs.Laws.{played_at}
+use Rattle.script.proofs.Laws.{played_at}
 use Rattle.script.proofs.play_at.Goals as goal
 
 pub slice_bounds-play_line-count : goal.slice_bounds-play_line-count

@@ -1,7 +1,7 @@
 -- `script::play_line` meets its contract: a line with a step, and a line with none.
 use Rattle.std.proofs.Common.{◌∙◌, ℕ, sym, ap}
 use Rattle.semantics.specs.Split.{first_refusal}
-use Rattle.script.specs.Laws.{line_made, line_refused}
+use Rattle.script.proofs.Laws.{line_made, line_refused}
 use Rattle.script.proofs.play_line.Goals as goal
 
 pub returns-in-Valid : goal.returns-in-Valid

@@ -1,7 +1,7 @@
 -- `script::play_lines` meets its contract: a turn of the loop plays the line at the reader's place, and goes on after it.
 use Rattle.std.proofs.Common.{◌≡◌, ◌<◌, refl, ap, ℕ, length, arith}
 use Rattle.lines.specs.Lines.{next_later}
-use Rattle.script.specs.Laws.{sofar_none, sofar_next, sofar_end}
+use Rattle.script.proofs.Laws.{sofar_none, sofar_next, sofar_end}
 use Rattle.script.proofs.play_lines.Goals as goal
 
 pub loop-reader-init : goal.loop-reader-init

@@ -3,8 +3,8 @@ use mathlib.Core.Path.{ap}
 use native.Mathlib.Omega.{arith}
 use lib.ListN.{length}
 use Rattle.device.specs.declared.Device.{Device}
-use Rattle.script.specs.Laws.{script_short}
-use Rattle.script.specs.Fits.{transcribed}
+use Rattle.script.proofs.Laws.{script_short}
+use Rattle.script.proofs.Fits.{transcribed}
 use borrow.Author.Rules.{rules}
 use Rattle.script.proofs.play_text.Goals as goal
 

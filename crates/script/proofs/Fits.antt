@@ -29,7 +29,7 @@ use Rattle.printing.specs.Room.{Put, placed_length, put_whole, put_counted}
 use Rattle.script.specs.declared.Progress.{Progress}
 use Rattle.lines.specs.Lines.{front, lines}
 use Rattle.script.specs.Script.{script_of, line_refusal, answer_of, machine_after, spoken, steps_of_script, machine_at_end, transcript_of, LinesPlayed, Transcribed}
-use Rattle.script.specs.Laws.{script_short, journaled, worn, ended, at_end}
+use Rattle.script.proofs.Laws.{script_short, journaled, worn, ended, at_end}
 
 -- ---- a refusal has one digit
 

@@ -1,0 +1,3 @@
+-- The lemmas.
+pub mod Laws
+pub mod Fits
