@@ -1,3 +1,4 @@
 -- The lemmas.
 pub mod Laws
 pub mod Fits
+pub mod Reborrow
