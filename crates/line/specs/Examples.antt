@@ -1,12 +1,10 @@
 -- Lines and their steps, and of each place of a line of each form the bytes that may stand there, each as one table
 -- under one statement: the checker computes each through the definitions. A wrong entry is refused.
 -- Assumes nothing.
-use Rattle.std.specs.Prelude.{ℕ, Bool, true, false, ◌&&◌, List, [], ◌∷◌, ◌≡◌, refl, T, set}
+use Rattle.std.specs.Prelude.{ℕ, Bool, true, false, ◌&&◌, List, [], ◌∷◌, ◌≡◌, refl, T, set, Option, Some, None}
 use Prim.Native.Char.{code}
 use Prim.Native.String.{String, [] as none, ◌∷◌ as first}
 use Rattle.semantics.specs.declared.Step.TheVariants.{Read, Write, Work, Supply, Reset}
-use Rattle.semantics.specs.declared.Decoded.{Decoded}
-use Rattle.semantics.specs.declared.Decoded.TheVariants.{Valid, Invalid}
 use Rattle.semantics.specs.Exactly.{exactly}
 use Rattle.line.specs.Forms.{hex_value, digits, number, begins, is_read, is_write, is_work, is_supply, is_reset}
 use Rattle.line.specs.Forms.{step_of_line}
@@ -14,119 +12,119 @@ use Rattle.line.specs.Forms.{step_of_line}
 infix 20 ◌⟶◌
 -- a line, and its step
 pub data Example : Type 0 where
-  ◌⟶◌ : String → Decoded → Example
+  ◌⟶◌ : String → Option Step → Example
 
 -- the bytes of a text: one for each character, since these texts are ASCII
 abbrev pub bytes : String → List ℕ
 bytes none = []
 bytes (first c s) = code c ∷ bytes s
 
-abbrev pub steps : List Example → List Decoded
+abbrev pub steps : List Example → List (Option Step)
 steps [] = []
 steps ((line ⟶ d) ∷ l) = step_of_line (bytes line) ∷ steps l
 
-abbrev pub expected : List Example → List Decoded
+abbrev pub expected : List Example → List (Option Step)
 expected [] = []
 expected ((line ⟶ d) ∷ l) = d ∷ expected l
 
 abbrev pub examples : List Example
 examples =
     -- the script of document 01, each line once
-    ("V 1" ⟶ Valid (Supply true))
-    ∷ ("W 000040 0060" ⟶ Valid (Write 0x40 0x60))
-    ∷ ("W 000040 00D0" ⟶ Valid (Write 0x40 0xD0))
-    ∷ ("W 000041 0040" ⟶ Valid (Write 0x41 0x40))
-    ∷ ("W 000041 1234" ⟶ Valid (Write 0x41 0x1234))
-    ∷ ("R 000041" ⟶ Valid (Read 0x41))
-    ∷ ("K 5" ⟶ Valid (Work 5))
-    ∷ ("W 000000 00FF" ⟶ Valid (Write 0 0xFF))
-    ∷ ("R 004041" ⟶ Valid (Read 0x4041))
-    ∷ ("K 99999" ⟶ Valid (Work 99999))
+    ("V 1" ⟶ Some (Supply true))
+    ∷ ("W 000040 0060" ⟶ Some (Write 0x40 0x60))
+    ∷ ("W 000040 00D0" ⟶ Some (Write 0x40 0xD0))
+    ∷ ("W 000041 0040" ⟶ Some (Write 0x41 0x40))
+    ∷ ("W 000041 1234" ⟶ Some (Write 0x41 0x1234))
+    ∷ ("R 000041" ⟶ Some (Read 0x41))
+    ∷ ("K 5" ⟶ Some (Work 5))
+    ∷ ("W 000000 00FF" ⟶ Some (Write 0 0xFF))
+    ∷ ("R 004041" ⟶ Some (Read 0x4041))
+    ∷ ("K 99999" ⟶ Some (Work 99999))
     -- the other forms
-    ∷ ("V 0" ⟶ Valid (Supply false))
-    ∷ ("Z" ⟶ Valid Reset)
-    ∷ ("K 0" ⟶ Valid (Work 0))
-    ∷ ("W FFFFFF ABCD" ⟶ Valid (Write 0xFFFFFF 0xABCD))
+    ∷ ("V 0" ⟶ Some (Supply false))
+    ∷ ("Z" ⟶ Some Reset)
+    ∷ ("K 0" ⟶ Some (Work 0))
+    ∷ ("W FFFFFF ABCD" ⟶ Some (Write 0xFFFFFF 0xABCD))
     -- each digit, and each place of a number: the highest digit first
-    ∷ ("R 012345" ⟶ Valid (Read 0x012345))
-    ∷ ("R 6789AB" ⟶ Valid (Read 0x6789AB))
-    ∷ ("R CDEF01" ⟶ Valid (Read 0xCDEF01))
-    ∷ ("W FEDCBA 9876" ⟶ Valid (Write 0xFEDCBA 0x9876))
-    ∷ ("W 543210 F00D" ⟶ Valid (Write 0x543210 0xF00D))
-    ∷ ("W 000000 0000" ⟶ Valid (Write 0 0))
-    ∷ ("K 1" ⟶ Valid (Work 1))
-    ∷ ("K 10" ⟶ Valid (Work 10))
-    ∷ ("K 234" ⟶ Valid (Work 234))
-    ∷ ("K 5678" ⟶ Valid (Work 5678))
-    ∷ ("K 90123" ⟶ Valid (Work 90123))
-    ∷ ("K 65535" ⟶ Valid (Work 65535))
-    ∷ ("K 65536" ⟶ Valid (Work 65536))
+    ∷ ("R 012345" ⟶ Some (Read 0x012345))
+    ∷ ("R 6789AB" ⟶ Some (Read 0x6789AB))
+    ∷ ("R CDEF01" ⟶ Some (Read 0xCDEF01))
+    ∷ ("W FEDCBA 9876" ⟶ Some (Write 0xFEDCBA 0x9876))
+    ∷ ("W 543210 F00D" ⟶ Some (Write 0x543210 0xF00D))
+    ∷ ("W 000000 0000" ⟶ Some (Write 0 0))
+    ∷ ("K 1" ⟶ Some (Work 1))
+    ∷ ("K 10" ⟶ Some (Work 10))
+    ∷ ("K 234" ⟶ Some (Work 234))
+    ∷ ("K 5678" ⟶ Some (Work 5678))
+    ∷ ("K 90123" ⟶ Some (Work 90123))
+    ∷ ("K 65535" ⟶ Some (Work 65535))
+    ∷ ("K 65536" ⟶ Some (Work 65536))
     -- near misses
-    ∷ ("R 00004a" ⟶ Invalid)
-    ∷ ("r 000041" ⟶ Invalid)
-    ∷ ("R  000041" ⟶ Invalid)
-    ∷ ("R 00041" ⟶ Invalid)
-    ∷ ("R" ⟶ Invalid)
-    ∷ ("W 000041  1234" ⟶ Invalid)
-    ∷ ("W 000041 01234" ⟶ Invalid)
-    ∷ ("K 05" ⟶ Invalid)
-    ∷ ("K 00" ⟶ Invalid)
-    ∷ ("K 100000" ⟶ Invalid)
-    ∷ ("K A" ⟶ Invalid)
-    ∷ ("V 2" ⟶ Invalid)
-    ∷ ("Z " ⟶ Invalid)
-    ∷ ("V 1\r" ⟶ Invalid)
-    ∷ ("" ⟶ Invalid)
+    ∷ ("R 00004a" ⟶ None)
+    ∷ ("r 000041" ⟶ None)
+    ∷ ("R  000041" ⟶ None)
+    ∷ ("R 00041" ⟶ None)
+    ∷ ("R" ⟶ None)
+    ∷ ("W 000041  1234" ⟶ None)
+    ∷ ("W 000041 01234" ⟶ None)
+    ∷ ("K 05" ⟶ None)
+    ∷ ("K 00" ⟶ None)
+    ∷ ("K 100000" ⟶ None)
+    ∷ ("K A" ⟶ None)
+    ∷ ("V 2" ⟶ None)
+    ∷ ("Z " ⟶ None)
+    ∷ ("V 1\r" ⟶ None)
+    ∷ ("" ⟶ None)
     -- a form with a digit less or more, with none, and with two forms' parts
-    ∷ ("R " ⟶ Invalid)
-    ∷ ("R 0000041" ⟶ Invalid)
-    ∷ ("R 000041 1234" ⟶ Invalid)
-    ∷ ("R000041" ⟶ Invalid)
-    ∷ ("W 000041" ⟶ Invalid)
-    ∷ ("W 000041 " ⟶ Invalid)
-    ∷ ("W 000041 123" ⟶ Invalid)
-    ∷ ("W 000041 12345" ⟶ Invalid)
-    ∷ ("W 00041 1234" ⟶ Invalid)
-    ∷ ("W 0000041 1234" ⟶ Invalid)
-    ∷ ("W 0000411234" ⟶ Invalid)
-    ∷ ("K" ⟶ Invalid)
-    ∷ ("K " ⟶ Invalid)
-    ∷ ("K5" ⟶ Invalid)
-    ∷ ("K 01" ⟶ Invalid)
-    ∷ ("K 00000" ⟶ Invalid)
-    ∷ ("K 000000" ⟶ Invalid)
-    ∷ ("K 123456" ⟶ Invalid)
-    ∷ ("V" ⟶ Invalid)
-    ∷ ("V " ⟶ Invalid)
-    ∷ ("V1" ⟶ Invalid)
-    ∷ ("V 01" ⟶ Invalid)
-    ∷ ("V 10" ⟶ Invalid)
-    ∷ ("ZZ" ⟶ Invalid)
-    ∷ ("Z 0" ⟶ Invalid)
-    ∷ (" Z" ⟶ Invalid)
-    ∷ (" R 000041" ⟶ Invalid)
+    ∷ ("R " ⟶ None)
+    ∷ ("R 0000041" ⟶ None)
+    ∷ ("R 000041 1234" ⟶ None)
+    ∷ ("R000041" ⟶ None)
+    ∷ ("W 000041" ⟶ None)
+    ∷ ("W 000041 " ⟶ None)
+    ∷ ("W 000041 123" ⟶ None)
+    ∷ ("W 000041 12345" ⟶ None)
+    ∷ ("W 00041 1234" ⟶ None)
+    ∷ ("W 0000041 1234" ⟶ None)
+    ∷ ("W 0000411234" ⟶ None)
+    ∷ ("K" ⟶ None)
+    ∷ ("K " ⟶ None)
+    ∷ ("K5" ⟶ None)
+    ∷ ("K 01" ⟶ None)
+    ∷ ("K 00000" ⟶ None)
+    ∷ ("K 000000" ⟶ None)
+    ∷ ("K 123456" ⟶ None)
+    ∷ ("V" ⟶ None)
+    ∷ ("V " ⟶ None)
+    ∷ ("V1" ⟶ None)
+    ∷ ("V 01" ⟶ None)
+    ∷ ("V 10" ⟶ None)
+    ∷ ("ZZ" ⟶ None)
+    ∷ ("Z 0" ⟶ None)
+    ∷ (" Z" ⟶ None)
+    ∷ (" R 000041" ⟶ None)
     -- a space or a CR at the end of each
-    ∷ ("R 000041 " ⟶ Invalid)
-    ∷ ("W 000041 1234 " ⟶ Invalid)
-    ∷ ("K 5 " ⟶ Invalid)
-    ∷ ("V 1 " ⟶ Invalid)
-    ∷ ("R 000041\r" ⟶ Invalid)
-    ∷ ("W 000041 1234\r" ⟶ Invalid)
-    ∷ ("K 5\r" ⟶ Invalid)
-    ∷ ("Z\r" ⟶ Invalid)
+    ∷ ("R 000041 " ⟶ None)
+    ∷ ("W 000041 1234 " ⟶ None)
+    ∷ ("K 5 " ⟶ None)
+    ∷ ("V 1 " ⟶ None)
+    ∷ ("R 000041\r" ⟶ None)
+    ∷ ("W 000041 1234\r" ⟶ None)
+    ∷ ("K 5\r" ⟶ None)
+    ∷ ("Z\r" ⟶ None)
     -- "A line over 16 bytes": of 16, 17 and more, that begin as a form does, and in blanks
-    ∷ ("W 000041 1234 00" ⟶ Invalid)
-    ∷ ("W 000041 1234 000" ⟶ Invalid)
-    ∷ ("R 00004100000000" ⟶ Invalid)
-    ∷ ("R 000041000000000" ⟶ Invalid)
-    ∷ ("K 55555555555555" ⟶ Invalid)
-    ∷ ("K 555555555555555" ⟶ Invalid)
-    ∷ ("V 11111111111111" ⟶ Invalid)
-    ∷ ("V 111111111111111" ⟶ Invalid)
-    ∷ ("ZZZZZZZZZZZZZZZZ" ⟶ Invalid)
-    ∷ ("ZZZZZZZZZZZZZZZZZ" ⟶ Invalid)
-    ∷ ("V 1              " ⟶ Invalid)
-    ∷ ("Z                  " ⟶ Invalid)
+    ∷ ("W 000041 1234 00" ⟶ None)
+    ∷ ("W 000041 1234 000" ⟶ None)
+    ∷ ("R 00004100000000" ⟶ None)
+    ∷ ("R 000041000000000" ⟶ None)
+    ∷ ("K 55555555555555" ⟶ None)
+    ∷ ("K 555555555555555" ⟶ None)
+    ∷ ("V 11111111111111" ⟶ None)
+    ∷ ("V 111111111111111" ⟶ None)
+    ∷ ("ZZZZZZZZZZZZZZZZ" ⟶ None)
+    ∷ ("ZZZZZZZZZZZZZZZZZ" ⟶ None)
+    ∷ ("V 1              " ⟶ None)
+    ∷ ("Z                  " ⟶ None)
     ∷ []
 
 pub examples_hold : steps examples ≡ expected examples
@@ -140,9 +138,9 @@ examples_hold = refl
 pub data Place : Type 0 where
   place : String → ℕ → String → Place
 
-abbrev pub is_form : Decoded → Bool
-is_form (Valid x) = true
-is_form Invalid = false
+abbrev pub is_form : Option Step → Bool
+is_form (Some x) = true
+is_form None = false
 
 abbrev pub every : List Place → Bool
 every [] = true

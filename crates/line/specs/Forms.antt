@@ -2,10 +2,8 @@
 -- without the LF that ends it.
 -- A place past the end of the line reads 0, which stands in no form. Definitions only; the laws are in Laws.
 -- Assumes nothing.
-use Rattle.std.specs.Prelude.{ℕ, zero, suc, ◌+◌, ◌-◌, ◌*◌, Bool, true, not, cond, ◌&&◌, ◌||◌, List, eqb, ltb, leb, length, get_or}
+use Rattle.std.specs.Prelude.{ℕ, zero, suc, ◌+◌, ◌-◌, ◌*◌, Bool, true, not, cond, ◌&&◌, ◌||◌, List, eqb, ltb, leb, length, get_or, Option, Some, None}
 use Rattle.semantics.specs.declared.Step.TheVariants.{Read, Write, Work, Supply, Reset}
-use Rattle.semantics.specs.declared.Decoded.{Decoded}
-use Rattle.semantics.specs.declared.Decoded.TheVariants.{Valid, Invalid}
 
 -- ---- digits
 
@@ -64,12 +62,12 @@ is_supply xs = eqb (length xs) 3 && (begins xs 86 && (eqb (get_or xs 2 0) 48 || 
 unfoldable pub is_reset : List ℕ → Bool
 is_reset xs = eqb (length xs) 1 && eqb (get_or xs 0 0) 90
 
--- the step of the form that the line has; Invalid for a line of no form, which is refused 6
-unfoldable pub step_of_line : List ℕ → Decoded
+-- the step of the form that the line has; None for a line of no form, which is refused 6
+unfoldable pub step_of_line : List ℕ → Option Step
 step_of_line xs =
-    cond (is_read xs) (Valid (Read (hex_number xs 2 6)))
-    (cond (is_write xs) (Valid (Write (hex_number xs 2 6) (hex_number xs 9 4)))
-    (cond (is_work xs) (Valid (Work (decimal_number xs 2 (length xs - 2))))
-    (cond (is_supply xs) (Valid (Supply (eqb (get_or xs 2 0) 49)))
-    (cond (is_reset xs) (Valid Reset)
-    Invalid))))
+    cond (is_read xs) (Some (Read (hex_number xs 2 6)))
+    (cond (is_write xs) (Some (Write (hex_number xs 2 6) (hex_number xs 9 4)))
+    (cond (is_work xs) (Some (Work (decimal_number xs 2 (length xs - 2))))
+    (cond (is_supply xs) (Some (Supply (eqb (get_or xs 2 0) 49)))
+    (cond (is_reset xs) (Some Reset)
+    None))))

@@ -1,13 +1,11 @@
 -- Laws of a script's lines: which are of no form for their length, and how large the numbers of a step are.
 -- Assumes nothing.
-use Rattle.std.specs.Prelude.{ℕ, zero, suc, ◌+◌, ◌-◌, ◌^◌, ◌<◌, ◌≤◌, Bool, true, false, ◌&&◌, List, [], ◌≡◌, refl, eqb, leb, length, get_or}
+use Rattle.std.specs.Prelude.{ℕ, zero, suc, ◌+◌, ◌-◌, ◌^◌, ◌<◌, ◌≤◌, Bool, true, false, ◌&&◌, List, [], ◌≡◌, refl, eqb, leb, length, get_or, Option, Some, None}
 use Rattle.std.proofs.Common.{true≢false, sym, subst, suc-mul, mul-le-mul_right, pow-suc, lt_of_lt_of_le, arith, lit<}
 use Rattle.std.proofs.Math.Nat.{pow-le-pow_right, pow-zero}
 use borrow.Author.Tests.{ltb-true, leb-true, eqb-true}
 use Rattle.semantics.specs.declared.Step.{Step}
 use Rattle.semantics.specs.declared.Step.TheVariants.{Read, Write, Work, Supply, Reset}
-use Rattle.semantics.specs.declared.Decoded.{Decoded}
-use Rattle.semantics.specs.declared.Decoded.TheVariants.{Valid, Invalid}
 use Rattle.semantics.specs.Branches.{by_cond}
 use Rattle.line.specs.Forms.{hex_value, digits, number, hex_digits, hex_number, decimal_digits, decimal_number, begins}
 use Rattle.line.specs.Forms.{is_read, is_write, is_work, is_supply, is_reset, step_of_line}
@@ -81,11 +79,11 @@ module _ (xs : List ℕ) where
 
 -- ---- the step of a line
 
-abbrev NoStep : Decoded → Type 0
-NoStep d = d ≡ Invalid
+abbrev NoStep : Option Step → Type 0
+NoStep d = d ≡ None
 
 -- "A line over 16 bytes, or empty, is refused 6."
-pub long_invalid : (xs : List ℕ) → 16 < length xs → step_of_line xs ≡ Invalid
+pub long_invalid : (xs : List ℕ) → 16 < length xs → step_of_line xs ≡ None
 unfolding step_of_line
 long_invalid xs l =
     by_cond NoStep (is_read xs) _ _ (λ h. absurd (omega (arith, (read_parts xs h).0)))
@@ -95,7 +93,7 @@ long_invalid xs l =
     (λ _. by_cond NoStep (is_reset xs) _ _ (λ h. absurd (omega (arith, reset_length xs h)))
     (λ _. refl)))))
 
-pub empty_invalid : step_of_line [] ≡ Invalid
+pub empty_invalid : step_of_line [] ≡ None
 unfolding step_of_line is_read is_write is_work is_supply is_reset
 empty_invalid = refl
 
@@ -108,11 +106,11 @@ Bounded (Supply on) = Unit {0}
 Bounded Reset = Unit {0}
 
 -- the same of what a line stands for
-abbrev BoundedIf : Decoded → Type 0
-BoundedIf (Valid x) = Bounded x
-BoundedIf Invalid = Unit {0}
+abbrev BoundedIf : Option Step → Type 0
+BoundedIf (Some x) = Bounded x
+BoundedIf None = Unit {0}
 
-pub bounded : (xs : List ℕ) (x : Step) → step_of_line xs ≡ Valid x → Bounded x
+pub bounded : (xs : List ℕ) (x : Step) → step_of_line xs ≡ Some x → Bounded x
 unfolding step_of_line
 bounded xs x e =
     subst BoundedIf e

@@ -7,7 +7,7 @@ ghost use Rattle.std.specs.Prelude.{◌≡◌, ◌%◌, get_or};
 ghost use Rattle.line.specs.Forms.{hex_value, digits, number, begins, is_read, is_write, is_work, is_supply, is_reset};
 ghost use Rattle.line.specs.Forms.{step_of_line};
 
-use semantics::{Decoded, Step};
+use semantics::Step;
 
 // ---- digits
 
@@ -112,24 +112,24 @@ fn is_reset(line: &[u8]) -> bool
 }
 
 // The step of the line, or Invalid where the line has none of the forms.
-pub fn step_of_line(line: &[u8]) -> Decoded
+pub fn step_of_line(line: &[u8]) -> Option<Step>
     ensures { result ≡ step_of_line line.now }
 {
     if is_read(line) {
-        return Decoded::Valid(Step::Read(number(16, line, 2, 6)));
+        return Some(Step::Read(number(16, line, 2, 6)));
     }
     if is_write(line) {
         let address = number(16, line, 2, 6);
-        return Decoded::Valid(Step::Write(address, number(16, line, 9, 4) as u16));
+        return Some(Step::Write(address, number(16, line, 9, 4) as u16));
     }
     if is_work(line) {
-        return Decoded::Valid(Step::Work(number(10, line, 2, (line.len() - 2) as u32)));
+        return Some(Step::Work(number(10, line, 2, (line.len() - 2) as u32)));
     }
     if is_supply(line) {
-        return Decoded::Valid(Step::Supply(byte_at(line, 2) == b'1'));
+        return Some(Step::Supply(byte_at(line, 2) == b'1'));
     }
     if is_reset(line) {
-        return Decoded::Valid(Step::Reset);
+        return Some(Step::Reset);
     }
-    Decoded::Invalid
+    None
 }

@@ -1,5 +1,5 @@
 -- Laws of playing a list step by step. Assumes nothing.
-use Rattle.std.specs.Prelude.{ℕ, zero, suc, ◌+◌, ◌≤◌, ◌<◌, List, [], ◌∷◌, ◌++◌, ◌≡◌, Bool, length, get_or, take, set}
+use Rattle.std.specs.Prelude.{ℕ, zero, suc, ◌+◌, ◌≤◌, ◌<◌, List, [], ◌∷◌, ◌++◌, ◌≡◌, Bool, length, get_or, take, set, Option, Some, None}
 use Rattle.std.proofs.Math.Path.{refl}
 use Rattle.std.proofs.Common.{sym, ap, ◌∙◌, subst, arith, add-one, length-set, ne_eqb}
 use Rattle.std.proofs.Math.Seq.{take-length}
@@ -15,8 +15,6 @@ use Rattle.semantics.specs.declared.Answer.{Answer}
 use Rattle.semantics.specs.declared.Answer.TheVariants.{Word, Units, Done, Refused}
 use Rattle.semantics.specs.declared.Step.TheVariants.{Read, Write, Work, Supply, Reset}
 use Rattle.semantics.specs.declared.Place.{Place}
-use Rattle.semantics.specs.declared.Decoded.{Decoded}
-use Rattle.semantics.specs.declared.Decoded.TheVariants.{Valid, Invalid}
 use Rattle.semantics.specs.Split.{first_refusal}
 use Rattle.semantics.specs.Steps.{switched_to, Machine}
 use Rattle.semantics.specs.Supply.{switched}
@@ -60,7 +58,7 @@ answers_length (x ∷ l) m = ap suc (answers_length l (after_with m x))
 -- ---- which steps are played
 
 -- a number that encodes a step is played, where all before it were and there is room
-pub playable_next : (codes : List ℕ) (n i : ℕ) (x : Step) → i ≤ length (playable codes n) → i < length codes → i < n → decode (get_or codes i 0) ≡ Valid x
+pub playable_next : (codes : List ℕ) (n i : ℕ) (x : Step) → i ≤ length (playable codes n) → i < length codes → i < n → decode (get_or codes i 0) ≡ Some x
     → (take (suc i) (playable codes n) ≡ take i (playable codes n) ++ (x ∷ [])) × (suc i ≤ length (playable codes n))
 unfolding playable
 playable_next [] n i x h p q e = absurd (omega arith)
@@ -68,23 +66,23 @@ playable_next (c ∷ l) zero i x h p q e = absurd (omega arith)
 playable_next (c ∷ l) (suc n) zero x h p q e = rw e (refl, omega arith)
 playable_next (c ∷ l) (suc n) (suc i) x h p q e = go (decode c) h (λ k. playable_next l n i x k (omega arith) (omega arith) e)
   where
-    go : (y : Decoded) → suc i ≤ length (go_on y (λ z. z ∷ playable l n))
+    go : (y : Option Step) → suc i ≤ length (go_on y (λ z. z ∷ playable l n))
         → (i ≤ length (playable l n) → (take (suc i) (playable l n) ≡ take i (playable l n) ++ (x ∷ [])) × (suc i ≤ length (playable l n)))
         → (take (suc (suc i)) (go_on y (λ z. z ∷ playable l n)) ≡ take (suc i) (go_on y (λ z. z ∷ playable l n)) ++ (x ∷ [])) × (suc (suc i) ≤ length (go_on y (λ z. z ∷ playable l n)))
-    go Invalid k f = absurd (omega arith)
-    go (Valid z) k f = let r = f (omega arith) in (ap (λ (t : List Step). z ∷ t) r.0, omega (arith, r.1))
+    go None k f = absurd (omega arith)
+    go (Some z) k f = let r = f (omega arith) in (ap (λ (t : List Step). z ∷ t) r.0, omega (arith, r.1))
 
 -- and it is the end where it encodes none, or nothing is left, or no room
-pub playable_stop : (codes : List ℕ) (n i : ℕ) → i ≤ length (playable codes n) → (i < length codes → i < n → decode (get_or codes i 0) ≡ Invalid) → length (playable codes n) ≡ i
+pub playable_stop : (codes : List ℕ) (n i : ℕ) → i ≤ length (playable codes n) → (i < length codes → i < n → decode (get_or codes i 0) ≡ None) → length (playable codes n) ≡ i
 unfolding playable
 playable_stop [] n i h e = omega arith
 playable_stop (c ∷ l) zero i h e = omega arith
 playable_stop (c ∷ l) (suc n) zero h e = rw (e (omega arith) (omega arith))
 playable_stop (c ∷ l) (suc n) (suc i) h e = go (decode c) h (λ k. playable_stop l n i k (λ p q. e (omega arith) (omega arith)))
   where
-    go : (y : Decoded) → suc i ≤ length (go_on y (λ z. z ∷ playable l n)) → (i ≤ length (playable l n) → length (playable l n) ≡ i) → length (go_on y (λ z. z ∷ playable l n)) ≡ suc i
-    go Invalid k f = absurd (omega arith)
-    go (Valid z) k f = ap suc (f (omega arith))
+    go : (y : Option Step) → suc i ≤ length (go_on y (λ z. z ∷ playable l n)) → (i ≤ length (playable l n) → length (playable l n) ≡ i) → length (go_on y (λ z. z ∷ playable l n)) ≡ suc i
+    go None k f = absurd (omega arith)
+    go (Some z) k f = ap suc (f (omega arith))
 
 -- ---- the room
 
@@ -116,7 +114,7 @@ length_take_le (x ∷ l) (suc i) h = ap suc (length_take_le l i (omega arith))
 
 -- one number more: the step that it encodes was played on the device with its counts and the array, and its answer written at place i
 pub sofar_next : (d₀ : Device) (k₀ : Counts) (codes room xs : List ℕ) (i : ℕ) (d : Device) (k : Counts) (answers array : List ℕ) (x : Step) (o : Outcome) (array' : List ℕ) (k' : Counts)
-    → Sofar d₀ k₀ codes room xs i d k answers array → i < length codes → i < length room → decode (get_or codes i 0) ≡ Valid x → o ≡ outcome d k array x → array' ≡ array_out d k array x
+    → Sofar d₀ k₀ codes room xs i d k answers array → i < length codes → i < length room → decode (get_or codes i 0) ≡ Some x → o ≡ outcome d k array x → array' ≡ array_out d k array x
     → k' ≡ counts_out d k array x → Sofar d₀ k₀ codes room xs (suc i) o.device k' (set answers i (answer_code o.answer)) array'
 sofar_next d₀ k₀ codes room xs i d k answers array x o array' k' s p q e f h w =
     let l : List Step = playable codes (length room) in
@@ -158,7 +156,7 @@ counts_journaled m l p xs₀ l₀ h e =
 
 -- nothing more is played: the end
 pub sofar_end : (d₀ : Device) (k₀ : Counts) (codes room xs : List ℕ) (i : ℕ) (d : Device) (k : Counts) (answers array : List ℕ) → Sofar d₀ k₀ codes room xs i d k answers array
-    → (i < length codes → i < length room → decode (get_or codes i 0) ≡ Invalid) → Played d₀ k₀ codes room xs (record { played = i; device = d }) k answers array
+    → (i < length codes → i < length room → decode (get_or codes i 0) ≡ None) → Played d₀ k₀ codes room xs (record { played = i; device = d }) k answers array
 sofar_end d₀ k₀ codes room xs i d k answers array s e =
     let l : List Step = playable codes (length room) in
     let m₀ : Counted = machine_of d₀ k₀ xs in
@@ -197,7 +195,7 @@ going_none c s k codes room xs r = record { sofar = sofar_none (holding s) k cod
 
 -- the state t, the answer a, the array ys and the counts l are what the step that a number encodes makes of the state with its counts and the array
 abbrev pub Plays : State → Counts → List ℕ → ℕ → State → Answer → List ℕ → Counts → Type 0
-Plays s k xs code t a ys l = (x : Step) × ((decode code ≡ Valid x) × Does s k xs x t a ys l)
+Plays s k xs code t a ys l = (x : Step) × ((decode code ≡ Some x) × Does s k xs x t a ys l)
 
 -- one number more
 pub going_on : (c : ℕ) (s₀ : State) (k₀ : Counts) (codes room xs : List ℕ) (i : ℕ) (s : State) (k : Counts) (answers array : List ℕ) (t : State) (a : Answer) (ys : List ℕ) (l : Counts)
@@ -218,7 +216,7 @@ pub going_turn : (c : ℕ) (s₀ : State) (k₀ : Counts) (codes room xs : List 
 going_turn c s₀ k₀ codes room xs i s k answers array t a ys l r e g p q f = rw (add-one, e) (going_on c s₀ k₀ codes room xs i s k answers array t a ys l g p q f)
 
 -- a number that encodes a step, on a device that is refused whatever the step is
-pub all_refused : (c : ℕ) (g : Geometry) (code : ℕ) (x : Step) → decode code ≡ Valid x → (c ≡ 0 → ⊥) → Means c g code (task.Refused c)
+pub all_refused : (c : ℕ) (g : Geometry) (code : ℕ) (x : Step) → decode code ≡ Some x → (c ≡ 0 → ⊥) → Means c g code (task.Refused c)
 unfolding first_refusal
 all_refused c g code x e h = (x, (e, rw (ne_eqb c 0 h), h))
 

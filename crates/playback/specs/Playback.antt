@@ -1,13 +1,11 @@
 -- What it is to play a list of encoded steps on a device, its counts and an array: which steps are played, the answers that are written, and what holds of the device
 -- and of the array afterwards, demand 3 among it. Definitions only; the laws are in Laws.
 -- Assumes nothing.
-use Rattle.std.specs.Prelude.{ℕ, zero, suc, ◌+◌, ◌*◌, true, List, [], ◌∷◌, ◌++◌, map, ◌≡◌, length, drop}
+use Rattle.std.specs.Prelude.{ℕ, zero, suc, ◌+◌, ◌*◌, true, List, [], ◌∷◌, ◌++◌, map, ◌≡◌, length, drop, Option, Some, None}
 use Rattle.geometry.specs.declared.Part.{Part}
 use Rattle.geometry.specs.Blocks.{geometry_of, words}
 use Rattle.semantics.specs.declared.Step.{Step}
 use Rattle.semantics.specs.declared.Answer.{Answer}
-use Rattle.semantics.specs.declared.Decoded.{Decoded}
-use Rattle.semantics.specs.declared.Decoded.TheVariants.{Valid, Invalid}
 use Rattle.semantics.specs.Steps.{number_of, value_of, after_all, fresh}
 use Rattle.semantics.specs.Encoding.{decode}
 use Rattle.semantics.specs.Demand.{Demand3}
@@ -18,9 +16,9 @@ use Rattle.device.specs.declared.Device.{Device}
 use Rattle.playback.specs.declared.RunEnd.{RunEnd}
 
 -- the list that goes on with a step, where a number encodes one, and ends where it does not
-abbrev pub go_on : Decoded → (Step → List Step) → List Step
-go_on (Valid x) f = f x
-go_on Invalid f = []
+abbrev pub go_on : Option Step → (Step → List Step) → List Step
+go_on (Some x) f = f x
+go_on None f = []
 
 -- the steps that are played of a list of numbers, with room for n answers: up to the first number that encodes no step, and no more than there is room for
 unfoldable pub playable : List ℕ → ℕ → List Step

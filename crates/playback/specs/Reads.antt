@@ -1,10 +1,9 @@
 -- Short lists of reads, and that they change nothing. Assumes nothing.
-use Rattle.std.specs.Prelude.{ℕ, zero, suc, ◌<◌, ◌/◌, ◌%◌, Bool, true, false, cond, ◌&&◌, List, [], ◌∷◌, ◌≡◌, refl, eqb, ltb, leb, length, get_or, drop}
+use Rattle.std.specs.Prelude.{ℕ, zero, suc, ◌<◌, ◌/◌, ◌%◌, Bool, true, false, cond, ◌&&◌, List, [], ◌∷◌, ◌≡◌, refl, eqb, ltb, leb, length, get_or, drop, Some}
 use Rattle.std.proofs.Common.{ap, ◌∙◌, arith, drop-cons, ltb-true}
 use Rattle.semantics.specs.declared.State.{State}
 use Rattle.semantics.specs.declared.Step.TheVariants.{Read}
 use Rattle.semantics.specs.declared.Answer.TheVariants.{Refused}
-use Rattle.semantics.specs.declared.Decoded.TheVariants.{Valid}
 use Rattle.semantics.specs.Encoding.{decoded_as, decode}
 use Rattle.semantics.specs.Steps.{next, accepted, accepted_array}
 use Rattle.semantics.proofs.Engine.{and_true_l, and_true_r}
@@ -27,7 +26,7 @@ few_reads l = leb (length l) 8 && all_reads l
 -- ---- laws
 
 -- a number below 2 ^ 32 encodes a read of that address
-decode_read : (c : ℕ) → is_read c ≡ true → decode c ≡ Valid (Read c)
+decode_read : (c : ℕ) → is_read c ≡ true → decode c ≡ Some (Read c)
 unfolding decode decoded_as
 decode_read c h =
     let i : c < 4294967296 = ltb-true c 4294967296 h in

@@ -1,5 +1,5 @@
 -- What a number asks of a list, and what that comes to: the step that the number encodes, and whether it is refused. Assumes nothing.
-use Rattle.std.specs.Prelude.{ℕ, Bool, cond, ◌≡◌}
+use Rattle.std.specs.Prelude.{ℕ, Bool, cond, ◌≡◌, Option, Some, None}
 use Rattle.std.proofs.Math.Bool.{true, false}
 use Rattle.std.proofs.Math.Path.{refl}
 use Rattle.std.proofs.Common.{sym, subst}
@@ -8,8 +8,6 @@ use borrow.Author.Tests.{eqb-true, eqb-false}
 use Rattle.geometry.specs.declared.Geometry.{Geometry}
 use Rattle.semantics.specs.declared.Step.{Step}
 use Rattle.semantics.specs.declared.Step.TheVariants.{Read, Write, Work, Supply, Reset}
-use Rattle.semantics.specs.declared.Decoded.{Decoded}
-use Rattle.semantics.specs.declared.Decoded.TheVariants.{Valid, Invalid}
 use Rattle.semantics.specs.View.{place_of}
 use Rattle.semantics.specs.Split.{step_refusal, first_refusal}
 use Rattle.semantics.specs.Encoding.{decode}
@@ -25,9 +23,9 @@ allowed g (Supply on) = task.Supply on
 allowed g Reset = task.Reset
 
 -- by what the number encodes, where c is what the state, its counts and the array are refused for
-abbrev pub task_by : ℕ → Geometry → Decoded → Task
-task_by c g (Valid x) = cond (eqb c 0) (cond (eqb (step_refusal g x) 0) (allowed g x) (task.Refused (step_refusal g x))) (task.Refused c)
-task_by c g Invalid = task.End
+abbrev pub task_by : ℕ → Geometry → Option Step → Task
+task_by c g (Some x) = cond (eqb c 0) (cond (eqb (step_refusal g x) 0) (allowed g x) (task.Refused (step_refusal g x))) (task.Refused c)
+task_by c g None = task.End
 
 abbrev pub task_of : ℕ → Geometry → ℕ → Task
 task_of c g code = task_by c g (decode code)
@@ -37,11 +35,11 @@ task_of c g code = task_by c g (decode code)
 module _ (c : ℕ) (g : Geometry) (code : ℕ) where
   -- the number encodes the step x, and it is not refused
   abbrev pub Asks : Step → Type 0
-  Asks x = (decode code ≡ Valid x) × (first_refusal c (step_refusal g x) ≡ 0)
+  Asks x = (decode code ≡ Some x) × (first_refusal c (step_refusal g x) ≡ 0)
 
   abbrev pub Means : Task → Type 0
-  Means task.End = decode code ≡ Invalid
-  Means (task.Refused e) = (x : Step) × ((decode code ≡ Valid x) × (first_refusal c (step_refusal g x) ≡ e) × (e ≡ 0 → ⊥))
+  Means task.End = decode code ≡ None
+  Means (task.Refused e) = (x : Step) × ((decode code ≡ Some x) × (first_refusal c (step_refusal g x) ≡ e) × (e ≡ 0 → ⊥))
   Means (task.Read a) = Asks (Read a)
   Means (task.Write p w) = (a : ℕ) × ((p ≡ place_of g a) × Asks (Write a w))
   Means (task.Work n) = Asks (Work n)
@@ -55,7 +53,7 @@ module _ (c : ℕ) (g : Geometry) (code : ℕ) where
   allowed_means (Supply on) h = h
   allowed_means Reset h = h
 
-  valid_means : (x : Step) → decode code ≡ Valid x → Means (task_by c g (Valid x))
+  valid_means : (x : Step) → decode code ≡ Some x → Means (task_by c g (Some x))
   unfolding first_refusal
   valid_means x q = go (eqb c 0) (eqb (step_refusal g x) 0) refl refl
     where
@@ -67,6 +65,6 @@ module _ (c : ℕ) (g : Geometry) (code : ℕ) where
   pub task_means : (t : Task) → t ≡ task_of c g code → Means t
   task_means t e = subst Means (sym e) (go (decode code) refl)
     where
-      go : (y : Decoded) → decode code ≡ y → Means (task_by c g y)
-      go (Valid x) q = valid_means x q
-      go Invalid q = q
+      go : (y : Option Step) → decode code ≡ y → Means (task_by c g y)
+      go (Some x) q = valid_means x q
+      go None q = q

@@ -18,7 +18,7 @@ ghost use Rattle.playback.specs.Reads.{few_reads};
 use device::Device;
 use geometry::Part;
 use semantics::{
-    Activity, Answer, Bank, Control, Decoded, Mode, Place, Running, Setup, State, Step, View,
+    Activity, Answer, Bank, Control, Mode, Place, Running, Setup, State, Step, View,
 };
 use working::Progress;
 use writing::Change;
@@ -43,37 +43,37 @@ pub enum Task {
 }
 
 // The step that a number encodes, if it encodes one. A read is its address, so it is told by one comparison.
-pub fn decoded(code: u64) -> Decoded
+pub fn decoded(code: u64) -> Option<Step>
     ensures { result ≡ decode code }
 {
     let kind = code / 281474976710656;
     let word = (code / 4294967296 % 65536) as u16;
     let operand = (code % 4294967296) as u32;
     if code < 4294967296 {
-        return Decoded::Valid(Step::Read(operand));
+        return Some(Step::Read(operand));
     }
     if kind == 1 {
-        return Decoded::Valid(Step::Write(operand, word));
+        return Some(Step::Write(operand, word));
     }
     if word != 0 {
-        return Decoded::Invalid;
+        return None;
     }
     if kind == 2 {
-        return Decoded::Valid(Step::Work(operand));
+        return Some(Step::Work(operand));
     }
     if kind == 3 {
         if operand < 2 {
-            return Decoded::Valid(Step::Supply(operand == 1));
+            return Some(Step::Supply(operand == 1));
         }
-        return Decoded::Invalid;
+        return None;
     }
     if kind == 4 {
         if operand == 0 {
-            return Decoded::Valid(Step::Reset);
+            return Some(Step::Reset);
         }
-        return Decoded::Invalid;
+        return None;
     }
-    Decoded::Invalid
+    None
 }
 
 // An answer as a number: document 01's refusal number in the upper half, the value in the lower.
@@ -105,7 +105,7 @@ fn allowed(part: Part, x: Step) -> Task
 fn task_of(refused: u32, part: Part, code: u64) -> Task
     ensures { result ≡ task_of refused (geometry_of part) code }
 {
-    let Decoded::Valid(x) = decoded(code) else {
+    let Some(x) = decoded(code) else {
         return Task::End;
     };
     if refused != 0 {
@@ -245,7 +245,7 @@ fn refuse(refused: u32, steps: &[u64], answers: &mut [u64]) -> usize
 {
     let n = working::least(steps.len(), answers.len());
     for i in 0..n {
-        let Decoded::Valid(x) = decoded(steps[i]) else {
+        let Some(x) = decoded(steps[i]) else {
             return i;
         };
         answers[i] = answer_code(Answer::Refused(refused));

@@ -1,6 +1,6 @@
 -- How long a transcript is at most: a room of 262,154 bytes holds every one. 16,384 lines of at most 16 bytes, and at most 10 bytes at the end.
 -- Assumes nothing.
-use Rattle.std.specs.Prelude.{ℕ, zero, suc, ◌+◌, ◌*◌, ◌<◌, ◌≤◌, min, Bool, true, false, cond, List, [], ◌∷◌, ◌≡◌, refl, eqb, length}
+use Rattle.std.specs.Prelude.{ℕ, zero, suc, ◌+◌, ◌*◌, ◌<◌, ◌≤◌, min, Bool, true, false, cond, List, [], ◌∷◌, ◌≡◌, refl, eqb, length, Option, Some, None}
 use Rattle.std.proofs.Common.{⊎_elim, sym, ap, subst, ◌∙◌, arith, length-append, eqb-true}
 use Rattle.std.proofs.Math.Dec.{eqb-suc-zero}
 use Rattle.geometry.specs.declared.Part.TheVariants.{BenchBottom}
@@ -9,8 +9,6 @@ use Rattle.semantics.specs.declared.State.{State}
 use Rattle.semantics.specs.declared.Step.{Step}
 use Rattle.semantics.specs.declared.Step.TheVariants.{Read, Write, Work, Supply, Reset}
 use Rattle.semantics.specs.declared.Answer.TheVariants.{Refused}
-use Rattle.semantics.specs.declared.Decoded.{Decoded}
-use Rattle.semantics.specs.declared.Decoded.TheVariants.{Valid, Invalid}
 use Rattle.semantics.specs.State.{geometry}
 use Rattle.semantics.specs.Reading.{read_word}
 use Rattle.semantics.specs.Working.{units_done}
@@ -91,9 +89,9 @@ step_short s k xs x = go (eqb (refusal_with s k (length xs) x) 0) refl
     go true e = accepted_short s k xs x (eqb-true (refusal_with s k (length xs) x) 0 e)
     go false e = refused_short (refusal_with s k (length xs) x) (refusal_below s k (length xs) x)
 
-answer_short : (m : Counted) (d : Decoded) → length (answer_text (answer_of m d)) ≤ 9
-answer_short m (Valid x) = step_short m.machine.state m.counts m.machine.array x
-answer_short m Invalid = refused_short (line_refusal m) (line_below m)
+answer_short : (m : Counted) (d : Option Step) → length (answer_text (answer_of m d)) ≤ 9
+answer_short m (Some x) = step_short m.machine.state m.counts m.machine.array x
+answer_short m None = refused_short (line_refusal m) (line_below m)
 
 -- ---- a transcript
 

@@ -1,6 +1,6 @@
 -- Laws of a script: its steps, its refused lines, and the loop that plays it line by line.
 -- Assumes nothing.
-use Rattle.std.specs.Prelude.{ℕ, suc, ◌+◌, ◌-◌, ◌<◌, ◌≤◌, ◌≡◌, refl, take}
+use Rattle.std.specs.Prelude.{ℕ, suc, ◌+◌, ◌-◌, ◌<◌, ◌≤◌, ◌≡◌, refl, take, Option, Some, None}
 use Rattle.std.proofs.Math.Bool.{true}
 use mathlib.Core.List.{List, [], ◌∷◌, ◌++◌, append_assoc, append-nil}
 use Rattle.std.proofs.Math.Path.{sym, ap, subst}
@@ -12,8 +12,6 @@ use Rattle.semantics.specs.declared.Step.{Step}
 use Rattle.semantics.specs.declared.Step.TheVariants.{Reset}
 use Rattle.semantics.specs.declared.Answer.TheVariants.{Refused}
 use Rattle.semantics.specs.declared.Next.{Next}
-use Rattle.semantics.specs.declared.Decoded.{Decoded}
-use Rattle.semantics.specs.declared.Decoded.TheVariants.{Valid, Invalid}
 use Rattle.semantics.specs.State.{geometry}
 use Rattle.semantics.specs.Split.{first_refusal}
 use Rattle.semantics.specs.Steps.{next, Machine, after_all, fresh}
@@ -44,14 +42,14 @@ use Rattle.script.specs.Laws.{PlayedAt, Begun, Sofar}
 -- ---- lines that are refused, and texts that are empty or too long
 
 -- 1 "array length is not 256u": whatever the line, a form or none
-pub other_array : (m : Counted) (d : Decoded) → (length m.machine.array ≡ words (geometry m.machine.state) → ⊥) → answer_of m d ≡ Refused 1
+pub other_array : (m : Counted) (d : Option Step) → (length m.machine.array ≡ words (geometry m.machine.state) → ⊥) → answer_of m d ≡ Refused 1
 unfolding line_refusal step_with first_refusal
-other_array m (Valid x) h =
+other_array m (Some x) h =
     let e : step_with m.machine.state m.counts m.machine.array x ≡ next m.machine.state (Refused 1) =
     rw (length_refused m.machine.state m.counts (length m.machine.array) h x)
     in
     ap (λ (y : Next). y.answer) e
-other_array m Invalid h = rw (length_refused m.machine.state m.counts (length m.machine.array) h Reset)
+other_array m None h = rw (length_refused m.machine.state m.counts (length m.machine.array) h Reset)
 
 -- "Empty input prints `end 0`."
 pub empty_text : (xs : List ℕ) → transcript_of xs [] ≡ text "end 0\n"
@@ -69,9 +67,9 @@ lines_steps : (m : Counted) (ls : List (List ℕ)) → after_lines m ls ≡ afte
 lines_steps m [] = refl
 lines_steps m (l ∷ ls) = go (step_of_line l) (λ k. lines_steps k ls)
   where
-    go : (d : Decoded) → ((k : Counted) → after_lines k ls ≡ after_all_with k (steps_of_lines ls)) → after_lines (machine_after m d) ls ≡ after_all_with m (steps_of d (steps_of_lines ls))
-    go (Valid x) f = f (after_with m x)
-    go Invalid f = f m
+    go : (d : Option Step) → ((k : Counted) → after_lines k ls ≡ after_all_with k (steps_of_lines ls)) → after_lines (machine_after m d) ls ≡ after_all_with m (steps_of d (steps_of_lines ls))
+    go (Some x) f = f (after_with m x)
+    go None f = f m
 
 -- the machine at the end is the one that the script's steps make of power-up
 pub machine_steps : (xs t : List ℕ) → machine_at_end xs t ≡ after_all_with (fresh_with BenchBottom xs) (steps_of_script t)
@@ -84,7 +82,7 @@ machine_alone xs t = ap (λ (m : Counted). m.machine) (machine_steps xs t) ∙ a
 
 -- on an array of the part's length 1 and 2 do not come: a line without a form is refused 6, wherever it stands
 module _ (xs : List ℕ) (before : List (List ℕ)) (h : length xs ≡ words (geometry_of BenchBottom)) where
-  pub no_form : (l : List ℕ) → step_of_line l ≡ Invalid → answer_of (after_lines (fresh_with BenchBottom xs) before) (step_of_line l) ≡ Refused 6
+  pub no_form : (l : List ℕ) → step_of_line l ≡ None → answer_of (after_lines (fresh_with BenchBottom xs) before) (step_of_line l) ≡ Refused 6
   unfolding line_refusal first_refusal
   no_form l e =
       let m : Counted = after_lines (fresh_with BenchBottom xs) before in
@@ -113,7 +111,7 @@ worn xs t h = rw machine_steps (counts_stand BenchBottom (steps_of_script t) xs 
 
 module _ (line : List ℕ) (d : Device) (number : ℕ) (k : Counts) (xs room : List ℕ) (place : ℕ) where
   -- a line with a step: the step was made, and its answer printed
-  pub line_made : (x : Step) (o : Outcome) (counts : Counts) (array after : List ℕ) (next : ℕ) → step_of_line line ≡ Valid x → o ≡ outcome d k xs x → array ≡ array_out d k xs x → counts ≡ counts_out d k xs x
+  pub line_made : (x : Step) (o : Outcome) (counts : Counts) (array after : List ℕ) (next : ℕ) → step_of_line line ≡ Some x → o ≡ outcome d k xs x → array ≡ array_out d k xs x → counts ≡ counts_out d k xs x
       → Put room place (line_text number o.answer) after next → LinePlayed line d number k xs room place (record { device = o.device; place = next }) counts array after
   line_made x o counts array after next e f h w p = record {
     machine = rw e (λ j. record { machine = record { state = (f j).device.state; array = h j }; counts = w j });
@@ -121,7 +119,7 @@ module _ (line : List ℕ) (d : Device) (number : ℕ) (k : Counts) (xs room : L
   }
 
   -- a line with none: nothing changed, and the refusal was printed
-  pub line_refused : (n : ℕ) (after : List ℕ) (next : ℕ) → step_of_line line ≡ Invalid → n ≡ first_refusal (refusal_with d.state k (length xs) Reset) 6
+  pub line_refused : (n : ℕ) (after : List ℕ) (next : ℕ) → step_of_line line ≡ None → n ≡ first_refusal (refusal_with d.state k (length xs) Reset) 6
       → Put room place (line_text number (Refused n)) after next → LinePlayed line d number k xs room place (record { device = d; place = next }) k xs after
   unfolding line_refusal
   line_refused n after next e f p = record { machine = rw e; written = rw (e, ← f) p }

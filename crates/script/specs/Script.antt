@@ -1,15 +1,13 @@
 -- A script played whole and its transcript: document 01, "The script program". A text is the list of its bytes. Definitions only; the laws are in
 -- Laws.
 -- Assumes nothing.
-use Rattle.std.specs.Prelude.{ℕ, suc, ◌≤◌, List, [], ◌∷◌, ◌++◌, ◌≡◌, length, take, drop}
+use Rattle.std.specs.Prelude.{ℕ, suc, ◌≤◌, List, [], ◌∷◌, ◌++◌, ◌≡◌, length, take, drop, Option, Some, None}
 use Rattle.geometry.specs.declared.Part.TheVariants.{BenchBottom}
 use Rattle.geometry.specs.Blocks.{geometry_of, words}
 use Rattle.semantics.specs.declared.Step.{Step}
 use Rattle.semantics.specs.declared.Step.TheVariants.{Reset}
 use Rattle.semantics.specs.declared.Answer.{Answer}
 use Rattle.semantics.specs.declared.Answer.TheVariants.{Refused}
-use Rattle.semantics.specs.declared.Decoded.{Decoded}
-use Rattle.semantics.specs.declared.Decoded.TheVariants.{Valid, Invalid}
 use Rattle.semantics.specs.Split.{first_refusal}
 use Rattle.semantics.specs.Demand.{Demand3}
 use Rattle.wear.specs.Counts.{Counts}
@@ -38,14 +36,14 @@ unfoldable pub line_refusal : Counted → ℕ
 line_refusal m = first_refusal (refusal_with m.machine.state m.counts (length m.machine.array) Reset) 6
 
 -- what a line answers: its step's answer, or that it is refused. "A line over 16 bytes, or empty" has no form
-abbrev pub answer_of : Counted → Decoded → Answer
-answer_of m (Valid x) = answer_with m x
-answer_of m Invalid = Refused (line_refusal m)
+abbrev pub answer_of : Counted → Option Step → Answer
+answer_of m (Some x) = answer_with m x
+answer_of m None = Refused (line_refusal m)
 
 -- the machine, with its counts, after a line: a refusal "gives back the state it got and leaves all lent memory"
-abbrev pub machine_after : Counted → Decoded → Counted
-machine_after m (Valid x) = after_with m x
-machine_after m Invalid = m
+abbrev pub machine_after : Counted → Option Step → Counted
+machine_after m (Some x) = after_with m x
+machine_after m None = m
 
 -- a device with its counts on an array
 abbrev pub machine_of : Device → Counts → List ℕ → Counted
@@ -60,9 +58,9 @@ pub record LinePlayed (line : List ℕ) (d : Device) (number : ℕ) (k : Counts)
 -- ---- lines played in turn
 
 -- the steps of a line: one, or none
-abbrev pub steps_of : Decoded → List Step → List Step
-steps_of (Valid x) l = x ∷ l
-steps_of Invalid l = l
+abbrev pub steps_of : Option Step → List Step → List Step
+steps_of (Some x) l = x ∷ l
+steps_of None l = l
 
 abbrev pub after_lines : Counted → List (List ℕ) → Counted
 after_lines m [] = m

@@ -9,7 +9,7 @@ ghost use Rattle.script.specs.Laws.{PlayedAt, Begun};
 
 use device::Device;
 use geometry::Part;
-use semantics::{Answer, Decoded};
+use semantics::Answer;
 
 // ---- the text of a script
 
@@ -56,7 +56,7 @@ fn play_line(
 {
     let found = line::step_of_line(line);
     match found {
-        Decoded::Valid(x) => {
+        Some(x) => {
             let o = device.step(main, small, array, x);
             let answer = o.answer;
             let next = o.device;
@@ -66,7 +66,7 @@ fn play_line(
                 place: after,
             }
         }
-        Decoded::Invalid => {
+        None => {
             let s = device.state;
             let e = state::first_refusal(device::refusal_of(s, main, array.len()), 6);
             let after = printing::put_line(room, place, number, Answer::Refused(e));

@@ -2,13 +2,11 @@
 -- bits 32 to 47 the data of a write, from bit 48 up the kind: 0 read, 1 write, 2 work, 3 supply, 4 reset. All other bits are 0.
 -- The encoding is ours: document 01 has none.
 -- Assumes nothing.
-use Rattle.std.specs.Prelude.{ℕ, ◌+◌, ◌*◌, ◌/◌, ◌%◌, ◌<◌, Bool, true, false, not, cond, ◌≡◌, refl, eqb, ltb}
+use Rattle.std.specs.Prelude.{ℕ, ◌+◌, ◌*◌, ◌/◌, ◌%◌, ◌<◌, Bool, true, false, not, cond, ◌≡◌, refl, eqb, ltb, Option, Some, None}
 use Rattle.std.proofs.Common.{true≢false, sym, subst, arith, eqb-true, ltb-true}
 use Rattle.std.proofs.lemmas.Bool.{eqb-false}
 use Rattle.semantics.specs.declared.Step.{Step}
 use Rattle.semantics.specs.declared.Step.TheVariants.{Read, Write, Work, Supply, Reset}
-use Rattle.semantics.specs.declared.Decoded.{Decoded}
-use Rattle.semantics.specs.declared.Decoded.TheVariants.{Valid, Invalid}
 use Rattle.semantics.specs.Branches.{by_cond}
 use Rattle.semantics.specs.Reading.{bit_if}
 
@@ -23,17 +21,17 @@ encode (Supply on) = coded 3 0 (bit_if on 1)
 encode Reset = coded 4 0 0
 
 -- the step of a kind, with its data and operand
-unfoldable pub decoded_as : ℕ → ℕ → ℕ → Decoded
+unfoldable pub decoded_as : ℕ → ℕ → ℕ → Option Step
 decoded_as kind word operand =
-    cond (eqb kind 1) (Valid (Write operand word))
-    (cond (not (eqb word 0)) Invalid
-    (cond (eqb kind 0) (Valid (Read operand))
-    (cond (eqb kind 2) (Valid (Work operand))
-    (cond (eqb kind 3) (cond (ltb operand 2) (Valid (Supply (eqb operand 1))) Invalid)
-    (cond (eqb kind 4) (cond (eqb operand 0) (Valid Reset) Invalid)
-    Invalid)))))
+    cond (eqb kind 1) (Some (Write operand word))
+    (cond (not (eqb word 0)) None
+    (cond (eqb kind 0) (Some (Read operand))
+    (cond (eqb kind 2) (Some (Work operand))
+    (cond (eqb kind 3) (cond (ltb operand 2) (Some (Supply (eqb operand 1))) None)
+    (cond (eqb kind 4) (cond (eqb operand 0) (Some Reset) None)
+    None)))))
 
-unfoldable pub decode : ℕ → Decoded
+unfoldable pub decode : ℕ → Option Step
 decode code = decoded_as (code / 281474976710656) (code / 4294967296 % 65536) (code % 4294967296)
 
 -- the numbers of a step fit their bits
@@ -53,7 +51,7 @@ decode_coded kind word operand h k =
     rw (a, b, c)
 
 -- every step is read back from its number
-pub decode_encode : (x : Step) → Fitting x → decode (encode x) ≡ Valid x
+pub decode_encode : (x : Step) → Fitting x → decode (encode x) ≡ Some x
 unfolding decoded_as
 decode_encode (Read address) h = decode_coded 0 0 address (omega arith) h
 decode_encode (Write address w) h = decode_coded 1 w address h.1 h.0
@@ -65,9 +63,9 @@ decode_encode Reset h = decode_coded 4 0 0 (omega arith) (omega arith)
 -- ---- a number that encodes a step is the number of that step
 
 -- n is the number of the step that was read, if one was
-abbrev NumberOf : ℕ → Decoded → Type 0
-NumberOf n (Valid x) = encode x ≡ n
-NumberOf n Invalid = Unit {0}
+abbrev NumberOf : ℕ → Option Step → Type 0
+NumberOf n (Some x) = encode x ≡ n
+NumberOf n None = Unit {0}
 
 supply_number : (operand : ℕ) → operand < 2 → bit_if (eqb operand 1) 1 ≡ operand
 supply_number operand h = go (eqb operand 1) refl
@@ -100,11 +98,11 @@ number_as kind word operand =
     zero_word false e w = absurd (true≢false w)
 
 -- so no two numbers encode one step
-pub encode_decode : (c : ℕ) (x : Step) → decode c ≡ Valid x → encode x ≡ c
+pub encode_decode : (c : ℕ) (x : Step) → decode c ≡ Some x → encode x ≡ c
 unfolding decode
 encode_decode c x e =
     let h : encode x ≡ coded (c / 281474976710656) (c / 4294967296 % 65536) (c % 4294967296) =
-    subst (λ (d : Decoded). NumberOf (coded (c / 281474976710656) (c / 4294967296 % 65536) (c % 4294967296)) d) e
+    subst (λ (d : Option Step). NumberOf (coded (c / 281474976710656) (c / 4294967296 % 65536) (c % 4294967296)) d) e
     (number_as (c / 281474976710656) (c / 4294967296 % 65536) (c % 4294967296))
     in
     omega arith

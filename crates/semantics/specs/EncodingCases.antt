@@ -2,10 +2,9 @@
 -- that encode none: the checker computes each, in both directions. That each step is read back from its number would
 -- hold as well of kinds or fields that are exchanged in both.
 -- Assumes nothing.
-use Rattle.std.specs.Prelude.{ℕ, true, false, List, [], ◌∷◌, map, ◌≡◌, refl, replicate}
+use Rattle.std.specs.Prelude.{ℕ, true, false, List, [], ◌∷◌, map, ◌≡◌, refl, replicate, Some, None}
 use Rattle.semantics.specs.declared.Step.{Step}
 use Rattle.semantics.specs.declared.Step.TheVariants.{Read, Write, Work, Supply, Reset}
-use Rattle.semantics.specs.declared.Decoded.TheVariants.{Valid, Invalid}
 use Rattle.semantics.specs.Encoding.{encode, decoded_as, decode}
 
 infix 20 ◌⟶◌
@@ -40,10 +39,10 @@ none =
     ∷ []
 
 pub steps_hold : (map (λ c. encode (step_of c)) steps ≡ map number_of steps)
-    × (map (λ c. decode (number_of c)) steps ≡ map (λ c. Valid (step_of c)) steps)
+    × (map (λ c. decode (number_of c)) steps ≡ map (λ c. Some (step_of c)) steps)
 unfolding decoded_as decode
 steps_hold = (refl, refl)
 
-pub none_hold : map decode none ≡ replicate 15 Invalid
+pub none_hold : map decode none ≡ replicate 15 None
 unfolding decoded_as decode
 none_hold = refl

@@ -178,10 +178,3 @@ pub enum LockCommand {
     Configure,
     Unknown,
 }
-
-// What a number means as a step: the step that it encodes, or that it encodes none.
-#[derive(Clone, Copy)]
-pub enum Decoded {
-    Valid(Step),
-    Invalid,
-}

@@ -1,4 +1,5 @@
 -- `playback::decoded` meets its contract, test by test. Assumes nothing.
+use Rattle.std.specs.Prelude.{Some}
 use Prim.Native.Nat.{ℕ, ◌/◌, ◌%◌, ◌<◌, ◌≤◌}
 use mathlib.Core.Bool.{false}
 use mathlib.Core.Path.{◌≡◌}
@@ -6,12 +7,11 @@ use native.Mathlib.Omega.{arith}
 use lib.Dec.{eqb}
 use borrow.Author.Tests.{eq-eqb, ne_eqb, lt-ltb, le-ltb}
 use Rattle.semantics.specs.declared.Step.TheVariants.{Read}
-use Rattle.semantics.specs.declared.Decoded.TheVariants.{Valid}
 use Rattle.semantics.specs.Encoding.{decode, decoded_as}
 use Rattle.playback.proofs.decoded.Goals as goal
 
 -- a number below 2 ^ 32 encodes a read; another one whose word is 0 is of another kind
-read : (code : ℕ) → code < 4294967296 → Valid (Read (code % 4294967296)) ≡ decode code
+read : (code : ℕ) → code < 4294967296 → Some (Read (code % 4294967296)) ≡ decode code
 unfolding decode decoded_as
 read code h =
     let kind : code / 281474976710656 ≡ 0 = omega arith in

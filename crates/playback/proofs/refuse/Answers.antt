@@ -22,7 +22,7 @@ loop-i-preserved c =
     let l = c.loop-i in (
       λ s k xs h ne. rw (add-one, c.answer_code.ensures)
           (going_on _ _ _ _ _ _ _ _ _ _ _ _ _ _ _ (l.invariant.0 s k xs h ne) (omega arith) (omega arith)
-          (plays_refused _ _ _ _ h _ _ _ _ _ _ (all_refused _ _ _ _ (sym c.decoded.ensures ∙ c.in-Valid.is) ne) refl refl refl refl)),
+          (plays_refused _ _ _ _ h _ _ _ _ _ _ (all_refused _ _ _ _ (sym c.decoded.ensures ∙ c.in-Some.is) ne) refl refl refl refl)),
       l.invariant.1,
       omega arith,
       length-set l.answers _ _ ∙ l.invariant.3,

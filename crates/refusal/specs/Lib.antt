@@ -1,0 +1,2 @@
+-- The modules of the specification.
+pub mod Numbers
