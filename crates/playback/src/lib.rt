@@ -4,7 +4,6 @@
 
 ghost use Rattle.std.specs.Prelude.{List, ◌≡◌, ℕ};
 ghost use Rattle.geometry.specs.Blocks.{geometry_of};
-ghost use Rattle.semantics.specs.State.{set_activity, with_setup, with_running};
 ghost use Rattle.semantics.specs.Encoding.{decode};
 ghost use Rattle.writing.specs.Changes.{settled_in};
 ghost use Rattle.wear.specs.Counts.{Counts, lent};
@@ -17,9 +16,7 @@ ghost use Rattle.playback.specs.Reads.{few_reads};
 
 use device::Device;
 use geometry::Part;
-use semantics::{
-    Activity, Answer, Bank, Control, Mode, Place, Running, Setup, State, Step, View,
-};
+use semantics::{Activity, Answer, Bank, Control, Mode, Place, Running, Setup, State, Step, View};
 use working::Progress;
 use writing::Change;
 
@@ -52,28 +49,14 @@ pub fn decoded(code: u64) -> Option<Step>
     if code < 4294967296 {
         return Some(Step::Read(operand));
     }
-    if kind == 1 {
-        return Some(Step::Write(operand, word));
+    match kind {
+        1 => Some(Step::Write(operand, word)),
+        _ if word != 0 => None,
+        2 => Some(Step::Work(operand)),
+        3 if operand < 2 => Some(Step::Supply(operand == 1)),
+        4 if operand == 0 => Some(Step::Reset),
+        _ => None,
     }
-    if word != 0 {
-        return None;
-    }
-    if kind == 2 {
-        return Some(Step::Work(operand));
-    }
-    if kind == 3 {
-        if operand < 2 {
-            return Some(Step::Supply(operand == 1));
-        }
-        return None;
-    }
-    if kind == 4 {
-        if operand == 0 {
-            return Some(Step::Reset);
-        }
-        return None;
-    }
-    None
 }
 
 // An answer as a number: document 01's refusal number in the upper half, the value in the lower.
@@ -118,77 +101,22 @@ fn task_of(refused: u32, part: Part, code: u64) -> Task
     Task::Refused(e)
 }
 
-// ---- parts of the control, and the control with a part changed
-
-fn activity_in(c: Control) -> Activity
-    ensures { result ≡ c.activity }
-{
-    let a = c.activity;
-    a
-}
-
-fn running_in(c: Control) -> Running
-    ensures { result ≡ c.activity.running }
-{
-    let a = c.activity;
-    a.running
-}
-
-// The control with another set-up, or with something else under way.
-fn with_setup(mut c: Control, x: Setup) -> Control
-    ensures { result ≡ set_activity c (with_setup c.activity x) }
-{
-    let a = c.activity;
-    c.activity = operation::with_setup(a, x);
-    c
-}
-
-fn with_activity(mut c: Control, a: Activity) -> Control
-    ensures { result ≡ set_activity c a }
-{
-    c.activity = a;
-    c
-}
-
-// What is under way after work.
-fn advanced(c: Control, o: Progress) -> Activity
-    ensures { result ≡ with_running c.activity o.running }
-{
-    let a = c.activity;
-    let r = o.running;
-    operation::with_running(a, r)
-}
+// ---- the pieces of a state
 
 // The control after a cycle that is told by its view: what is suspended, and the supply, no such cycle changes.
 fn settled(c: Control, v: View) -> Control
     ensures { result ≡ settled_in c v }
 {
-    let before = c.activity;
-    let after = v.control.activity;
-    let flags = v.control.flags;
-    let setup = after.setup;
-    let running = after.running;
-    let program = before.program;
-    let erase = before.erase;
+    let after = v.control;
     Control {
         activity: Activity {
-            setup,
-            running,
-            program,
-            erase,
+            setup: after.activity.setup,
+            running: after.activity.running,
+            ..c.activity
         },
-        flags,
-        configuration: v.control.configuration,
         supply: c.supply,
+        ..after
     }
-}
-
-// The addressed bank, as a view has it.
-fn bank_in(v: View) -> Bank
-    ensures { result ≡ record { mode = v.mode } }
-{
-    let mode = v.mode;
-    Bank { mode }
 }
 
 // The end of a list.
@@ -225,18 +153,7 @@ fn state_of(
 pub fn few_reads(steps: &[u64]) -> bool
     ensures { result ≡ few_reads steps.now }
 {
-    let n = steps.len();
-    if n > 8 {
-        return false;
-    }
-    let mut i: usize = 0;
-    while i < n {
-        if steps[i] >= 4294967296 {
-            return false;
-        }
-        i += 1;
-    }
-    true
+    steps.len() <= 8 && steps.iter().all(|&code| code < 4294967296)
 }
 
 // A list on a device that is refused whatever the step is: each number that encodes a step is answered by that refusal, up to the first that encodes none. How many there are.
@@ -288,8 +205,7 @@ pub fn run(
                 Task::Read(address) => {
                     let location = geometry::location_of(part, address);
                     let bank = geometry::bank_at(part, address);
-                    let b = banks[bank as usize];
-                    let mode = b.mode;
+                    let mode = banks[bank as usize].mode;
                     answer = Answer::Word(reading::read_at(
                         part,
                         mode,
@@ -301,41 +217,39 @@ pub fn run(
                     ));
                 }
                 Task::Write(p, word) => {
-                    let change = writing::change_of(activity_in(control), control.supply, p, word);
+                    let change = writing::change_of(control.activity, control.supply, p, word);
                     match change {
                         Change::First(mode, x) => {
-                            control = with_setup(control, x);
+                            control.activity.setup = x;
                             banks[p.bank as usize] = Bank { mode };
                         }
-                        Change::Activity(a) => control = with_activity(control, a),
+                        Change::Activity(a) => control.activity = a,
                         Change::Ended(a) => {
-                            let c = with_activity(control, a);
-                            control = state::end_running(c, &mut buffer);
+                            control.activity = a;
+                            control = state::end_running(control, &mut buffer);
                         }
                         Change::Data(x, at) => {
-                            control = with_setup(control, x);
+                            control.activity.setup = x;
                             banks[p.bank as usize] = Bank { mode: Mode::Status };
                             buffer::load(&mut buffer, at, word);
                         }
                         Change::View => {
-                            let b = banks[p.bank as usize];
-                            let mode = b.mode;
+                            let mode = banks[p.bank as usize].mode;
                             let on = protection::is_unprotected(&unprotected, p.block);
                             let v = writing::told_view(part, mode, on, control, p, word);
                             writing::load_buffer(part, control, p, word, v, &mut buffer);
                             control = settled(control, v);
-                            banks[p.bank as usize] = bank_in(v);
+                            banks[p.bank as usize] = Bank { mode: v.mode };
                             protection::set_block(&mut unprotected, p.block, v.unprotected);
                         }
                     }
                 }
                 Task::Work(count) => {
-                    let was = running_in(control);
+                    let was = control.activity.running;
                     let o = working::advance(part, was, &mut buffer, array, count);
                     let left = o.running;
                     wear::count_finished(main, small, was, left);
-                    let a = advanced(control, o);
-                    control = with_activity(control, a);
+                    control.activity.running = left;
                     answer = Answer::Units(o.units);
                 }
                 Task::Supply(on) => control = state::switch_supply(control, on, &mut buffer),

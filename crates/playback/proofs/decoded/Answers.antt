@@ -1,11 +1,5 @@
--- `playback::decoded` meets its contract, test by test. Assumes nothing.
-use Rattle.std.specs.Prelude.{Some}
-use Prim.Native.Nat.{ℕ, ◌/◌, ◌%◌, ◌<◌, ◌≤◌}
-use mathlib.Core.Bool.{false}
-use mathlib.Core.Path.{◌≡◌}
-use native.Mathlib.Omega.{arith}
-use lib.Dec.{eqb}
-use borrow.Author.Tests.{eq-eqb, ne_eqb, lt-ltb, le-ltb}
+-- `playback::decoded` meets its contract, arm by arm. Assumes nothing.
+use Rattle.std.proofs.Common.{ℕ, ◌/◌, ◌%◌, ◌<◌, ◌≤◌, ◌≡◌, false, Some, eqb, arith, eq-eqb, ne_eqb, lt-ltb, le-ltb}
 use Rattle.semantics.specs.declared.Step.TheVariants.{Read}
 use Rattle.semantics.specs.Encoding.{decode, decoded_as}
 use Rattle.playback.proofs.decoded.Goals as goal
@@ -24,34 +18,34 @@ no_read code h word = ne_eqb _ _ (λ (kind : code / 281474976710656 ≡ 0). omeg
 pub returns-then-code-lt4294967296 : goal.returns-then-code-lt4294967296
 returns-then-code-lt4294967296 c = read _ c.if-code-lt4294967296.true
 
-pub returns-then-kind-eq1 : goal.returns-then-kind-eq1
+pub returns-in-1 : goal.returns-in-1
 unfolding decode decoded_as
-returns-then-kind-eq1 c = simp (eq-eqb _ _ c.if-kind-eq1.true)
+returns-in-1 c = simp (eq-eqb _ _ c.in-1.is)
 
-pub returns-then-word-ne0 : goal.returns-then-word-ne0
+pub returns-in_default : goal.returns-in_default
 unfolding decode decoded_as
-returns-then-word-ne0 c = simp (ne_eqb _ _ c.if-kind-eq1.false, ne_eqb _ _ c.if-word-ne0.true)
+returns-in_default c = simp (ne_eqb _ _ c.in_default.in_default-own.rest.1, ne_eqb _ _ c.if-word-ne0.true)
 
-pub returns-then-kind-eq2 : goal.returns-then-kind-eq2
+pub returns-in-2 : goal.returns-in-2
 unfolding decode decoded_as
-returns-then-kind-eq2 c = simp (ne_eqb _ _ c.if-kind-eq1.false, eq-eqb _ _ c.if-word-ne0.false, no_read _ c.if-code-lt4294967296.false c.if-word-ne0.false, eq-eqb _ _ c.if-kind-eq2.true)
+returns-in-2 c = rw (c.in-2.is, eq-eqb _ _ c.if-word-ne0.false)
 
-pub returns-then-operand-lt2 : goal.returns-then-operand-lt2
+pub returns-in-3 : goal.returns-in-3
 unfolding decode decoded_as
-returns-then-operand-lt2 c = simp (ne_eqb _ _ c.if-kind-eq1.false, eq-eqb _ _ c.if-word-ne0.false, no_read _ c.if-code-lt4294967296.false c.if-word-ne0.false, ne_eqb _ _ c.if-kind-eq2.false, eq-eqb _ _ c.if-kind-eq3.true, lt-ltb _ _ c.if-operand-lt2.true)
+returns-in-3 c = rw (c.in-3.is, eq-eqb _ _ c.if-word-ne0.false, lt-ltb _ _ c.if-operand-lt2.true)
 
-pub returns-then-kind-eq3 : goal.returns-then-kind-eq3
+pub returns-in-4 : goal.returns-in-4
 unfolding decode decoded_as
-returns-then-kind-eq3 c = simp (ne_eqb _ _ c.if-kind-eq1.false, eq-eqb _ _ c.if-word-ne0.false, no_read _ c.if-code-lt4294967296.false c.if-word-ne0.false, ne_eqb _ _ c.if-kind-eq2.false, eq-eqb _ _ c.if-kind-eq3.true, le-ltb _ _ c.if-operand-lt2.false)
+returns-in-4 c = rw (c.in-4.is, eq-eqb _ _ c.if-word-ne0.false, eq-eqb _ _ c.if-operand-eq0.true)
 
-pub returns-then-operand-eq0 : goal.returns-then-operand-eq0
+pub returns-in_default-2 : goal.returns-in_default-2
 unfolding decode decoded_as
-returns-then-operand-eq0 c = simp (ne_eqb _ _ c.if-kind-eq1.false, eq-eqb _ _ c.if-word-ne0.false, no_read _ c.if-code-lt4294967296.false c.if-word-ne0.false, ne_eqb _ _ c.if-kind-eq2.false, ne_eqb _ _ c.if-kind-eq3.false, eq-eqb _ _ c.if-kind-eq4.true, eq-eqb _ _ c.if-operand-eq0.true)
+returns-in_default-2 c = rw (c.in-3.is, eq-eqb _ _ c.if-word-ne0.false, le-ltb _ _ c.if-operand-lt2.false)
 
-pub returns-then-kind-eq4 : goal.returns-then-kind-eq4
+pub returns-in_default-2-2 : goal.returns-in_default-2-2
 unfolding decode decoded_as
-returns-then-kind-eq4 c = simp (ne_eqb _ _ c.if-kind-eq1.false, eq-eqb _ _ c.if-word-ne0.false, no_read _ c.if-code-lt4294967296.false c.if-word-ne0.false, ne_eqb _ _ c.if-kind-eq2.false, ne_eqb _ _ c.if-kind-eq3.false, eq-eqb _ _ c.if-kind-eq4.true, ne_eqb _ _ c.if-operand-eq0.false)
+returns-in_default-2-2 c = rw (c.in-4.is, eq-eqb _ _ c.if-word-ne0.false, ne_eqb _ _ c.if-operand-eq0.false)
 
-pub returns : goal.returns
+pub returns-in_default-2-3 : goal.returns-in_default-2-3
 unfolding decode decoded_as
-returns c = simp (ne_eqb _ _ c.if-kind-eq1.false, eq-eqb _ _ c.if-word-ne0.false, no_read _ c.if-code-lt4294967296.false c.if-word-ne0.false, ne_eqb _ _ c.if-kind-eq2.false, ne_eqb _ _ c.if-kind-eq3.false, ne_eqb _ _ c.if-kind-eq4.false)
+returns-in_default-2-3 c = simp (ne_eqb _ _ c.in_default.in_default-own.rest.1, eq-eqb _ _ c.if-word-ne0.false, no_read _ c.if-code-lt4294967296.false c.if-word-ne0.false, ne_eqb _ _ c.in_default-2.in_default-2-own.rest.0.0.1, ne_eqb _ _ c.in_default-2.in_default-2-own.rest.0.1, ne_eqb _ _ c.in_default-2.in_default-2-own.rest.1)

@@ -1,30 +1,25 @@
--- `playback::few_reads` meets its contract. The invariant: all are reads where those from `i` on are. Assumes nothing.
-use mathlib.Core.Path.{sym, ap, ◌∙◌}
-use native.Mathlib.Numerals.{add-one}
-use native.Mathlib.Omega.{arith}
-use lib.ListN.{drop_of_length-le}
-use borrow.Author.Tests.{le-leb, lt-leb, le-ltb, lt-ltb}
-use Rattle.playback.specs.Reads.{all_reads, few_reads, reads_here}
+-- `playback::few_reads` meets its contract. Assumes nothing.
+use Rattle.std.proofs.Common.{ℕ, List, [], ◌∷◌, ◌&&◌, ◌≡◌, ◌∙◌, refl, ap, rules, le-leb}
+use borrow.Author.Tests.{tests}
+use Rattle.std.proofs.lemmas.Bool.{lt-leb}
+use Rattle.std.proofs.lemmas.Iterator.{YieldsList-from_slice}
+use Rattle.std.proofs.lemmas.Iterator.Search.{all_from_yields_List}
+use Rattle.std.specs.List.{list_all}
+use Rattle.playback.specs.Reads.{is_read, all_reads, few_reads}
 use Rattle.playback.proofs.few_reads.Goals as goal
 
-pub returns-then-n-gt8 : goal.returns-then-n-gt8
-unfolding few_reads
-returns-then-n-gt8 c = rw (lt-leb _ _ c.if-n-gt8.true)
-
-pub loop-i-init : goal.loop-i-init
-unfolding few_reads
-loop-i-init c = (rw (le-leb _ _ c.if-n-gt8.false), omega arith)
-
-pub returns-then-steps-i-ge4294967296 : goal.returns-then-steps-i-ge4294967296
-returns-then-steps-i-ge4294967296 c =
-    let l = c.loop-i in
-    sym (l.invariant.0 ∙ reads_here _ _ c.loop-i-test.true ∙ rw (le-ltb _ _ c.if-steps-i-ge4294967296.true))
-
-pub loop-i-preserved : goal.loop-i-preserved
-loop-i-preserved c =
-    let l = c.loop-i in
-    (rw add-one (l.invariant.0 ∙ reads_here _ _ c.loop-i-test.true ∙ rw (lt-ltb _ _ c.if-steps-i-ge4294967296.false)), omega arith)
-
-pub returns : goal.returns
+-- what the iterator tests of each is the definition's test of all
+all_alike : (l : List ℕ) → list_all is_read l ≡ all_reads l
 unfolding all_reads
-returns c = sym (c.loop-i.invariant.0 ∙ ap all_reads (drop_of_length-le _ c.loop-i-test.false))
+all_alike [] = refl
+all_alike (c ∷ l) = ap (λ b. is_read c && b) (all_alike l)
+
+pub returns-then-steps-le8 : goal.returns-then-steps-le8
+unfolding few_reads
+returns-then-steps-le8 c =
+    rw (le-leb _ _ c.if-steps-le8.true)
+    (all_from_yields_List is_read _ _ _ c.all.ensures.ran (YieldsList-from_slice c.args.steps.now cc) (λ x b q k. search (rules, tests)) ∙ all_alike _)
+
+pub returns-else-steps-le8 : goal.returns-else-steps-le8
+unfolding few_reads
+returns-else-steps-le8 c = rw (lt-leb _ _ c.if-steps-le8.false)

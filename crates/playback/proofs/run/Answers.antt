@@ -59,12 +59,12 @@ loop-i-preserved c =
           (elim c.match-task.branch [
             | in-Refused w ↦ plays_refused _ _ _ _ h _ _ _ _ _ _ (task_means _ _ _ _ (sym w.in-Refused.is ∙ k)) (pieces _ _ _ _ _ _ _ _ _ w.banks-is w.unprotected-is w.control-is w.buffer-is) w.answer-is w.array-is (λ j. lent (w.main-is j) (w.small-is j))
             | in-Read w ↦ plays_read _ _ _ _ h _ _ _ _ _ _ _ (task_means _ _ _ _ (sym w.in-Read.is ∙ k)) (read_seen _ _ _ _ _ _ _ w.location_of-location.ensures.value (w.bank_at-bank.ensures.value ∙ ap (bank_of _) (sym w.location_of-location.ensures.value)) refl w.read_at.ensures) (pieces _ _ _ _ _ _ _ _ _ w.banks-is w.unprotected-is w.control-is w.buffer-is) w.answer-is w.array-is (λ j. lent (w.main-is j) (w.small-is j))
-            | in-Write+in-First w ↦ plays_write _ _ _ _ h _ _ _ _ _ _ _ (task_means _ _ _ _ (sym w.in-Write.is ∙ k)) (pieces _ _ _ _ _ _ _ _ _ w.banks-is w.unprotected-is w.control-is w.buffer-is ∙ rw w.with_setup-control.ensures (change_put _ _ _ _ (sym w.in-First.is ∙ (rw w.activity_in.ensures at w.change_of-change.ensures)) refl)) w.answer-is w.array-is (λ j. lent (w.main-is j) (w.small-is j))
-            | in-Write+in-Activity w ↦ plays_write _ _ _ _ h _ _ _ _ _ _ _ (task_means _ _ _ _ (sym w.in-Write.is ∙ k)) (pieces _ _ _ _ _ _ _ _ _ w.banks-is w.unprotected-is w.control-is w.buffer-is ∙ rw w.with_activity-control.ensures (change_put _ _ _ _ (sym w.in-Activity.is ∙ (rw w.activity_in.ensures at w.change_of-change.ensures)) refl)) w.answer-is w.array-is (λ j. lent (w.main-is j) (w.small-is j))
-            | in-Write+in-Ended w ↦ plays_write _ _ _ _ h _ _ _ _ _ _ _ (task_means _ _ _ _ (sym w.in-Write.is ∙ k)) (pieces _ _ _ _ _ _ _ _ _ w.banks-is w.unprotected-is w.control-is w.buffer-is ∙ rw (w.end_running-control.ensures.control, w.end_running-control.ensures.buffer, w.with_activity-c.ensures) (change_put _ _ _ _ (sym w.in-Ended.is ∙ (rw w.activity_in.ensures at w.change_of-change.ensures)) refl)) w.answer-is w.array-is (λ j. lent (w.main-is j) (w.small-is j))
-            | in-Write+in-Data w ↦ plays_write _ _ _ _ h _ _ _ _ _ _ _ (task_means _ _ _ _ (sym w.in-Write.is ∙ k)) (pieces _ _ _ _ _ _ _ _ _ w.banks-is w.unprotected-is w.control-is w.buffer-is ∙ rw (w.load.ensures, w.with_setup-control-in-Data.ensures) (change_put _ _ _ _ (sym w.in-Data.is ∙ (rw w.activity_in.ensures at w.change_of-change.ensures)) refl)) w.answer-is w.array-is (λ j. lent (w.main-is j) (w.small-is j))
-            | in-Write+in-View w ↦ plays_write _ _ _ _ h _ _ _ _ _ _ _ (task_means _ _ _ _ (sym w.in-Write.is ∙ k)) (pieces _ _ _ _ _ _ _ _ _ w.banks-is w.unprotected-is w.control-is w.buffer-is ∙ rw (w.settled-control.ensures, w.bank_in.ensures) (told_put _ _ _ _ _ _ (sym w.in-View.is ∙ (rw w.activity_in.ensures at w.change_of-change.ensures)) (rw w.is_unprotected-on.ensures at w.told_view-v.ensures) w.set_block.ensures w.load_buffer.ensures)) w.answer-is w.array-is (λ j. lent (w.main-is j) (w.small-is j))
-            | in-Work w ↦ plays_work _ _ _ _ h _ _ _ _ _ _ _ _ (task_means _ _ _ _ (sym w.in-Work.is ∙ k)) (rw w.running_in-was.ensures at w.advance-o.ensures.progress) (rw w.running_in-was.ensures at w.advance-o.ensures.buffer) (pieces _ _ _ _ _ _ _ _ _ w.banks-is w.unprotected-is w.control-is w.buffer-is ∙ rw (w.with_activity-control-in-Work.ensures, w.advanced-a.ensures)) w.answer-is (w.array-is ∙ (rw w.running_in-was.ensures at w.advance-o.ensures.array)) ((λ j. lent (w.main-is j) (w.small-is j)) ∙ (rw w.running_in-was.ensures at w.count_finished.ensures))
+            | in-Write+in-First w ↦ plays_write _ _ _ _ h _ _ _ _ _ _ _ (task_means _ _ _ _ (sym w.in-Write.is ∙ k)) (pieces _ _ _ _ _ _ _ _ _ w.banks-is w.unprotected-is w.control-is w.buffer-is ∙ (change_put _ _ _ _ (sym w.in-First.is ∙ w.change_of-change.ensures) refl)) w.answer-is w.array-is (λ j. lent (w.main-is j) (w.small-is j))
+            | in-Write+in-Activity w ↦ plays_write _ _ _ _ h _ _ _ _ _ _ _ (task_means _ _ _ _ (sym w.in-Write.is ∙ k)) (pieces _ _ _ _ _ _ _ _ _ w.banks-is w.unprotected-is w.control-is w.buffer-is ∙ (change_put _ _ _ _ (sym w.in-Activity.is ∙ w.change_of-change.ensures) refl)) w.answer-is w.array-is (λ j. lent (w.main-is j) (w.small-is j))
+            | in-Write+in-Ended w ↦ plays_write _ _ _ _ h _ _ _ _ _ _ _ (task_means _ _ _ _ (sym w.in-Write.is ∙ k)) (pieces _ _ _ _ _ _ _ _ _ w.banks-is w.unprotected-is w.control-is w.buffer-is ∙ rw (w.end_running-control.ensures.control, w.end_running-control.ensures.buffer) (change_put _ _ _ _ (sym w.in-Ended.is ∙ w.change_of-change.ensures) refl)) w.answer-is w.array-is (λ j. lent (w.main-is j) (w.small-is j))
+            | in-Write+in-Data w ↦ plays_write _ _ _ _ h _ _ _ _ _ _ _ (task_means _ _ _ _ (sym w.in-Write.is ∙ k)) (pieces _ _ _ _ _ _ _ _ _ w.banks-is w.unprotected-is w.control-is w.buffer-is ∙ rw w.load.ensures (change_put _ _ _ _ (sym w.in-Data.is ∙ w.change_of-change.ensures) refl)) w.answer-is w.array-is (λ j. lent (w.main-is j) (w.small-is j))
+            | in-Write+in-View w ↦ plays_write _ _ _ _ h _ _ _ _ _ _ _ (task_means _ _ _ _ (sym w.in-Write.is ∙ k)) (pieces _ _ _ _ _ _ _ _ _ w.banks-is w.unprotected-is w.control-is w.buffer-is ∙ rw w.settled-control.ensures (told_put _ _ _ _ _ _ (sym w.in-View.is ∙ w.change_of-change.ensures) (rw w.is_unprotected-on.ensures at w.told_view-v.ensures) w.set_block.ensures w.load_buffer.ensures)) w.answer-is w.array-is (λ j. lent (w.main-is j) (w.small-is j))
+            | in-Work w ↦ plays_work _ _ _ _ h _ _ _ _ _ _ _ _ (task_means _ _ _ _ (sym w.in-Work.is ∙ k)) w.advance-o.ensures.progress w.advance-o.ensures.buffer (pieces _ _ _ _ _ _ _ _ _ w.banks-is w.unprotected-is w.control-is w.buffer-is) w.answer-is (w.array-is ∙ w.advance-o.ensures.array) ((λ j. lent (w.main-is j) (w.small-is j)) ∙ w.count_finished.ensures)
             | in-Supply w ↦ plays_supply _ _ _ _ h _ _ _ _ _ _ _ _ (task_means _ _ _ _ (sym w.in-Supply.is ∙ k)) w.switch_supply-control.ensures.control w.switch_supply-control.ensures.buffer (pieces _ _ _ _ _ _ _ _ _ w.banks-is w.unprotected-is w.control-is w.buffer-is) w.answer-is w.array-is (λ j. lent (w.main-is j) (w.small-is j))
             | in-Reset w ↦ plays_reset _ _ _ _ h _ _ _ _ _ (task_means _ _ _ _ (sym w.in-Reset.is ∙ k)) (pieces _ _ _ _ _ _ _ _ _ w.banks-is w.unprotected-is w.control-is w.buffer-is ∙ reset_pieces _ _ _ (rw w.state_of.ensures at w.reset-z.ensures)) w.answer-is w.array-is (λ j. lent (w.main-is j) (w.small-is j))
           ]),
