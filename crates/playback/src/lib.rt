@@ -119,35 +119,6 @@ fn settled(c: Control, v: View) -> Control
     }
 }
 
-// The end of a list.
-fn ended(played: usize, state: State) -> RunEnd
-    ensures { result ≡ record { played = played; device = record { state = state } } }
-{
-    RunEnd {
-        played,
-        device: Device { state },
-    }
-}
-
-// The pieces of a state, put together.
-fn state_of(
-    part: Part,
-    banks: [Bank; 16],
-    unprotected: [u64; 5],
-    control: Control,
-    buffer: [u16; 32],
-) -> State
-    ensures { result ≡ record { part = part; banks = banks; unprotected = unprotected; control = control; buffer = buffer } }
-{
-    State {
-        part,
-        banks,
-        unprotected,
-        control,
-        buffer,
-    }
-}
-
 // Whether there are at most eight numbers, each of which encodes a read: then the state after them is the state before them (`reads_leave` of specs/Reads). Of a longer list, what it
 // costs to save the state is little beside the steps.
 pub fn few_reads(steps: &[u64]) -> bool
@@ -160,7 +131,7 @@ pub fn few_reads(steps: &[u64]) -> bool
 fn refuse(refused: u32, steps: &[u64], answers: &mut [u64]) -> usize
     ensures { (s : State) (k : Counts) (xs : List ℕ) → Held refused s k xs → (refused ≡ 0 → ⊥) → Played (holding s) k steps.now answers.old xs (record { played = result; device = holding s }) k answers.new xs }
 {
-    let n = working::least(steps.len(), answers.len());
+    let n = steps.len().min(answers.len());
     for i in 0..n {
         let Some(x) = decoded(steps[i]) else {
             return i;
@@ -183,24 +154,27 @@ pub fn run(
 ) -> RunEnd
     ensures { Played device (lent main.old small.old) steps.now answers.old array.old result (lent main.new small.new) answers.new array.new }
 {
-    let before = device.state;
-    let part = before.part;
-    let mut banks = before.banks;
-    let mut unprotected = before.unprotected;
-    let mut control = before.control;
-    let mut buffer = before.buffer;
+    let State {
+        part,
+        mut banks,
+        mut unprotected,
+        mut control,
+        mut buffer,
+    } = device.state;
     let formed = state::formed_of(part, control, unprotected, buffer) & wear::shared_zero(main);
     let refused = state::refusal_beside(part, formed, array.len());
-    let n = working::least(steps.len(), answers.len());
-    let mut i: usize = 0;
+    let mut played = steps.len().min(answers.len());
     if refused != 0 {
-        i = refuse(refused, steps, answers);
+        played = refuse(refused, steps, answers);
     } else {
-        while i < n {
+        for i in 0..played {
             let task = task_of(0, part, steps[i]);
             let mut answer = Answer::Done;
             match task {
-                Task::End => break,
+                Task::End => {
+                    played = i;
+                    break;
+                }
                 Task::Refused(e) => answer = Answer::Refused(e),
                 Task::Read(address) => {
                     let location = geometry::location_of(part, address);
@@ -254,7 +228,13 @@ pub fn run(
                 }
                 Task::Supply(on) => control = state::switch_supply(control, on, &mut buffer),
                 Task::Reset => {
-                    let z = state::reset(state_of(part, banks, unprotected, control, buffer));
+                    let z = state::reset(State {
+                        part,
+                        banks,
+                        unprotected,
+                        control,
+                        buffer,
+                    });
                     banks = z.banks;
                     unprotected = z.unprotected;
                     control = z.control;
@@ -262,8 +242,18 @@ pub fn run(
                 }
             }
             answers[i] = answer_code(answer);
-            i += 1;
         }
     }
-    ended(i, state_of(part, banks, unprotected, control, buffer))
+    RunEnd {
+        played,
+        device: Device {
+            state: State {
+                part,
+                banks,
+                unprotected,
+                control,
+                buffer,
+            },
+        },
+    }
 }

@@ -7,7 +7,7 @@ use Rattle.playback.specs.Laws.{going_none, going_on, sofar_end, all_refused, pl
 use Rattle.playback.proofs.refuse.Goals as goal
 
 pub loop-i-init : goal.loop-i-init
-loop-i-init c = (λ s k xs h ne. going_none _ _ _ _ _ _ h, c.least-n.ensures, omega arith, refl)
+loop-i-init c = (λ s k xs h ne. going_none _ _ _ _ _ _ h, c.min-n.ensures, omega arith, refl)
 
 pub returns-in_default : goal.returns-in_default
 returns-in_default c =
@@ -31,5 +31,5 @@ loop-i-preserved c =
 pub returns : goal.returns
 returns c =
     let l = c.loop-i in
-    let e : l.i ≡ c.least-n.result = omega arith in
+    let e : l.i ≡ c.min-n.result = omega arith in
     λ s k xs h ne. rw (← e) (sofar_end _ _ _ _ _ _ _ _ _ _ (l.invariant.0 s k xs h ne).sofar (λ p q. absurd (omega arith)))

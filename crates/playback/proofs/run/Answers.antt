@@ -11,11 +11,10 @@ use Rattle.wear.specs.Steps.{formed_with, refusal_with}
 use Rattle.reading.specs.Shown.{read_seen}
 use Rattle.writing.specs.Changes.{change_put, told_put}
 use Rattle.playback.specs.Tasks.{task_means}
-use Rattle.playback.specs.Laws.{going_none, going_turn, sofar_end, played_as, write_bank, plays_refused, plays_read, plays_write, plays_work, plays_supply, plays_reset, reset_pieces}
+use Rattle.playback.specs.Laws.{going_none, going_turn, sofar_end, write_bank, plays_refused, plays_read, plays_write, plays_work, plays_supply, plays_reset, reset_pieces}
 use Rattle.playback.proofs.Fits.{five, sixteen, thirty_two}
 use Rattle.playback.proofs.run.Goals as goal
 use Rattle.playback.proofs.run.Goals.{in-Refused, in-Read, in-Write+in-First, in-Write+in-Activity, in-Write+in-Ended, in-Write+in-Data, in-Write+in-View, in-Work, in-Supply, in-Reset}
-use Rattle.playback.proofs.run.Goals.{then-refused-ne0, else-refused-ne0+else-loop-i-test, else-refused-ne0+then-loop-i-test+in-End}
 
 -- a state whose pieces are those of another
 pieces : (q : Part) (b b' : List Bank) (u u' : List ℕ) (c c' : Control) (f f' : List ℕ) → b ≡ b' → u ≡ u' → c ≡ c' → f ≡ f'
@@ -34,8 +33,9 @@ loop-i-init c =
       thirty_two = thirty_two d _ p;
     } in (
       going_none _ _ _ _ _ _ (record { same = sym c.if-refused-ne0.false ∙ same.same; sixteen = same.sixteen; five = same.five; thirty_two = same.thirty_two }),
-      c.least-n.ensures,
+      c.min-played.ensures,
       omega arith,
+      refl,
     )
 
 pub bounds-banks-p : goal.bounds-banks-p
@@ -66,26 +66,30 @@ loop-i-preserved c =
             | in-Write+in-View w ↦ plays_write _ _ _ _ h _ _ _ _ _ _ _ (task_means _ _ _ _ (sym w.in-Write.is ∙ k)) (pieces _ _ _ _ _ _ _ _ _ w.banks-is w.unprotected-is w.control-is w.buffer-is ∙ rw w.settled-control.ensures (told_put _ _ _ _ _ _ (sym w.in-View.is ∙ w.change_of-change.ensures) (rw w.is_unprotected-on.ensures at w.told_view-v.ensures) w.set_block.ensures w.load_buffer.ensures)) w.answer-is w.array-is (λ j. lent (w.main-is j) (w.small-is j))
             | in-Work w ↦ plays_work _ _ _ _ h _ _ _ _ _ _ _ _ (task_means _ _ _ _ (sym w.in-Work.is ∙ k)) w.advance-o.ensures.progress w.advance-o.ensures.buffer (pieces _ _ _ _ _ _ _ _ _ w.banks-is w.unprotected-is w.control-is w.buffer-is) w.answer-is (w.array-is ∙ w.advance-o.ensures.array) ((λ j. lent (w.main-is j) (w.small-is j)) ∙ w.count_finished.ensures)
             | in-Supply w ↦ plays_supply _ _ _ _ h _ _ _ _ _ _ _ _ (task_means _ _ _ _ (sym w.in-Supply.is ∙ k)) w.switch_supply-control.ensures.control w.switch_supply-control.ensures.buffer (pieces _ _ _ _ _ _ _ _ _ w.banks-is w.unprotected-is w.control-is w.buffer-is) w.answer-is w.array-is (λ j. lent (w.main-is j) (w.small-is j))
-            | in-Reset w ↦ plays_reset _ _ _ _ h _ _ _ _ _ (task_means _ _ _ _ (sym w.in-Reset.is ∙ k)) (pieces _ _ _ _ _ _ _ _ _ w.banks-is w.unprotected-is w.control-is w.buffer-is ∙ reset_pieces _ _ _ (rw w.state_of.ensures at w.reset-z.ensures)) w.answer-is w.array-is (λ j. lent (w.main-is j) (w.small-is j))
+            | in-Reset w ↦ plays_reset _ _ _ _ h _ _ _ _ _ (task_means _ _ _ _ (sym w.in-Reset.is ∙ k)) (pieces _ _ _ _ _ _ _ _ _ w.banks-is w.unprotected-is w.control-is w.buffer-is ∙ reset_pieces _ _ _ w.reset-z.ensures) w.answer-is w.array-is (λ j. lent (w.main-is j) (w.small-is j))
           ]),
       c.loop-i.invariant.1,
       omega arith,
+      c.loop-i.invariant.3,
     )
 
-pub returns : goal.returns
+pub returns-then-refused-ne0 : goal.returns-then-refused-ne0
 unfolding formed_with refusal_with
-returns c =
+returns-then-refused-ne0 c =
     let d = c.args.device in
     let p = c.well_formed.0 in
-    let held : Held c.refusal_beside-refused.result d.state (lent c.args.main.now c.args.small.now) c.args.array.now = record {
+    let same : Held c.refusal_beside-refused.result d.state (lent c.args.main.now c.args.small.now) c.args.array.now = record {
       same = rw (← c.formed_of.ensures d.state.banks, ← c.shared_zero.ensures) c.refusal_beside-refused.ensures;
       sixteen = sixteen d _ p;
       five = five d _ p;
       thirty_two = thirty_two d _ p;
     } in
-    rw (c.ended.ensures, c.state_of-2.ensures)
-    (elim c.if-refused-ne0.branch [
-      | then-refused-ne0 w ↦ played_as _ _ _ _ _ _ _ _ _ _ _ _ _ _ _ w.i-is (pieces _ _ _ _ _ _ _ _ _ w.banks-is w.unprotected-is w.control-is w.buffer-is) (λ j. lent (w.main-is j) (w.small-is j)) w.answers-is w.array-is (w.refuse-i.ensures _ _ _ held w.if-refused-ne0.true)
-      | else-refused-ne0+else-loop-i-test w ↦ played_as _ _ _ _ _ _ _ _ _ _ _ _ _ _ _ w.i-is (pieces _ _ _ _ _ _ _ _ _ w.banks-is w.unprotected-is w.control-is w.buffer-is) (λ j. lent (w.main-is j) (w.small-is j)) w.answers-is w.array-is (sofar_end _ _ _ _ _ _ _ _ _ _ w.loop-i.invariant.0.sofar (λ p q. absurd (omega (arith, w.loop-i-test.false, w.loop-i.invariant.1))))
-      | else-refused-ne0+then-loop-i-test+in-End w ↦ played_as _ _ _ _ _ _ _ _ _ _ _ _ _ _ _ w.i-is (pieces _ _ _ _ _ _ _ _ _ w.banks-is w.unprotected-is w.control-is w.buffer-is) (λ j. lent (w.main-is j) (w.small-is j)) w.answers-is w.array-is (sofar_end _ _ _ _ _ _ _ _ _ _ w.loop-i.invariant.0.sofar (λ p q. task_means 0 (geometry_of c.args.device.state.part) _ _ (sym w.in-End.is ∙ w.task_of-task.ensures)))
-    ])
+    c.refuse-played.ensures _ _ _ same c.if-refused-ne0.true
+
+pub returns-after-loop-i : goal.returns-after-loop-i
+returns-after-loop-i c =
+    let e : c.loop-i.played ≡ c.loop-i.i = omega (arith, c.loop-i-test.false, c.loop-i.invariant.2, c.loop-i.invariant.3) in
+    rw e (sofar_end _ _ _ _ _ _ _ _ _ _ c.loop-i.invariant.0.sofar (λ p q. absurd (omega (arith, c.loop-i-test.false, c.loop-i.invariant.1))))
+
+pub returns-in-End : goal.returns-in-End
+returns-in-End c = sofar_end _ _ _ _ _ _ _ _ _ _ c.loop-i.invariant.0.sofar (λ p q. task_means 0 (geometry_of c.args.device.state.part) _ _ (sym c.in-End.is ∙ c.task_of-task.ensures))
