@@ -220,7 +220,9 @@ fn setup_fits(part: Part, s: Setup) -> bool
     }
 }
 
+// Inlined at its three calls: as calls they make the test of what is under way a quarter longer.
 #[tactic(auto, unfolding(semantics::specs::WellFormed::running_fits))]
+#[inline(always)]
 fn running_fits(part: Part, r: Running) -> bool
     ensures { result ≡ running_fits (geometry_of part) r }
 {
