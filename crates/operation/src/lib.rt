@@ -2,6 +2,7 @@
 #![tactic(auto)]
 
 ghost use Rattle.std.specs.Prelude.{◌≡◌};
+ghost use Rattle.geometry.specs.declared.Geometry.{Geometry};
 ghost use Rattle.geometry.specs.Blocks.{geometry_of};
 ghost use Rattle.semantics.specs.State.{with_setup, with_running, runs, program_suspended, erase_suspended};
 ghost use Rattle.semantics.specs.WellFormed.{pending, is_erase_setup, is_erase, erasing, running_alone, program_alone};
@@ -22,81 +23,45 @@ use semantics::{Activity, Running, Setup, SuspendedErase, SuspendedProgram};
 pub fn runs(r: Running) -> bool
     ensures { result ≡ runs r }
 {
-    match r {
-        Running::Idle => false,
-        Running::Program { .. } => true,
-        Running::Erase { .. } => true,
-        Running::Buffer { .. } => true,
-    }
+    !matches!(r, Running::Idle)
 }
 
 pub fn program_suspended(p: SuspendedProgram) -> bool
     ensures { result ≡ program_suspended p }
 {
-    match p {
-        SuspendedProgram::Nothing => false,
-        SuspendedProgram::Program { .. } => true,
-        SuspendedProgram::Buffer { .. } => true,
-    }
+    !matches!(p, SuspendedProgram::Nothing)
 }
 
 pub fn erase_suspended(e: SuspendedErase) -> bool
     ensures { result ≡ erase_suspended e }
 {
-    match e {
-        SuspendedErase::Nothing => false,
-        SuspendedErase::Erase { .. } => true,
-    }
+    !matches!(e, SuspendedErase::Nothing)
 }
 
 // A set-up is pending.
 pub fn pending(s: Setup) -> bool
     ensures { result ≡ pending s }
 {
-    match s {
-        Setup::Nothing => false,
-        Setup::Program => true,
-        Setup::Erase => true,
-        Setup::Lock => true,
-        Setup::BufferCount { .. } => true,
-        Setup::BufferFirst { .. } => true,
-        Setup::BufferWords { .. } => true,
-    }
+    !matches!(s, Setup::Nothing)
 }
 
 pub fn is_erase_setup(s: Setup) -> bool
     ensures { result ≡ is_erase_setup s }
 {
-    match s {
-        Setup::Nothing => false,
-        Setup::Program => false,
-        Setup::Erase => true,
-        Setup::Lock => false,
-        Setup::BufferCount { .. } => false,
-        Setup::BufferFirst { .. } => false,
-        Setup::BufferWords { .. } => false,
-    }
+    matches!(s, Setup::Erase)
 }
 
 pub fn is_erase(r: Running) -> bool
     ensures { result ≡ is_erase r }
 {
-    match r {
-        Running::Idle => false,
-        Running::Program { .. } => false,
-        Running::Erase { .. } => true,
-        Running::Buffer { .. } => false,
-    }
+    matches!(r, Running::Erase { .. })
 }
 
 // The suspended erase, if there is one, is of this block.
 pub fn erasing(e: SuspendedErase, block: u32) -> bool
     ensures { result ≡ erasing e block }
 {
-    match e {
-        SuspendedErase::Nothing => false,
-        SuspendedErase::Erase { block: b, done: _ } => b == block,
-    }
+    matches!(e, SuspendedErase::Erase { block: b, .. } if b == block)
 }
 
 // ---- its changes
@@ -104,58 +69,35 @@ pub fn erasing(e: SuspendedErase, block: u32) -> bool
 pub fn with_setup(a: Activity, s: Setup) -> Activity
     ensures { result ≡ with_setup a s }
 {
-    let running = a.running;
-    let program = a.program;
-    let erase = a.erase;
-    Activity {
-        setup: s,
-        running,
-        program,
-        erase,
-    }
+    Activity { setup: s, ..a }
 }
 
 pub fn with_running(a: Activity, r: Running) -> Activity
     ensures { result ≡ with_running a r }
 {
-    let setup = a.setup;
-    let program = a.program;
-    let erase = a.erase;
-    Activity {
-        setup,
-        running: r,
-        program,
-        erase,
-    }
+    Activity { running: r, ..a }
 }
 
 // What runs becomes suspended, with the words that it has done.
 pub fn suspended(a: Activity) -> Activity
     ensures { result ≡ suspended a a.running }
 {
-    let setup = a.setup;
-    let running = a.running;
-    let program = a.program;
-    let erase = a.erase;
-    match running {
+    match a.running {
         Running::Idle => a,
         Running::Program { location, word } => Activity {
-            setup,
             running: Running::Idle,
             program: SuspendedProgram::Program { location, word },
-            erase,
+            ..a
         },
         Running::Erase { block, done } => Activity {
-            setup,
             running: Running::Idle,
-            program,
             erase: SuspendedErase::Erase { block, done },
+            ..a
         },
         Running::Buffer { start, words, done } => Activity {
-            setup,
             running: Running::Idle,
             program: SuspendedProgram::Buffer { start, words, done },
-            erase,
+            ..a
         },
     }
 }
@@ -164,16 +106,12 @@ pub fn suspended(a: Activity) -> Activity
 fn resumed_erase(a: Activity) -> Activity
     ensures { result ≡ resumed_erase a a.erase }
 {
-    let setup = a.setup;
-    let program = a.program;
-    let erase = a.erase;
-    match erase {
+    match a.erase {
         SuspendedErase::Nothing => a,
         SuspendedErase::Erase { block, done } => Activity {
-            setup,
             running: Running::Erase { block, done },
-            program,
             erase: SuspendedErase::Nothing,
+            ..a
         },
     }
 }
@@ -182,100 +120,85 @@ fn resumed_erase(a: Activity) -> Activity
 pub fn resumed(a: Activity) -> Activity
     ensures { result ≡ resumed a a.program }
 {
-    let setup = a.setup;
-    let program = a.program;
-    let erase = a.erase;
-    match program {
+    match a.program {
         SuspendedProgram::Nothing => resumed_erase(a),
         SuspendedProgram::Program { location, word } => Activity {
-            setup,
             running: Running::Program { location, word },
             program: SuspendedProgram::Nothing,
-            erase,
+            ..a
         },
         SuspendedProgram::Buffer { start, words, done } => Activity {
-            setup,
             running: Running::Buffer { start, words, done },
             program: SuspendedProgram::Nothing,
-            erase,
+            ..a
         },
     }
 }
 
 // A set-up is accepted.
+#[tactic(auto, unfolding(semantics::specs::Writing::accepts))]
 pub fn accepts(a: Activity, s: Setup) -> bool
     ensures { result ≡ accepts a s }
 {
-    let running = a.running;
-    let program = a.program;
-    let erase = a.erase;
+    let free = !runs(a.running) & !program_suspended(a.program);
     match s {
-        Setup::Nothing => false,
-        Setup::Program => !runs(running) & !program_suspended(program),
-        Setup::Erase => { !runs(running) & (!program_suspended(program) & !erase_suspended(erase)) }
-        Setup::Lock => !runs(running) & !program_suspended(program),
-        Setup::BufferCount { .. } => !runs(running) & !program_suspended(program),
-        Setup::BufferFirst { .. } => false,
-        Setup::BufferWords { .. } => false,
+        Setup::Program | Setup::Lock | Setup::BufferCount { .. } => free,
+        Setup::Erase => free & !erase_suspended(a.erase),
+        Setup::Nothing | Setup::BufferFirst { .. } | Setup::BufferWords { .. } => false,
     }
 }
 
 // ---- when it is well formed
 
+#[tactic(auto, unfolding(semantics::specs::WellFormed::running_alone))]
 fn running_alone(a: Activity) -> bool
     ensures { result ≡ running_alone a }
 {
-    let setup = a.setup;
-    let running = a.running;
-    let program = a.program;
-    !runs(running) | (!pending(setup) & !program_suspended(program))
+    !runs(a.running) | (!pending(a.setup) & !program_suspended(a.program))
 }
 
+#[tactic(auto, unfolding(semantics::specs::WellFormed::program_alone))]
 fn program_alone(a: Activity) -> bool
     ensures { result ≡ program_alone a }
 {
-    let setup = a.setup;
-    let program = a.program;
-    !program_suspended(program) | !pending(setup)
+    !program_suspended(a.program) | !pending(a.setup)
 }
 
+#[tactic(auto, unfolding(semantics::specs::WellFormed::erase_alone))]
 fn erase_alone(a: Activity) -> bool
     ensures { result ≡ erase_alone a }
 {
-    let setup = a.setup;
-    let running = a.running;
-    let erase = a.erase;
-    !erase_suspended(erase) | (!is_erase(running) & !is_erase_setup(setup))
+    !erase_suspended(a.erase) | (!is_erase(a.running) & !is_erase_setup(a.setup))
 }
 
 // A block of the part, of which fewer words are done than it has.
+#[tactic(auto, unfolding(semantics::specs::WellFormed::erase_fits))]
 fn erase_fits(part: Part, block: u32, done: u32) -> bool
     ensures { result ≡ erase_fits (geometry_of part) block done }
 {
-    let count = geometry::block_count(part);
-    let size = geometry::block_size(part, block);
-    (block < count) & (done < size)
+    (block < geometry::block_count(part)) & (done < geometry::block_size(part, block))
 }
 
 // So many words from a location on end within a block. Compared in 64 bits: the sum may not fit.
 pub fn stays_in(part: Part, block: u32, location: u32, words: u32) -> bool
     ensures { result ≡ stays_in (geometry_of part) block location words }
 {
-    let first = geometry::block_start(part, block) as u64;
-    let end = first + geometry::block_size(part, block) as u64;
-    location as u64 + words as u64 <= end
+    let first = u64::from(geometry::block_start(part, block));
+    let end = first + u64::from(geometry::block_size(part, block));
+    u64::from(location) + u64::from(words) <= end
 }
 
 // Words from a location on: they lie in one block of the part, and the buffer holds so many.
+#[tactic(auto, unfolding(semantics::specs::WellFormed::words_fit))]
 fn words_fit(part: Part, start: u32, words: u32) -> bool
     ensures { result ≡ words_fit (geometry_of part) start words }
 {
     let block = geometry::block_of(part, start);
-    let length = geometry::length_of(part);
-    (start < length) & (stays_in(part, block, start, words) & (words <= 32))
+    (start < geometry::length_of(part)) & stays_in(part, block, start, words) & (words <= 32)
 }
 
 // The same, and the words are more than are done.
+#[tactic(auto, unfolding(semantics::specs::WellFormed::buffer_fits))]
 fn buffer_fits(part: Part, start: u32, words: u32, done: u32) -> bool
     ensures { result ≡ buffer_fits (geometry_of part) start words done }
 {
@@ -283,110 +206,97 @@ fn buffer_fits(part: Part, start: u32, words: u32, done: u32) -> bool
 }
 
 // A load: before its first word its words need not fit the block.
+#[tactic(auto, unfolding(semantics::specs::WellFormed::setup_fits))]
 fn setup_fits(part: Part, s: Setup) -> bool
     ensures { result ≡ setup_fits (geometry_of part) s }
 {
     match s {
-        Setup::Nothing => true,
-        Setup::Program => true,
-        Setup::Erase => true,
-        Setup::Lock => true,
         Setup::BufferCount { block } => block < geometry::block_count(part),
         Setup::BufferFirst { block, words } => {
-            (block < geometry::block_count(part)) & ((0 < words) & (words <= 32))
+            (block < geometry::block_count(part)) & (0 < words) & (words <= 32)
         }
         Setup::BufferWords { start, words, due } => buffer_fits(part, start, words, due),
+        Setup::Nothing | Setup::Program | Setup::Erase | Setup::Lock => true,
     }
 }
 
+// Inlined at its three calls: as calls they make the test of what is under way a quarter longer.
+#[tactic(auto, unfolding(semantics::specs::WellFormed::running_fits))]
+#[inline(always)]
 fn running_fits(part: Part, r: Running) -> bool
     ensures { result ≡ running_fits (geometry_of part) r }
 {
     match r {
         Running::Idle => true,
-        Running::Program { location, word: _ } => location < geometry::length_of(part),
+        Running::Program { location, .. } => location < geometry::length_of(part),
         Running::Erase { block, done } => erase_fits(part, block, done),
         Running::Buffer { start, words, done } => buffer_fits(part, start, words, done),
     }
 }
 
-fn program_fits(part: Part, p: SuspendedProgram) -> bool
-    ensures { result ≡ program_fits (geometry_of part) p }
+// What is suspended, as it runs once it is resumed: it fits the part, lies apart and uses places as that does.
+#[tactic(auto, unfolding(semantics::specs::WellFormed::running_fits, semantics::specs::WellFormed::program_fits, semantics::specs::WellFormed::running_apart, semantics::specs::WellFormed::program_apart, semantics::specs::WellFormed::running_places, semantics::specs::WellFormed::program_places))]
+fn program_again(p: SuspendedProgram) -> Running
+    ensures fits { (g : Geometry) → running_fits g result ≡ program_fits g p }
+    ensures apart { (g : Geometry) (e : SuspendedErase) → running_apart g e result ≡ program_apart g e p }
+    ensures places { running_places result ≡ program_places p }
 {
     match p {
-        SuspendedProgram::Nothing => true,
-        SuspendedProgram::Program { location, word: _ } => location < geometry::length_of(part),
-        SuspendedProgram::Buffer { start, words, done } => buffer_fits(part, start, words, done),
+        SuspendedProgram::Nothing => Running::Idle,
+        SuspendedProgram::Program { location, word } => Running::Program { location, word },
+        SuspendedProgram::Buffer { start, words, done } => Running::Buffer { start, words, done },
     }
 }
 
-fn suspended_erase_fits(part: Part, e: SuspendedErase) -> bool
-    ensures { result ≡ suspended_erase_fits (geometry_of part) e }
+#[tactic(auto, unfolding(semantics::specs::WellFormed::running_fits, semantics::specs::WellFormed::suspended_erase_fits))]
+fn erase_again(e: SuspendedErase) -> Running
+    ensures { (g : Geometry) → running_fits g result ≡ suspended_erase_fits g e }
 {
     match e {
-        SuspendedErase::Nothing => true,
-        SuspendedErase::Erase { block, done } => erase_fits(part, block, done),
+        SuspendedErase::Nothing => Running::Idle,
+        SuspendedErase::Erase { block, done } => Running::Erase { block, done },
     }
 }
 
 // Locations and blocks are of the part.
+#[tactic(auto, unfolding(semantics::specs::WellFormed::all_fit))]
 fn all_fit(part: Part, a: Activity) -> bool
     ensures { result ≡ all_fit (geometry_of part) a }
 {
-    let setup = a.setup;
-    let running = a.running;
-    let program = a.program;
-    let erase = a.erase;
-    setup_fits(part, setup)
-        & (running_fits(part, running)
-            & (program_fits(part, program) & suspended_erase_fits(part, erase)))
+    setup_fits(part, a.setup)
+        & running_fits(part, a.running)
+        & running_fits(part, program_again(a.program))
+        & running_fits(part, erase_again(a.erase))
 }
 
+// A program that runs beside a suspended erase lies in another block.
+#[tactic(auto, unfolding(semantics::specs::WellFormed::running_apart))]
 fn running_apart(part: Part, e: SuspendedErase, r: Running) -> bool
     ensures { result ≡ running_apart (geometry_of part) e r }
 {
     match r {
-        Running::Idle => true,
-        Running::Program { location, word: _ } => !erasing(e, geometry::block_of(part, location)),
-        Running::Erase { .. } => true,
-        Running::Buffer {
-            start,
-            words: _,
-            done: _,
-        } => !erasing(e, geometry::block_of(part, start)),
-    }
-}
-
-fn program_apart(part: Part, e: SuspendedErase, p: SuspendedProgram) -> bool
-    ensures { result ≡ program_apart (geometry_of part) e p }
-{
-    match p {
-        SuspendedProgram::Nothing => true,
-        SuspendedProgram::Program { location, word: _ } => {
-            !erasing(e, geometry::block_of(part, location))
+        Running::Idle | Running::Erase { .. } => true,
+        Running::Program {
+            location: start,
+            ..
         }
-        SuspendedProgram::Buffer {
-            start,
-            words: _,
-            done: _,
-        } => !erasing(e, geometry::block_of(part, start)),
+        | Running::Buffer { start, .. } => { !erasing(e, geometry::block_of(part, start)) }
     }
 }
 
-// A program beside a suspended erase lies in another block.
+// The same of one that is suspended too.
+#[tactic(auto, unfolding(semantics::specs::WellFormed::apart))]
 fn apart(part: Part, a: Activity) -> bool
     ensures { result ≡ apart (geometry_of part) a }
 {
-    let running = a.running;
-    let program = a.program;
-    let erase = a.erase;
-    running_apart(part, erase, running) & program_apart(part, erase, program)
+    running_apart(part, a.erase, a.running) & running_apart(part, a.erase, program_again(a.program))
 }
 
+#[tactic(auto, unfolding(semantics::specs::WellFormed::activity_formed))]
 pub fn activity_formed(part: Part, a: Activity) -> bool
     ensures { result ≡ activity_formed (geometry_of part) a }
 {
-    running_alone(a) & (program_alone(a) & (erase_alone(a) & (all_fit(part, a) & apart(part, a))))
+    running_alone(a) & program_alone(a) & erase_alone(a) & all_fit(part, a) & apart(part, a)
 }
 
 // ---- when that needs no further test
@@ -395,15 +305,10 @@ pub fn activity_formed(part: Part, a: Activity) -> bool
 fn is_load(s: Setup) -> bool
     ensures { result ≡ is_load s }
 {
-    match s {
-        Setup::Nothing => false,
-        Setup::Program => false,
-        Setup::Erase => false,
-        Setup::Lock => false,
-        Setup::BufferCount { .. } => true,
-        Setup::BufferFirst { .. } => true,
-        Setup::BufferWords { .. } => true,
-    }
+    matches!(
+        s,
+        Setup::BufferCount { .. } | Setup::BufferFirst { .. } | Setup::BufferWords { .. }
+    )
 }
 
 // Nothing runs, is suspended or is loaded; a set-up of two cycles may be pending. So it is well formed and uses no
@@ -411,86 +316,55 @@ fn is_load(s: Setup) -> bool
 pub fn at_rest(a: Activity) -> bool
     ensures { result ≡ at_rest a }
 {
-    let setup = a.setup;
-    let running = a.running;
-    let program = a.program;
-    let erase = a.erase;
-    !is_load(setup) & (!runs(running) & (!program_suspended(program) & !erase_suspended(erase)))
+    !is_load(a.setup) & !runs(a.running) & !program_suspended(a.program) & !erase_suspended(a.erase)
 }
 
 // ---- the places of the buffer that it uses
 
+#[tactic(auto, unfolding(semantics::specs::WellFormed::setup_places))]
 fn setup_places(s: Setup) -> u32
     ensures { result ≡ setup_places s }
 {
     match s {
-        Setup::Nothing => 0,
-        Setup::Program => 0,
-        Setup::Erase => 0,
-        Setup::Lock => 0,
-        Setup::BufferCount { .. } => 0,
-        Setup::BufferFirst { .. } => 0,
-        Setup::BufferWords {
-            start: _,
-            words,
-            due: _,
-        } => words,
+        Setup::BufferWords { words, .. } => words,
+        _ => 0,
     }
 }
 
+#[tactic(auto, unfolding(semantics::specs::WellFormed::running_places))]
 fn running_places(r: Running) -> u32
     ensures { result ≡ running_places r }
 {
     match r {
-        Running::Idle => 0,
-        Running::Program { .. } => 0,
-        Running::Erase { .. } => 0,
-        Running::Buffer {
-            start: _,
-            words,
-            done: _,
-        } => words,
-    }
-}
-
-fn program_places(p: SuspendedProgram) -> u32
-    ensures { result ≡ program_places p }
-{
-    match p {
-        SuspendedProgram::Nothing => 0,
-        SuspendedProgram::Program { .. } => 0,
-        SuspendedProgram::Buffer {
-            start: _,
-            words,
-            done: _,
-        } => words,
+        Running::Buffer { words, .. } => words,
+        _ => 0,
     }
 }
 
 // The sum of the three in 64 bits: it may not fit 32.
+#[tactic(auto, unfolding(semantics::specs::WellFormed::places_used))]
 pub fn places_used(a: Activity) -> u64
     ensures { result ≡ places_used a }
 {
-    let setup = a.setup;
-    let running = a.running;
-    let program = a.program;
-    setup_places(setup) as u64 + (running_places(running) as u64 + program_places(program) as u64)
+    u64::from(setup_places(a.setup))
+        + u64::from(running_places(a.running))
+        + u64::from(running_places(program_again(a.program)))
 }
 
 // ---- where it runs
 
 // What runs is in this bank.
+#[tactic(auto, unfolding(semantics::specs::Reading::runs_in))]
 pub fn runs_in(part: Part, r: Running, bank: u32) -> bool
     ensures { result ≡ runs_in (geometry_of part) r bank }
 {
     match r {
         Running::Idle => false,
-        Running::Program { location, word: _ } => geometry::bank_of(part, location) == bank,
-        Running::Erase { block, done: _ } => geometry::bank_of_block(part, block) == bank,
-        Running::Buffer {
-            start,
-            words: _,
-            done: _,
-        } => geometry::bank_of(part, start) == bank,
+        Running::Program {
+            location: start,
+            ..
+        }
+        | Running::Buffer { start, .. } => { geometry::bank_of(part, start) == bank }
+        Running::Erase { block, .. } => geometry::bank_of_block(part, block) == bank,
     }
 }
