@@ -1,5 +1,5 @@
-// What a read shows: the status word, the signature, the query and the word at a location (document 01, "Read, address." and "Status word.").
-// Each function takes every number: a location past the array reads 0.
+// What a read shows: the status word, the signature, the query and the word at a location (document 01, "Read,
+// address." and "Status word."). Each function takes every number: a location past the array reads 0.
 #![tactic(auto)]
 
 ghost use Rattle.std.specs.Prelude.{◌≡◌, not, ◌&&◌, ℕ, ◌≤◌, get_or};
@@ -34,7 +34,8 @@ fn busy_elsewhere(part: Part, r: Running, bank: u32) -> bool
     operation::runs(r) && !operation::runs_in(part, r, bank)
 }
 
-// The status word that a read in a bank shows: the eight lines of Table 9, SR7 first. Each decides its own bit and no other (semantics, StatusBits).
+// The status word that a read in a bank shows: the eight lines of Table 9, SR7 first. Each decides its own bit and no
+// other (semantics, StatusBits).
 #[tactic(auto, unfolding(semantics::specs::Reading::status_word))]
 pub fn status_word(part: Part, a: Activity, flags: Flags, bank: u32) -> u16
     ensures { result ≡ status_word (geometry_of part) a flags bank }
@@ -103,7 +104,8 @@ fn shown(part: Part, mode: Mode, running: Running, bank: u32) -> Mode
     }
 }
 
-// The word that a read at a location of a bank shows, by the bank's mode. The protection is lent, and looked up for the signature alone.
+// The word that a read at a location of a bank shows, by the bank's mode. The protection is lent, and looked up for the
+// signature alone.
 #[tactic(auto, using(crate::specs::Shown::by_array, crate::specs::Shown::by_status, crate::specs::Shown::by_signature, crate::specs::Shown::by_query))]
 pub fn read_at(
     part: Part,

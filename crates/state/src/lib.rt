@@ -1,5 +1,5 @@
-// A device's state: power-up, the states that differ from another in one field, and whether a state and a step's numbers are refused.
-// Each function takes every state and number. What these mean is in the crate semantics.
+// A device's state: power-up, the states that differ from another in one field, and whether a state and a step's
+// numbers are refused. Each function takes every state and number. What these mean is in the crate semantics.
 #![tactic(auto)]
 
 ghost use Rattle.std.specs.Prelude.{List, ◌≡◌, ◌<◌};
@@ -221,8 +221,8 @@ pub fn reset(s: State) -> State
 
 // ---- refusals
 
-// Whether a state of these pieces is well formed (document 01: well made), whatever the modes are. Where nothing runs, is suspended or is loaded, only the spare storage and the
-// register are left to test.
+// Whether a state of these pieces is well formed (document 01: well made), whatever the modes are. Where nothing runs,
+// is suspended or is loaded, only the spare storage and the register are left to test.
 #[tactic(auto, using(operation::specs::Rest::at_rest_formed, operation::specs::Rest::at_rest_unused, operation::specs::Rest::at_rest_idle, semantics::proofs::Supplied::idle_supplied), unfolding(semantics::specs::WellFormed::well_formed))]
 pub fn formed_of(part: Part, c: Control, words: [u64; 5], buffer: [u16; 32]) -> bool
     ensures { (bs : List Bank) → result ≡ well_formed (record { part = part; banks = bs; unprotected = words; control = c; buffer = buffer }) }
@@ -263,8 +263,9 @@ pub fn refusal_beside(part: Part, formed: bool, n: usize) -> u32
     }
 }
 
-// The refusal of an address, of a read's as of a write's, 0 where there is none. It is 3 where the address is too large;
-// 5, its location in no block, is not tested, since every location lies in a block (`address_good` of semantics).
+// The refusal of an address, of a read's as of a write's, 0 where there is none. It is 3 where the address is too
+// large; 5, its location in no block, is not tested, since every location lies in a block (`address_good` of
+// semantics).
 #[tactic(auto, using(semantics::proofs::Split::address_good, semantics::proofs::Split::address_bad, geometry::specs::Laws::sound))]
 pub fn address_refusal(part: Part, address: u32) -> u32
     ensures { result ≡ step_refusal (geometry_of part) (Step.Read address) }
