@@ -1,5 +1,5 @@
-// A device's state: power-up, the states that differ from another in one field, and whether a state and a step's numbers are refused.
-// Each function takes every state and number. What these mean is in the crate semantics.
+// A device's state: power-up, the states that differ from another in one field, and whether a state and a step's
+// numbers are refused. Each function takes every state and number. What these mean is in the crate semantics.
 #![tactic(auto)]
 
 ghost use Rattle.std.specs.Prelude.{List, ◌≡◌, ◌<◌};
@@ -23,11 +23,13 @@ use semantics::{
 
 // ---- one field changed
 
-pub fn with_protection(mut s: State, x: [u64; 5]) -> State
+pub fn with_protection(s: State, x: [u64; 5]) -> State
     ensures { result ≡ with_protection s x }
 {
-    s.unprotected = x;
-    s
+    State {
+        unprotected: x,
+        ..s
+    }
 }
 
 pub fn with_supply(mut s: State, x: bool) -> State
@@ -45,14 +47,11 @@ pub fn place_of(part: Part, address: u32) -> Place
     ensures bank { result.bank < 16 }
     ensures block { result.block < 259 }
 {
-    let location = geometry::location_of(part, address);
-    let bank = geometry::bank_at(part, address);
-    let block = geometry::block_at(part, address);
     Place {
         address,
-        location,
-        bank,
-        block,
+        location: geometry::location_of(part, address),
+        bank: geometry::bank_at(part, address),
+        block: geometry::block_at(part, address),
     }
 }
 
@@ -60,25 +59,17 @@ pub fn place_of(part: Part, address: u32) -> Place
 pub fn mode_of(banks: [Bank; 16], bank: u32) -> Mode
     ensures { result ≡ mode_in banks bank }
 {
-    if bank < 16 {
-        let i = bank as usize;
-        let b = banks[i];
-        return b.mode;
-    }
-    Mode::Array
+    banks.get(bank as usize).map_or(Mode::Array, |b| b.mode)
 }
 
 // What is seen of the state at a place.
 pub fn view_at(s: State, p: Place) -> View
     ensures { result ≡ view_at s p }
 {
-    let banks = s.banks;
-    let words = s.unprotected;
-    let control = s.control;
     View {
-        mode: mode_of(banks, p.bank),
-        unprotected: protection::is_unprotected(&words, p.block),
-        control,
+        mode: mode_of(s.banks, p.bank),
+        unprotected: protection::is_unprotected(&s.unprotected, p.block),
+        control: s.control,
     }
 }
 
@@ -86,15 +77,11 @@ pub fn view_at(s: State, p: Place) -> View
 pub fn with_view(mut s: State, p: Place, v: View) -> State
     ensures { result ≡ with_view s p v }
 {
-    let control = v.control;
-    let mode = v.mode;
-    let bank = p.bank;
-    s.control = control;
+    s.control = v.control;
     protection::set_block(&mut s.unprotected, p.block, v.unprotected);
-    if bank < 16 {
-        let b = Bank { mode };
-        s.banks[bank as usize] = b;
-        return s;
+    let bank = p.bank as usize;
+    if bank < s.banks.len() {
+        s.banks[bank].mode = v.mode;
     }
     s
 }
@@ -129,6 +116,7 @@ pub fn join(f: Flags, g: Flags) -> Flags
 // ---- the configuration register
 
 // A word with the register's reserved bits, 14, 5 and 4, at 0.
+#[tactic(auto, unfolding(semantics::specs::Register::without_reserved))]
 pub fn without_reserved(w: u16) -> u16
     ensures { result ≡ without_reserved w }
 {
@@ -136,6 +124,7 @@ pub fn without_reserved(w: u16) -> u16
 }
 
 // Whether a word has them at 0, and so is left as it is by the mask.
+#[tactic(auto, using(semantics::proofs::RegisterBits::masked_same))]
 pub fn reserved_zero(w: u16) -> bool
     ensures { result ≡ reserved_zero w }
 {
@@ -145,73 +134,62 @@ pub fn reserved_zero(w: u16) -> bool
 // ---- the supply
 
 // The flags of what ends for want of supply.
+#[tactic(auto, unfolding(semantics::specs::Supply::end_flags))]
 fn end_flags(r: Running) -> Flags
     ensures { result ≡ end_flags r }
 {
     match r {
         Running::Idle => no_flags(),
-        Running::Program { .. } => flags_of(false, true, true, false),
+        Running::Program { .. } | Running::Buffer { .. } => flags_of(false, true, true, false),
         Running::Erase { .. } => flags_of(true, false, true, false),
-        Running::Buffer { .. } => flags_of(false, true, true, false),
     }
 }
 
 // What runs ends, with its flags beside those that were.
+#[tactic(auto, unfolding(semantics::specs::Supply::ended))]
 pub fn ended(c: Control) -> Control
     ensures { result ≡ ended c }
 {
-    let a = c.activity;
-    let flags = c.flags;
-    let running = a.running;
     Control {
-        activity: operation::with_running(a, Running::Idle),
-        flags: join(flags, end_flags(running)),
-        configuration: c.configuration,
-        supply: c.supply,
+        activity: operation::with_running(c.activity, Running::Idle),
+        flags: join(c.flags, end_flags(c.activity.running)),
+        ..c
     }
 }
 
 // The same, where the buffer stands: a buffer program leaves it empty.
+#[tactic(auto, unfolding(semantics::specs::Working::buffer_after))]
 pub fn end_running(c: Control, buffer: &mut [u16; 32]) -> Control
     ensures control { result ≡ ended c }
     ensures buffer { buffer.new ≡ buffer_after c.activity.running Running.Idle buffer.old }
 {
-    let a = c.activity;
-    let running = a.running;
-    match running {
-        Running::Idle => ended(c),
-        Running::Program { .. } => ended(c),
-        Running::Erase { .. } => ended(c),
-        Running::Buffer { .. } => {
-            buffer::keep_if(buffer, false);
-            ended(c)
-        }
+    if matches!(c.activity.running, Running::Buffer { .. }) {
+        buffer::keep_if(buffer, false);
     }
+    ended(c)
 }
 
 // The supply switched on or off: off ends what runs.
+#[tactic(auto, using(semantics::proofs::Spare::buffer_on), unfolding(semantics::specs::Supply::switched, semantics::specs::Supply::ended_if_unsupplied, semantics::specs::Supply::ended))]
 pub fn switch_supply(mut c: Control, on: bool, buffer: &mut [u16; 32]) -> Control
     ensures control { result ≡ switched c on }
     ensures buffer { buffer.new ≡ buffer_after c.activity.running (switched c on).activity.running buffer.old }
 {
     c.supply = on;
-    if on {
-        return c;
-    }
-    end_running(c, buffer)
+    if on { c } else { end_running(c, buffer) }
 }
 
 // Something runs only with supply on.
+#[tactic(auto, unfolding(semantics::specs::WellFormed::runs_supplied))]
 fn runs_supplied(c: Control) -> bool
     ensures { result ≡ runs_supplied c }
 {
-    let a = c.activity;
-    let running = a.running;
-    !operation::runs(running) | c.supply
+    !operation::runs(c.activity.running) | c.supply
 }
 
 // ---- power-up
 
+#[tactic(auto, unfolding(semantics::specs::State::power_up))]
 pub fn power_up(part: Part) -> State
     ensures { result ≡ power_up part }
 {
@@ -238,94 +216,87 @@ pub fn power_up(part: Part) -> State
 pub fn reset(s: State) -> State
     ensures { result ≡ with_supply (power_up s.part) s.control.supply }
 {
-    let part = s.part;
-    let on = s.control.supply;
-    with_supply(power_up(part), on)
+    with_supply(power_up(s.part), s.control.supply)
 }
 
 // ---- refusals
 
-// Whether a state of these pieces is well formed (document 01: well made), whatever the modes are. Where nothing runs, is suspended or is loaded, only the spare storage and the
-// register are left to test.
+// Whether a state of these pieces is well formed (document 01: well made), whatever the modes are. Where nothing runs,
+// is suspended or is loaded, only the spare storage and the register are left to test.
+#[tactic(auto, using(operation::specs::Rest::at_rest_formed, operation::specs::Rest::at_rest_unused, operation::specs::Rest::at_rest_idle, semantics::proofs::Supplied::idle_supplied), unfolding(semantics::specs::WellFormed::well_formed))]
 pub fn formed_of(part: Part, c: Control, words: [u64; 5], buffer: [u16; 32]) -> bool
     ensures { (bs : List Bank) → result ≡ well_formed (record { part = part; banks = bs; unprotected = words; control = c; buffer = buffer }) }
 {
     let a = c.activity;
     if operation::at_rest(a) {
-        return protection::spare_zero(words)
-            & (buffer::zero_from(buffer, 0) & reserved_zero(c.configuration));
+        protection::spare_zero(words)
+            & buffer::zero_from(buffer, 0)
+            & reserved_zero(c.configuration)
+    } else {
+        operation::activity_formed(part, a)
+            & protection::spare_zero(words)
+            & buffer::zero_from(buffer, operation::places_used(a))
+            & reserved_zero(c.configuration)
+            & runs_supplied(c)
     }
-    operation::activity_formed(part, a)
-        & (protection::spare_zero(words)
-            & (buffer::zero_from(buffer, operation::places_used(a))
-                & (reserved_zero(c.configuration) & runs_supplied(c))))
 }
 
 // And of a whole state.
 pub fn well_formed(s: State) -> bool
     ensures { result ≡ well_formed s }
 {
-    let part = s.part;
-    let c = s.control;
-    let words = s.unprotected;
-    let buffer = s.buffer;
-    formed_of(part, c, words, buffer)
+    formed_of(s.part, s.control, s.unprotected, s.buffer)
 }
 
 // What every step is refused for, and a reset for nothing else, beside an array of n words and a state of the part that
 // is well formed or not: 1 for the length, or else 2 for the state, or else 0.
+#[tactic(auto, using(semantics::proofs::Split::reset_refused))]
 pub fn refusal_beside(part: Part, formed: bool, n: usize) -> u32
     ensures { result ≡ given (card (geometry_of part) formed n Step.Reset) }
 {
     if n != geometry::length_of(part) as usize {
-        return 1;
+        1
+    } else if formed {
+        0
+    } else {
+        2
     }
-    if formed {
-        return 0;
-    }
-    2
 }
 
-// The refusal of an address, of a read's as of a write's, 0 where there is none. It is 3 where the address is too large;
-// 5, its location in no block, is not tested, since every location lies in a block (`address_good` of semantics).
+// The refusal of an address, of a read's as of a write's, 0 where there is none. It is 3 where the address is too
+// large; 5, its location in no block, is not tested, since every location lies in a block (`address_good` of
+// semantics).
+#[tactic(auto, using(semantics::proofs::Split::address_good, semantics::proofs::Split::address_bad, geometry::specs::Laws::sound))]
 pub fn address_refusal(part: Part, address: u32) -> u32
     ensures { result ≡ step_refusal (geometry_of part) (Step.Read address) }
 {
-    if 16777216 <= address {
-        return 3;
-    }
-    0
+    if 16777216 <= address { 3 } else { 0 }
 }
 
 // What a step's own numbers are refused for, 0 where for nothing.
+#[tactic(auto, unfolding(semantics::specs::Split::step_refusal, semantics::specs::Card::given, semantics::specs::Card::card))]
 pub fn step_refusal(part: Part, x: Step) -> u32
     ensures { result ≡ step_refusal (geometry_of part) x }
 {
     match x {
-        Step::Read(address) => address_refusal(part, address),
-        Step::Write(address, word) => address_refusal(part, address),
+        Step::Read(address) | Step::Write(address, _) => address_refusal(part, address),
         Step::Work(count) => count_refusal(count),
-        Step::Supply(on) => 0,
-        Step::Reset => 0,
+        Step::Supply(_) | Step::Reset => 0,
     }
 }
 
 // The refusal of a work count, 0 where there is none.
+#[tactic(auto, using(semantics::proofs::Split::count_good, semantics::proofs::Split::count_bad))]
 pub fn count_refusal(n: u32) -> u32
     ensures { (g : Geometry) → result ≡ step_refusal g (Step.Work n) }
 {
-    if 65535 < n {
-        return 4;
-    }
-    0
+    if 65535 < n { 4 } else { 0 }
 }
 
 // The first of two refusals that is one: 0 is none.
+#[tactic(auto, unfolding(semantics::specs::Split::first_refusal))]
 pub fn first_refusal(a: u32, b: u32) -> u32
     ensures { result ≡ first_refusal a b }
 {
-    if a == 0 {
-        return b;
-    }
-    a
+    if a == 0 { b } else { a }
 }
