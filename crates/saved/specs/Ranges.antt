@@ -1,7 +1,7 @@
 -- Words are a saved state exactly where those of what is under way are what it is saved as, and each other number is in
 -- its range (is_saved_in_range). Assumes nothing.
 use Prim.Native.Nat.{ℕ, zero, suc, ◌<◌, ◌≤◌, ◌+◌, ◌/◌, ◌%◌}
-use Rattle.std.specs.Prelude.{Bool, true, false, not, cond, ◌&&◌, List, ◌≡◌, refl, eqb, ltb, length, get_or}
+use Rattle.std.specs.Prelude.{Bool, true, false, not, cond, ◌&&◌, List, ◌≡◌, refl, eqb, ltb, length, get_or, Some, None, Ok, Err}
 use Rattle.std.proofs.Math.Bool.{and_assoc, and_comm, and-true}
 use Rattle.std.proofs.Common.{sym, ap, ◌∙◌, subst, mod-eq_of_lt, eq-eqb, ne_eqb, eqb-true, ltb-true, ltb-false, lt-ltb}
 use Rattle.std.proofs.Math.Nat.{mod-lt}
@@ -11,6 +11,7 @@ use Rattle.geometry.specs.declared.Part.TheVariants.{FullBottom, FullTop, BenchB
 use Rattle.geometry.specs.Blocks.{part_numbered}
 use Rattle.semantics.specs.declared.Mode.TheVariants.{Array, Status, Signature, Query}
 use Rattle.semantics.specs.declared.Activity.{Activity}
+use Rattle.semantics.specs.declared.State.{State}
 use Rattle.semantics.specs.Tabulate.{tabulate}
 use Rattle.semantics.specs.Reading.{bit_if}
 use Rattle.semantics.specs.State.{activity}
@@ -21,6 +22,7 @@ use Rattle.saved.specs.Saved.{running_numbers, program_numbers, erase_numbers, h
 use Rattle.saved.specs.Saved.{from_byte, flags_in, control_word, packed, lane, saved_of, loaded_of, same, is_saved}
 use Rattle.saved.specs.Saved.{activity_words, activity_of, bytes_below, activity_same, control_in_range, rest_in_range}
 use Rattle.saved.specs.Saved.{in_range, four_at, setup_of, running_of, program_of, erase_of, resting, decoded_of}
+use Rattle.saved.specs.Saved.{no_state, state_of, found_of}
 use Rattle.saved.specs.Laws.{first_all, joined_eq, flags_small, packed_lanes, saved_length}
 
 -- ---- one number: what is saved of what it says is the number itself, where it is in its range
@@ -166,7 +168,7 @@ zero_at ws i h =
     rw (eqb-true (get_or ws i 0) 0 (and_true_l t _ h), eqb-true (get_or ws (i + 1) 0) 0 (and_true_r t _ h))
 
 -- eight words that are 0 say that nothing is under way
-pub rest_decoded : (ws : List ℕ) → activity_same ws resting ≡ true → record { same = true; activity = resting } ≡ decoded_of ws
+pub rest_decoded : (ws : List ℕ) → activity_same ws resting ≡ true → Some resting ≡ decoded_of ws
 unfolding activity_same
 rest_decoded ws s =
     let none : Four = (0, 0, 0, 0) in
@@ -177,4 +179,44 @@ rest_decoded ws s =
     let g = zero_at ws 5 (and_true_l (holds ws 5 none) _ r) in
     let k = zero_at ws 7 (and_true_l (holds ws 7 none) _ p) in
     let q : activity_of ws ≡ resting = λ j. activity (setup_of (f j)) (running_of (g j)) (program_of (k j)) (erase_of (zero_at ws 9 e j)) in
-    λ j. record { same = (sym s ∙ ap (activity_same ws) (sym q)) j; activity = sym q j }
+    sym (ap (λ (t : Bool). cond t (Some resting) None) s) ∙ ap (λ (a : Activity). cond (activity_same ws a) (Some a) None) (sym q)
+
+-- ---- what is found
+
+-- what is under way is decoded where its words are those that it is saved as
+pub decoded_some : (ws : List ℕ) (a : Activity) → Some a ≡ decoded_of ws → (activity_same ws (activity_of ws) ≡ true) × (a ≡ activity_of ws)
+decoded_some ws a h = go (activity_same ws (activity_of ws)) refl h
+  where
+    go : (t : Bool) → activity_same ws (activity_of ws) ≡ t → Some a ≡ cond t (Some (activity_of ws)) None → (activity_same ws (activity_of ws) ≡ true) × (a ≡ activity_of ws)
+    go true e p = (e, cc)
+    go false e p = cc
+
+pub decoded_none : (ws : List ℕ) → None ≡ decoded_of ws → activity_same ws (activity_of ws) ≡ false
+decoded_none ws h = go (activity_same ws (activity_of ws)) refl h
+  where
+    go : (t : Bool) → activity_same ws (activity_of ws) ≡ t → None ≡ cond t (Some (activity_of ws)) None → activity_same ws (activity_of ws) ≡ false
+    go true e p = cc
+    go false e p = e
+
+pub saved_found : (ws : List ℕ) → is_saved ws ≡ true → Ok (loaded_of ws) ≡ found_of ws
+unfolding state_of
+saved_found ws h = rw h
+
+pub unsaved_found : (ws : List ℕ) → is_saved ws ≡ false → Err (no_state ws) ≡ found_of ws
+unfolding state_of
+unsaved_found ws h = rw h
+
+-- and for who calls: `Ok` says that the words are a saved state, and either way the state is that of the words
+pub found_ok : (ws : List ℕ) (s : State) → Ok s ≡ found_of ws → (is_saved ws ≡ true) × (s ≡ state_of ws)
+found_ok ws s h = go (is_saved ws) refl h
+  where
+    go : (t : Bool) → is_saved ws ≡ t → Ok s ≡ cond t (Ok (state_of ws)) (Err (state_of ws)) → (is_saved ws ≡ true) × (s ≡ state_of ws)
+    go true e p = (e, cc)
+    go false e p = cc
+
+pub found_err : (ws : List ℕ) (s : State) → Err s ≡ found_of ws → (is_saved ws ≡ false) × (s ≡ state_of ws)
+found_err ws s h = go (is_saved ws) refl h
+  where
+    go : (t : Bool) → is_saved ws ≡ t → Err s ≡ cond t (Ok (state_of ws)) (Err (state_of ws)) → (is_saved ws ≡ false) × (s ≡ state_of ws)
+    go true e p = cc
+    go false e p = (e, cc)

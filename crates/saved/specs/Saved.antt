@@ -3,6 +3,7 @@
 -- Definitions only; the laws are in Laws.
 -- Assumes nothing.
 use Rattle.std.specs.Prelude.{ℕ, zero, suc, ◌+◌, ◌*◌, ◌/◌, ◌%◌, Bool, true, false, not, cond, ◌&&◌, List, [], ◌∷◌, ◌++◌, eqb, ltb, length, get_or, drop}
+use Rattle.std.specs.Prelude.{Option, Some, None, Result, Ok, Err}
 use Rattle.geometry.specs.declared.Part.{Part}
 use Rattle.geometry.specs.declared.Part.TheVariants.{FullBottom, FullTop, BenchBottom, BenchTop}
 use Rattle.geometry.specs.Blocks.{part_numbered}
@@ -25,8 +26,6 @@ use Rattle.semantics.specs.State.{with_protection, activity, flags_of, power_up}
 use Rattle.semantics.specs.Tabulate.{tabulate}
 use Rattle.semantics.specs.Reading.{bit_if}
 use Rattle.saved.specs.declared.Four.{Four}
-use Rattle.saved.specs.declared.Found.{Found}
-use Rattle.saved.specs.declared.Decoded.{Decoded}
 
 -- ---- a field as numbers, and back. Of the numbers of an enum the last stands for every other number too
 
@@ -265,12 +264,9 @@ no_state ws = with_protection (power_up (part_numbered (get_or ws 0 0))) (0 ∷ 
 unfoldable pub state_of : List ℕ → State
 state_of ws = cond (is_saved ws) (loaded_of ws) (no_state ws)
 
--- what the words are found to be
-abbrev pub found_of : List ℕ → Found
-found_of ws = record { saved = is_saved ws; state = state_of ws }
-
-abbrev pub not_found : List ℕ → Found
-not_found ws = record { saved = false; state = no_state ws }
+-- what the words are found to be: `Ok` where they are a saved state, and either way the state that they say
+abbrev pub found_of : List ℕ → Result State State
+found_of ws = cond (is_saved ws) (Ok (state_of ws)) (Err (state_of ws))
 
 -- room for a saved state stays as it is where it has not 25 words
 unfoldable pub put_into : List ℕ → List ℕ → List ℕ
@@ -292,9 +288,9 @@ activity_same ws a =
     && (holds ws 7 (program_numbers a.program)
     && holds ws 9 (erase_numbers a.erase)))
 
--- what is under way, with whether its words are so
-abbrev pub decoded_of : List ℕ → Decoded
-decoded_of ws = record { same = activity_same ws (activity_of ws); activity = activity_of ws }
+-- what is under way, where its words are so
+abbrev pub decoded_of : List ℕ → Option Activity
+decoded_of ws = cond (activity_same ws (activity_of ws)) (Some (activity_of ws)) None
 
 -- nothing is pending, runs or is suspended
 abbrev pub resting : Activity

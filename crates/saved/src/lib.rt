@@ -2,17 +2,16 @@
 // all words.
 #![tactic(auto)]
 
-ghost use Rattle.std.specs.Prelude.{◌≡◌, ◌+◌, ◌<◌, ◌≤◌, length, get_or};
+ghost use Rattle.std.specs.Prelude.{◌≡◌, ◌+◌, ◌<◌, ◌≤◌, get_or};
 ghost use Rattle.std.proofs.lemmas.List.Edits.{sets};
 ghost use Rattle.geometry.specs.Blocks.{part_numbered};
-ghost use Rattle.semantics.specs.Reading.{bit_if};
 ghost use Rattle.saved.specs.Saved.{part_number, bank_number, bank_numbered, flag_numbered, half, setup_numbers};
-ghost use Rattle.saved.specs.Saved.{plain_setup, load_of, setup_of, running_numbers, running_of, program_numbers};
-ghost use Rattle.saved.specs.Saved.{program_of, erase_numbers, erase_of, joined, in_halves, four_at, holds};
-ghost use Rattle.saved.specs.Saved.{modes_word, modes_in, bank_words, banks_of, activity_words, control_word};
-ghost use Rattle.saved.specs.Saved.{rest_words, packed, buffer_words, buffer_in, saved_of, loaded_of, no_state};
-ghost use Rattle.saved.specs.Saved.{found_of, put_into, activity_of, flags_in, protection_in, bytes_below};
-ghost use Rattle.saved.specs.Saved.{activity_same, resting, decoded_of, rest_in_range, not_found};
+ghost use Rattle.saved.specs.Saved.{setup_of, running_numbers, running_of, program_numbers, program_of};
+ghost use Rattle.saved.specs.Saved.{erase_numbers, erase_of, joined, in_halves, four_at, holds};
+ghost use Rattle.saved.specs.Saved.{modes_word, modes_in, banks_of, activity_words, control_word, rest_words};
+ghost use Rattle.saved.specs.Saved.{packed, buffer_words, buffer_in, saved_of, loaded_of, no_state};
+ghost use Rattle.saved.specs.Saved.{found_of, put_into, activity_of, flags_in, bytes_below};
+ghost use Rattle.saved.specs.Saved.{activity_same, decoded_of, rest_in_range, resting};
 ghost use Rattle.saved.specs.Laws.{Fitting};
 
 use geometry::Part;
@@ -23,344 +22,255 @@ use semantics::{
 // The upper half of a word is from here on.
 const HALF: u64 = 4294967296;
 
-// What is pending, runs or is suspended as numbers: its kind, and three numbers, of which one that it does not use is
-// 0.
+// Nothing is pending, runs or is suspended.
+const RESTING: Activity = Activity {
+    setup: Setup::Nothing,
+    running: Running::Idle,
+    program: SuspendedProgram::Nothing,
+    erase: SuspendedErase::Nothing,
+};
+
+// ---- what is pending, runs or is suspended, as numbers and back
+
+// Its kind, and three numbers, of which one that it does not use is 0. Back, the last kind stands for every other
+// number too.
 #[derive(Clone, Copy)]
 struct Four(u32, u32, u32, u32);
 
-// What is under way, decoded from its words, and whether they are just the words that it is saved as.
-#[derive(Clone, Copy)]
-struct Decoded {
-    same: bool,
-    activity: Activity,
-}
+impl From<Setup> for Four {
+    ghost from_gives = { λ s f. f ≡ setup_numbers s };
 
-// Whether words are a saved state, and the state of the words.
-#[derive(Clone, Copy)]
-pub struct Found {
-    pub saved: bool,
-    pub state: State,
-}
-
-// ---- a field as numbers
-
-fn part_number(part: Part) -> u64
-    ensures { result ≡ part_number part }
-{
-    match part {
-        Part::FullBottom => 0,
-        Part::FullTop => 1,
-        Part::BenchBottom => 2,
-        Part::BenchTop => 3,
+    fn from(setup: Setup) -> Four {
+        match setup {
+            Setup::Nothing => Four(0, 0, 0, 0),
+            Setup::Program => Four(1, 0, 0, 0),
+            Setup::Erase => Four(2, 0, 0, 0),
+            Setup::Lock => Four(3, 0, 0, 0),
+            Setup::BufferCount { block } => Four(4, block, 0, 0),
+            Setup::BufferFirst { block, words } => Four(5, block, words, 0),
+            Setup::BufferWords { start, words, due } => Four(6, start, words, due),
+        }
     }
 }
 
-fn bank_number(bank: Bank) -> u64
-    ensures value { result ≡ bank_number bank }
-    ensures small { result < 4 }
-{
-    let mode = bank.mode;
-    match mode {
-        Mode::Array => 0,
-        Mode::Status => 1,
-        Mode::Signature => 2,
-        Mode::Query => 3,
+impl From<Four> for Setup {
+    ghost from_gives = { λ f s. s ≡ setup_of f };
+
+    fn from(Four(kind, a, b, c): Four) -> Setup {
+        match kind {
+            0 => Setup::Nothing,
+            1 => Setup::Program,
+            2 => Setup::Erase,
+            3 => Setup::Lock,
+            4 => Setup::BufferCount { block: a },
+            5 => Setup::BufferFirst { block: a, words: b },
+            _ => Setup::BufferWords {
+                start: a,
+                words: b,
+                due: c,
+            },
+        }
     }
 }
 
-fn flag_number(on: bool) -> u64
-    ensures value { result ≡ bit_if on 1 }
-    ensures small { result < 2 }
-{
-    if on { 1 } else { 0 }
-}
+impl From<Running> for Four {
+    ghost from_gives = { λ r f. f ≡ running_numbers r };
 
-fn setup_numbers(setup: Setup) -> Four
-    ensures { result ≡ setup_numbers setup }
-{
-    match setup {
-        Setup::Nothing => Four(0, 0, 0, 0),
-        Setup::Program => Four(1, 0, 0, 0),
-        Setup::Erase => Four(2, 0, 0, 0),
-        Setup::Lock => Four(3, 0, 0, 0),
-        Setup::BufferCount { block } => Four(4, block, 0, 0),
-        Setup::BufferFirst { block, words } => Four(5, block, words, 0),
-        Setup::BufferWords { start, words, due } => Four(6, start, words, due),
+    fn from(running: Running) -> Four {
+        match running {
+            Running::Idle => Four(0, 0, 0, 0),
+            Running::Program { location, word } => Four(1, location, u32::from(word), 0),
+            Running::Erase { block, done } => Four(2, block, done, 0),
+            Running::Buffer { start, words, done } => Four(3, start, words, done),
+        }
     }
 }
 
-fn running_numbers(r: Running) -> Four
-    ensures { result ≡ running_numbers r }
-{
-    match r {
-        Running::Idle => Four(0, 0, 0, 0),
-        Running::Program { location, word } => Four(1, location, word as u32, 0),
-        Running::Erase { block, done } => Four(2, block, done, 0),
-        Running::Buffer { start, words, done } => Four(3, start, words, done),
+impl From<Four> for Running {
+    ghost from_gives = { λ f r. r ≡ running_of f };
+
+    fn from(Four(kind, a, b, c): Four) -> Running {
+        match kind {
+            0 => Running::Idle,
+            1 => Running::Program {
+                location: a,
+                word: (b % 65536) as u16,
+            },
+            2 => Running::Erase { block: a, done: b },
+            _ => Running::Buffer {
+                start: a,
+                words: b,
+                done: c,
+            },
+        }
     }
 }
 
-fn program_numbers(p: SuspendedProgram) -> Four
-    ensures { result ≡ program_numbers p }
-{
-    match p {
-        SuspendedProgram::Nothing => Four(0, 0, 0, 0),
-        SuspendedProgram::Program { location, word } => Four(1, location, word as u32, 0),
-        SuspendedProgram::Buffer { start, words, done } => Four(2, start, words, done),
+impl From<SuspendedProgram> for Four {
+    ghost from_gives = { λ p f. f ≡ program_numbers p };
+
+    fn from(program: SuspendedProgram) -> Four {
+        match program {
+            SuspendedProgram::Nothing => Four(0, 0, 0, 0),
+            SuspendedProgram::Program { location, word } => Four(1, location, u32::from(word), 0),
+            SuspendedProgram::Buffer { start, words, done } => Four(2, start, words, done),
+        }
     }
 }
 
-fn erase_numbers(e: SuspendedErase) -> Four
-    ensures { result ≡ erase_numbers e }
-{
-    match e {
-        SuspendedErase::Nothing => Four(0, 0, 0, 0),
-        SuspendedErase::Erase { block, done } => Four(1, block, done, 0),
+impl From<Four> for SuspendedProgram {
+    ghost from_gives = { λ f p. p ≡ program_of f };
+
+    fn from(Four(kind, a, b, c): Four) -> SuspendedProgram {
+        match kind {
+            0 => SuspendedProgram::Nothing,
+            1 => SuspendedProgram::Program {
+                location: a,
+                word: (b % 65536) as u16,
+            },
+            _ => SuspendedProgram::Buffer {
+                start: a,
+                words: b,
+                done: c,
+            },
+        }
     }
 }
 
-// ---- and back: the last number of an enum stands for every other number too
+impl From<SuspendedErase> for Four {
+    ghost from_gives = { λ e f. f ≡ erase_numbers e };
+
+    fn from(erase: SuspendedErase) -> Four {
+        match erase {
+            SuspendedErase::Nothing => Four(0, 0, 0, 0),
+            SuspendedErase::Erase { block, done } => Four(1, block, done, 0),
+        }
+    }
+}
+
+impl From<Four> for SuspendedErase {
+    ghost from_gives = { λ f e. e ≡ erase_of f };
+
+    fn from(Four(kind, a, b, _): Four) -> SuspendedErase {
+        match kind {
+            0 => SuspendedErase::Nothing,
+            _ => SuspendedErase::Erase { block: a, done: b },
+        }
+    }
+}
+
+impl Four {
+    // Those of two words.
+    fn at(words: &[u64; 25], i: usize) -> Four
+        requires { i + 2 ≤ 25 }
+        ensures { result ≡ four_at words.now i }
+    {
+        let (v, w) = (words[i], words[i + 1]);
+        Four(
+            (v % HALF) as u32,
+            (v / HALF) as u32,
+            (w % HALF) as u32,
+            (w / HALF) as u32,
+        )
+    }
+
+    // The two words that hold them, the first in the lower half.
+    fn halves(self) -> [u64; 2]
+        ensures { result ≡ in_halves self }
+    {
+        let Four(kind, a, b, c) = self;
+        [
+            u64::from(kind) + u64::from(a) * HALF,
+            u64::from(b) + u64::from(c) * HALF,
+        ]
+    }
+
+    // Two words hold them. Both are read, so that it takes no jump.
+    fn is_at(self, words: &[u64; 25], i: usize) -> bool
+        requires { i + 2 ≤ 25 }
+        ensures { result ≡ holds words.now i self }
+    {
+        let [v, w] = self.halves();
+        (words[i] == v) & (words[i + 1] == w)
+    }
+
+    fn put(self, words: &mut [u64; 25], i: usize)
+        requires { i + 2 ≤ 25 }
+        ensures { words.new ≡ sets words.old i (in_halves self) }
+    {
+        let [v, w] = self.halves();
+        words[i] = v;
+        words[i + 1] = w;
+    }
+}
+
+// ---- the state of words
 
 // Of a byte the two lowest bits.
 fn bank_numbered(w: u64) -> Bank
     ensures { result ≡ bank_numbered w }
 {
-    let n = w % 4;
-    if n == 0 {
-        return Bank { mode: Mode::Array };
-    }
-    if n == 1 {
-        return Bank { mode: Mode::Status };
-    }
-    if n == 2 {
-        return Bank {
-            mode: Mode::Signature,
-        };
-    }
-    Bank { mode: Mode::Query }
-}
-
-// The set-ups that have no number.
-fn plain_setup(kind: u32) -> Setup
-    ensures { result ≡ plain_setup kind }
-{
-    if kind == 0 {
-        return Setup::Nothing;
-    }
-    if kind == 1 {
-        return Setup::Program;
-    }
-    if kind == 2 {
-        return Setup::Erase;
-    }
-    Setup::Lock
-}
-
-// Those of a load.
-fn load_of(f: Four) -> Setup
-    ensures { result ≡ load_of f }
-{
-    if f.0 == 4 {
-        return Setup::BufferCount { block: f.1 };
-    }
-    if f.0 == 5 {
-        return Setup::BufferFirst {
-            block: f.1,
-            words: f.2,
-        };
-    }
-    Setup::BufferWords {
-        start: f.1,
-        words: f.2,
-        due: f.3,
-    }
-}
-
-fn setup_of(f: Four) -> Setup
-    ensures { result ≡ setup_of f }
-{
-    if f.0 < 4 {
-        return plain_setup(f.0);
-    }
-    load_of(f)
-}
-
-fn running_of(f: Four) -> Running
-    ensures { result ≡ running_of f }
-{
-    if f.0 == 0 {
-        return Running::Idle;
-    }
-    if f.0 == 1 {
-        return Running::Program {
-            location: f.1,
-            word: (f.2 % 65536) as u16,
-        };
-    }
-    if f.0 == 2 {
-        return Running::Erase {
-            block: f.1,
-            done: f.2,
-        };
-    }
-    Running::Buffer {
-        start: f.1,
-        words: f.2,
-        done: f.3,
-    }
-}
-
-fn program_of(f: Four) -> SuspendedProgram
-    ensures { result ≡ program_of f }
-{
-    if f.0 == 0 {
-        return SuspendedProgram::Nothing;
-    }
-    if f.0 == 1 {
-        return SuspendedProgram::Program {
-            location: f.1,
-            word: (f.2 % 65536) as u16,
-        };
-    }
-    SuspendedProgram::Buffer {
-        start: f.1,
-        words: f.2,
-        done: f.3,
-    }
-}
-
-fn erase_of(f: Four) -> SuspendedErase
-    ensures { result ≡ erase_of f }
-{
-    if f.0 == 0 {
-        return SuspendedErase::Nothing;
-    }
-    SuspendedErase::Erase {
-        block: f.1,
-        done: f.2,
-    }
-}
-
-// ---- the words of a slice
-
-// The word at a place, 0 past the end.
-fn word_at(words: &[u64], i: usize) -> u64
-    ensures { result ≡ get_or words.now i 0 }
-{
-    if i < words.len() { words[i] } else { 0 }
+    let mode = match w % 4 {
+        0 => Mode::Array,
+        1 => Mode::Status,
+        2 => Mode::Signature,
+        _ => Mode::Query,
+    };
+    Bank { mode }
 }
 
 // The part that the first word names: every other number is the last.
 fn part_in(words: &[u64]) -> Part
     ensures { result ≡ part_numbered (get_or words.now 0 0) }
 {
-    let n = word_at(words, 0);
-    if n < 3 {
-        return geometry::part_numbered(n as u32);
-    }
-    Part::BenchTop
+    let n = words.first().copied().unwrap_or(0);
+    geometry::part_numbered(n.min(3) as u32)
 }
 
-// The four numbers of two words.
-fn four_at(words: &[u64], at: usize) -> Four
-    requires { at ≤ 9 }
-    ensures { result ≡ four_at words.now at }
-{
-    let v = word_at(words, at);
-    let w = word_at(words, at + 1);
-    Four(
-        (v % HALF) as u32,
-        (v / HALF) as u32,
-        (w % HALF) as u32,
-        (w / HALF) as u32,
-    )
-}
-
-// The first in the lower half.
-fn halves(a: u32, b: u32) -> u64
-    ensures { result ≡ joined half a b }
-{
-    a as u64 + (b as u64) * HALF
-}
-
-// Two words hold these four numbers.
-fn holds(words: &[u64], at: usize, f: Four) -> bool
-    requires { at ≤ 9 }
-    ensures { result ≡ holds words.now at f }
-{
-    (word_at(words, at) == halves(f.0, f.1)) & (word_at(words, at + 1) == halves(f.2, f.3))
-}
-
-fn activity_of(words: &[u64]) -> Activity
+fn activity_of(words: &[u64; 25]) -> Activity
     ensures { result ≡ activity_of words.now }
 {
     Activity {
-        setup: setup_of(four_at(words, 3)),
-        running: running_of(four_at(words, 5)),
-        program: program_of(four_at(words, 7)),
-        erase: erase_of(four_at(words, 9)),
+        setup: Setup::from(Four::at(words, 3)),
+        running: Running::from(Four::at(words, 5)),
+        program: SuspendedProgram::from(Four::at(words, 7)),
+        erase: SuspendedErase::from(Four::at(words, 9)),
     }
 }
 
-// Nothing is pending, runs or is suspended.
-fn resting() -> Activity
-    ensures { result ≡ resting }
-{
-    Activity {
-        setup: Setup::Nothing,
-        running: Running::Idle,
-        program: SuspendedProgram::Nothing,
-        erase: SuspendedErase::Nothing,
-    }
-}
-
-// The eight words of what is under way are 0, as those of nothing are.
-fn at_rest(words: &[u64]) -> bool
+// The eight words of what is under way are 0, as those of nothing are. All are read, so that it takes no jump.
+#[tactic(auto, unfolding(crate::specs::Saved::activity_same))]
+fn at_rest(words: &[u64; 25]) -> bool
     ensures { result ≡ activity_same words.now resting }
 {
-    let s = (word_at(words, 3) == 0) & (word_at(words, 4) == 0);
-    let r = (word_at(words, 5) == 0) & (word_at(words, 6) == 0);
-    let p = (word_at(words, 7) == 0) & (word_at(words, 8) == 0);
-    let e = (word_at(words, 9) == 0) & (word_at(words, 10) == 0);
+    let none = Four(0, 0, 0, 0);
+    let (s, r) = (none.is_at(words, 3), none.is_at(words, 5));
+    let (p, e) = (none.is_at(words, 7), none.is_at(words, 9));
     s & (r & (p & e))
 }
 
 // The words of what is under way are those that this is saved as.
-fn activity_same(words: &[u64], a: Activity) -> bool
+#[tactic(auto, unfolding(crate::specs::Saved::activity_same))]
+fn activity_same(words: &[u64; 25], a: Activity) -> bool
     ensures { result ≡ activity_same words.now a }
 {
-    let setup = a.setup;
-    let running = a.running;
-    let program = a.program;
-    let erase = a.erase;
-    if !holds(words, 3, setup_numbers(setup)) {
-        return false;
-    }
-    if !holds(words, 5, running_numbers(running)) {
-        return false;
-    }
-    if !holds(words, 7, program_numbers(program)) {
-        return false;
-    }
-    holds(words, 9, erase_numbers(erase))
+    Four::from(a.setup).is_at(words, 3)
+        && Four::from(a.running).is_at(words, 5)
+        && Four::from(a.program).is_at(words, 7)
+        && Four::from(a.erase).is_at(words, 9)
 }
 
-// What is under way, and whether its words are those that it is saved as. At rest, the common case of a call, nothing
-// is decoded or compared.
-fn decode_activity(words: &[u64]) -> Decoded
+// What is under way, where its words are just those that it is saved as. At rest, the common case of a call, nothing is
+// decoded or compared.
+#[tactic(auto, using(crate::specs::Ranges::rest_decoded))]
+fn decode_activity(words: &[u64; 25]) -> Option<Activity>
     ensures { result ≡ decoded_of words.now }
 {
     if at_rest(words) {
-        return Decoded {
-            same: true,
-            activity: resting(),
-        };
+        return Some(RESTING);
     }
     let a = activity_of(words);
-    Decoded {
-        same: activity_same(words, a),
-        activity: a,
-    }
+    activity_same(words, a).then_some(a)
 }
 
 // The lowest n bytes, and what is above them, are each below m. No return from the loop, so that the compiler makes a
@@ -370,36 +280,23 @@ fn bytes_below(m: u64, n: usize, w: u64) -> bool
 {
     let mut below = true;
     let mut rest = w;
-    let mut i: usize = 0;
-    while i < n {
-        below = below & (rest % 256 < m);
-        rest = rest / 256;
-        i += 1;
+    for i in 0..n {
+        below &= rest % 256 < m;
+        rest /= 256;
     }
     below & (rest < m)
 }
 
-// There are 25 words, and each is in its range, but for those of what is under way.
-fn rest_in_range(words: &[u64]) -> bool
+// Each word is in its range, but for those of what is under way.
+#[tactic(auto, unfolding(crate::specs::Saved::rest_in_range))]
+fn rest_in_range(words: &[u64; 25]) -> bool
     ensures { result ≡ rest_in_range words.now }
 {
-    if words.len() != 25 {
-        return false;
-    }
-    if words[0] >= 4 {
-        return false;
-    }
-    if !bytes_below(4, 7, words[1]) {
-        return false;
-    }
-    if !bytes_below(4, 7, words[2]) {
-        return false;
-    }
-    let w = words[11];
-    bytes_below(2, 3, w % HALF) & (w / HALF / 65536 < 2)
+    words[0] < 4
+        && bytes_below(4, 7, words[1])
+        && bytes_below(4, 7, words[2])
+        && bytes_below(2, 3, words[11] % HALF) & (words[11] / HALF / 65536 < 2)
 }
-
-// ---- the state of words
 
 // The banks with the modes of eight from one on, a byte each.
 fn with_modes(banks: [Bank; 16], from: usize, w: u64) -> [Bank; 16]
@@ -408,21 +305,19 @@ fn with_modes(banks: [Bank; 16], from: usize, w: u64) -> [Bank; 16]
 {
     let mut now = banks;
     let mut rest = w;
-    let mut i: usize = 0;
-    while i < 8 {
+    for i in 0..8 {
         now[from + i] = bank_numbered(rest);
-        rest = rest / 256;
-        i += 1;
+        rest /= 256;
     }
     now
 }
 
-fn banks_of(words: &[u64]) -> [Bank; 16]
+#[tactic(auto, unfolding(semantics::specs::Tabulate::tabulate))]
+fn banks_of(words: &[u64; 25]) -> [Bank; 16]
     ensures { result ≡ banks_of words.now }
 {
     let none = [Bank { mode: Mode::Array }; 16];
-    let half = with_modes(none, 0, word_at(words, 1));
-    with_modes(half, 8, word_at(words, 2))
+    with_modes(with_modes(none, 0, words[1]), 8, words[2])
 }
 
 // Of a byte the lowest bit.
@@ -443,47 +338,34 @@ fn flags_of(w: u64) -> Flags
     }
 }
 
-fn protection_of(words: &[u64]) -> [u64; 5]
-    ensures { result ≡ protection_in words.now }
-{
-    [
-        word_at(words, 12),
-        word_at(words, 13),
-        word_at(words, 14),
-        word_at(words, 15),
-        word_at(words, 16),
-    ]
-}
-
 // The words of the buffer, four from each.
-fn buffer_of(words: &[u64]) -> [u16; 32]
+fn buffer_of(words: &[u64; 25]) -> [u16; 32]
     ensures { result ≡ buffer_in words.now }
 {
-    let mut buffer: [u16; 32] = [0; 32];
-    let mut j: usize = 0;
-    while j < 8 {
-        let w = word_at(words, 17 + j);
+    let mut buffer = [0u16; 32];
+    for j in 0..8 {
+        let w = words[17 + j];
         buffer[4 * j] = (w % 65536) as u16;
         buffer[4 * j + 1] = (w / 65536 % 65536) as u16;
         buffer[4 * j + 2] = (w / HALF % 65536) as u16;
         buffer[4 * j + 3] = (w / 281474976710656) as u16;
-        j += 1;
     }
     buffer
 }
 
 // The state of words of which what is under way is decoded already.
-fn load_with(words: &[u64], a: Activity) -> State
-    requires { a ≡ activity_of words.now }
+#[tactic(auto, unfolding(crate::specs::Saved::loaded_of))]
+fn load_with(words: &[u64; 25], activity: Activity) -> State
+    requires { activity ≡ activity_of words.now }
     ensures { result ≡ loaded_of words.now }
 {
-    let w = word_at(words, 11);
+    let w = words[11];
     State {
         part: part_in(words),
         banks: banks_of(words),
-        unprotected: protection_of(words),
+        unprotected: [words[12], words[13], words[14], words[15], words[16]],
         control: Control {
-            activity: a,
+            activity,
             flags: flags_of(w % HALF),
             configuration: (w / HALF % 65536) as u16,
             supply: flag_numbered(w / HALF / 65536),
@@ -493,128 +375,110 @@ fn load_with(words: &[u64], a: Activity) -> State
 }
 
 // The state for words that are no saved state: the device refuses every step on it.
+#[tactic(auto, unfolding(crate::specs::Saved::no_state))]
 fn no_state(words: &[u64]) -> State
     ensures { result ≡ no_state words.now }
 {
     state::with_protection(state::power_up(part_in(words)), [0, 0, 0, 0, 8])
 }
 
-fn not_found(words: &[u64]) -> Found
-    ensures { result ≡ not_found words.now }
-{
-    Found {
-        saved: false,
-        state: no_state(words),
-    }
-}
-
-// Tests the words, once, and gives their state: of a saved state that which was saved.
-pub fn found_in(words: &[u64]) -> Found
+// Tests the words, once, and gives their state: Ok that which was saved, and Err, where they are no saved state, the one
+// that the device refuses every step on.
+pub fn found_in(words: &[u64]) -> Result<State, State>
     ensures { result ≡ found_of words.now }
 {
-    if !rest_in_range(words) {
-        return not_found(words);
+    if let Some(saved) = words.as_array::<25>()
+        && rest_in_range(saved)
+        && let Some(activity) = decode_activity(saved)
+    {
+        return Ok(load_with(saved, activity));
     }
-    let decoded = decode_activity(words);
-    if !decoded.same {
-        return not_found(words);
-    }
-    let a = decoded.activity;
-    Found {
-        saved: true,
-        state: load_with(words, a),
-    }
+    Err(no_state(words))
 }
 
 // ---- the words of a state, put in place
+
+fn part_number(part: Part) -> u64
+    ensures { result ≡ part_number part }
+{
+    part as u64
+}
+
+fn bank_number(bank: Bank) -> u64
+    ensures value { result ≡ bank_number bank }
+    ensures small { result < 4 }
+{
+    bank.mode as u64
+}
 
 // The modes of eight banks from one on, a byte each.
 fn modes_word(banks: [Bank; 16], from: usize) -> u64
     requires { from ≤ 8 }
     ensures { result ≡ modes_word banks from }
 {
-    let mut w: u64 = 0;
-    let mut i: usize = 8;
-    while 0 < i {
-        i -= 1;
+    let mut w = 0;
+    for i in (0..8).rev() {
         w = bank_number(banks[from + i]) + w * 256;
     }
     w
 }
 
-fn put_banks(words: &mut [u64], banks: [Bank; 16])
-    requires { length words.old ≡ 25 }
-    ensures { words.new ≡ sets words.old 1 (bank_words banks) }
-{
-    words[1] = modes_word(banks, 0);
-    words[2] = modes_word(banks, 8);
-}
-
-// Four numbers in two words.
-fn put_four(words: &mut [u64], at: usize, f: Four)
-    requires { at + 2 ≤ length words.old }
-    ensures { words.new ≡ sets words.old at (in_halves f) }
-{
-    words[at] = halves(f.0, f.1);
-    words[at + 1] = halves(f.2, f.3);
-}
-
-fn put_activity(words: &mut [u64], a: Activity)
-    requires { length words.old ≡ 25 }
+fn put_activity(words: &mut [u64; 25], a: Activity)
     ensures { words.new ≡ sets words.old 3 (activity_words a) }
 {
-    let setup = a.setup;
-    let running = a.running;
-    let program = a.program;
-    let erase = a.erase;
-    put_four(words, 3, setup_numbers(setup));
-    put_four(words, 5, running_numbers(running));
-    put_four(words, 7, program_numbers(program));
-    put_four(words, 9, erase_numbers(erase));
+    Four::from(a.setup).put(words, 3);
+    Four::from(a.running).put(words, 5);
+    Four::from(a.program).put(words, 7);
+    Four::from(a.erase).put(words, 9);
 }
 
 // The flags a byte each, above them the configuration register, above it the supply.
 fn control_word(f: Flags, configuration: u16, supply: bool) -> u64
     ensures { result ≡ control_word f configuration supply }
 {
-    let three = flag_number(f.sr4) + (flag_number(f.sr3) + flag_number(f.sr1) * 256) * 256;
-    let low = flag_number(f.sr5) + three * 256;
-    let high = configuration as u64 + flag_number(supply) * 65536;
-    low + high * HALF
+    let [low, high] = configuration.to_le_bytes();
+    let (sr5, sr4) = (u8::from(f.sr5), u8::from(f.sr4));
+    let (sr3, sr1) = (u8::from(f.sr3), u8::from(f.sr1));
+    u64::from_le_bytes([sr5, sr4, sr3, sr1, low, high, u8::from(supply), 0])
 }
 
-fn put_rest(words: &mut [u64], f: Flags, u: [u64; 5], configuration: u16, supply: bool)
-    requires { length words.old ≡ 25 }
-    ensures { words.new ≡ sets words.old 11 (rest_words f u configuration supply) }
+#[tactic(auto, unfolding(semantics::specs::Tabulate::tabulate))]
+fn put_rest(words: &mut [u64; 25], c: Control, unprotected: [u64; 5])
+    ensures { words.new ≡ sets words.old 11 (rest_words c.flags unprotected c.configuration c.supply) }
 {
-    words[11] = control_word(f, configuration, supply);
-    words[12] = u[0];
-    words[13] = u[1];
-    words[14] = u[2];
-    words[15] = u[3];
-    words[16] = u[4];
+    words[11] = control_word(c.flags, c.configuration, c.supply);
+    words[12] = unprotected[0];
+    words[13] = unprotected[1];
+    words[14] = unprotected[2];
+    words[15] = unprotected[3];
+    words[16] = unprotected[4];
 }
 
 // Four words of the buffer in one.
 fn packed(a: u16, b: u16, c: u16, d: u16) -> u64
     ensures { result ≡ packed a b c d }
 {
-    a as u64 + (b as u64) * 65536 + (c as u64) * HALF + (d as u64) * 281474976710656
+    u64::from(a) + u64::from(b) * 65536 + u64::from(c) * HALF + u64::from(d) * 281474976710656
 }
 
-fn put_buffer(words: &mut [u64], buffer: [u16; 32])
-    requires { length words.old ≡ 25 }
+fn put_buffer(words: &mut [u64; 25], buffer: [u16; 32])
     ensures { words.new ≡ sets words.old 17 (buffer_words buffer) }
 {
-    let mut j: usize = 0;
-    while j < 8 {
-        let a = buffer[4 * j];
-        let b = buffer[4 * j + 1];
-        let c = buffer[4 * j + 2];
-        let d = buffer[4 * j + 3];
-        words[17 + j] = packed(a, b, c, d);
-        j += 1;
+    for j in 0..8 {
+        let i = 4 * j;
+        words[17 + j] = packed(buffer[i], buffer[i + 1], buffer[i + 2], buffer[i + 3]);
     }
+}
+
+fn put_state(words: &mut [u64; 25], s: State)
+    ensures { words.new ≡ saved_of s }
+{
+    words[0] = part_number(s.part);
+    words[1] = modes_word(s.banks, 0);
+    words[2] = modes_word(s.banks, 8);
+    put_activity(words, s.control.activity);
+    put_rest(words, s.control, s.unprotected);
+    put_buffer(words, s.buffer);
 }
 
 // Puts the words of a state into room for just 25. Every state of the code fits its types, so that it is got back from
@@ -623,18 +487,7 @@ pub fn save(s: State, words: &mut [u64])
     ensures words_after { words.new ≡ put_into words.old (saved_of s) }
     ensures fitting { Fitting s }
 {
-    if words.len() != 25 {
-        return;
+    if let Some(room) = words.as_mut_array::<25>() {
+        put_state(room, s);
     }
-    let part = s.part;
-    let banks = s.banks;
-    let a = s.control.activity;
-    let f = s.control.flags;
-    let u = s.unprotected;
-    let buffer = s.buffer;
-    words[0] = part_number(part);
-    put_banks(words, banks);
-    put_activity(words, a);
-    put_rest(words, f, u, s.control.configuration, s.control.supply);
-    put_buffer(words, buffer);
 }

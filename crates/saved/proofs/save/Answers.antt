@@ -1,34 +1,21 @@
--- `saved::save` meets its contract, by those of the functions that store the words. Assumes nothing.
-use mathlib.Core.Path.{ap, ◌∙◌}
-use lib.ListN.{length, length-set}
-use borrow.Author.Tests.{ne_eqb}
-use Rattle.semantics.specs.Tabulate.{tabulate}
+-- `saved::save` meets its contract, by that of `put_state`. Assumes nothing.
+use mathlib.Core.Path.{◌∙◌}
+use borrow.Author.Tests.{eq-eqb, ne_eqb}
+use lib.ListN.{length}
 use Rattle.saved.specs.Saved.{put_into}
-use Rattle.saved.specs.Laws.{stored}
 use Rattle.saved.proofs.Fits.{fits}
 use Rattle.saved.proofs.save.Goals as goal
 
-pub returns-then-words-ne25 : goal.returns-then-words-ne25
+pub returns-in-Some-clause-words_after : goal.returns-in-Some-clause-words_after
 unfolding put_into
-returns-then-words-ne25 c = record { words_after = rw (ne_eqb _ 25 c.if-words-ne25.true); fitting = fits _ _ c.well_formed.0 }
+returns-in-Some-clause-words_after c = c.put_state.ensures ∙ rw (eq-eqb (length c.args.words.now) 25 c.in-Some.ensures.cases.long)
 
-pub put_activity-requires : goal.put_activity-requires
-put_activity-requires c = ap length c.put_banks.ensures ∙ simp length-set c.if-words-ne25.false
+pub returns-in-Some-clause-fitting : goal.returns-in-Some-clause-fitting
+returns-in-Some-clause-fitting c = fits _ _ c.well_formed.0
 
-pub put_rest-requires : goal.put_rest-requires
-put_rest-requires c = ap length c.put_activity.ensures ∙ simp length-set (ap length c.put_banks.ensures ∙ simp length-set c.if-words-ne25.false)
+pub returns-in_default-clause-words_after : goal.returns-in_default-clause-words_after
+unfolding put_into
+returns-in_default-clause-words_after c = rw (ne_eqb (length c.args.words.now) 25 c.in_default.ensures.cases)
 
-pub put_buffer-requires : goal.put_buffer-requires
-unfolding tabulate
-put_buffer-requires c = ap length c.put_rest.ensures ∙ simp length-set (ap length c.put_activity.ensures ∙ simp length-set (ap length c.put_banks.ensures ∙ simp length-set c.if-words-ne25.false))
-
-pub shape_of-words : goal.shape_of-words
-unfolding tabulate
-shape_of-words c = ap length c.put_buffer.ensures ∙ simp length-set (ap length c.put_rest.ensures ∙ simp length-set (ap length c.put_activity.ensures ∙ simp length-set (ap length c.put_banks.ensures ∙ simp length-set)))
-
-pub returns : goal.returns
-returns c = record {
-  words_after = stored _ _ _ _ _ _ _ c.if-words-ne25.false c.part_number.ensures c.put_banks.ensures
-      c.put_activity.ensures c.put_rest.ensures c.put_buffer.ensures;
-  fitting = fits _ _ c.well_formed.0;
-}
+pub returns-in_default-clause-fitting : goal.returns-in_default-clause-fitting
+returns-in_default-clause-fitting c = fits _ _ c.well_formed.0

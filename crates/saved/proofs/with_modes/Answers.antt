@@ -1,5 +1,4 @@
--- `saved::with_modes` meets its contract. The invariant: the banks of the lowest `i` bytes are stored, and the bytes
--- from there on are left. Assumes nothing.
+-- `saved::with_modes` meets its contract. Assumes nothing.
 use Prim.Native.Nat.{ℕ, suc, ◌+◌, ◌/◌}
 use mathlib.Core.Path.{◌≡◌, refl, ap, ◌∙◌, sym}
 use native.Mathlib.Omega.{arith}
@@ -10,23 +9,16 @@ use Rattle.saved.specs.Saved.{bank_numbered, from_byte}
 use Rattle.saved.specs.Laws.{tabulate_next, from_next}
 use Rattle.saved.proofs.with_modes.Goals as goal
 
-pub loop-i-init : goal.loop-i-init
-unfolding tabulate
-loop-i-init c = (search rules, (refl, refl))
-
 pub loop-i-preserved : goal.loop-i-preserved
 loop-i-preserved c =
     let w = c.args.w in
     let i = c.loop-i.i in
-    let v = c.loop-i.invariant.1 in
+    let v = c.loop-i.invariant in
     let e : i + 1 ≡ suc i = omega arith in (
-      search rules,
-      (
-        tabulate_next (record { mode = Array }) 8 (λ k. bank_numbered (from_byte k w)) _ _ _ i _ _ _ (search rules) refl refl v.0 (c.bank_numbered.ensures ∙ ap bank_numbered v.1),
-        rw e (ap (λ (x : ℕ). x / 256) v.1 ∙ sym (from_next i w)),
-      ),
+      tabulate_next (record { mode = Array }) 8 (λ k. bank_numbered (from_byte k w)) _ _ _ i _ _ _ (search rules) refl refl v.0 (c.bank_numbered.ensures ∙ ap bank_numbered v.1),
+      rw e (ap (λ (x : ℕ). x / 256) v.1 ∙ sym (from_next i w)),
     )
 
 pub returns : goal.returns
 unfolding tabulate
-returns c = let e : c.loop-i.i ≡ 8 = omega arith in c.loop-i.invariant.1.0 ∙ rw e
+returns c = let e : c.loop-i.i ≡ 8 = omega arith in c.loop-i.invariant.0 ∙ rw e
