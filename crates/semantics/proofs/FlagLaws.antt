@@ -1,7 +1,8 @@
 -- "Flags once set stay until 50h or reset, and never block a later command."
 -- Assumes nothing.
-use Rattle.std.specs.Prelude.{◌≡◌, refl, List, Bool, true, false, ℕ, eqb, length}
+use Rattle.std.specs.Prelude.{◌≡◌, refl, List, Bool, true, false, ℕ, length, Option}
 use Rattle.std.proofs.Common.{sym, ap, ◌∙◌, subst}
+use Rattle.refusal.specs.declared.Refusal.{Refusal}
 use Rattle.geometry.specs.declared.Geometry.{Geometry}
 use Rattle.semantics.specs.declared.Setup.{Setup}
 use Rattle.semantics.specs.declared.Running.{Running}
@@ -13,7 +14,7 @@ use Rattle.semantics.specs.declared.Step.TheVariants.{Read, Write, Work, Supply,
 use Rattle.semantics.specs.declared.Next.{Next}
 use Rattle.semantics.specs.declared.Place.{Place}
 use Rattle.semantics.specs.declared.View.{View}
-use Rattle.semantics.specs.Branches.{by_cond₂}
+use Rattle.semantics.specs.Branches.{of_option₂}
 use Rattle.semantics.specs.State.{geometry, set_flags, set_supply, with_control, with_flags, with_buffer, no_flags, joined}
 use Rattle.semantics.specs.View as view
 use Rattle.semantics.specs.View.{place_of, view_at, with_view}
@@ -23,7 +24,9 @@ use Rattle.semantics.proofs.Supplied.{of_switched, switched_on, switched_off}
 use Rattle.semantics.specs.WellFormed.{runs_supplied, well_formed}
 use Rattle.semantics.specs.Writing.{settle, cycle, loaded_at, written_at, written}
 use Rattle.semantics.specs.Working.{buffer_after, worked_on, worked, worked_array}
-use Rattle.semantics.specs.Steps.{refusal_of, switched_to, accepted, accepted_array, step_of, array_of, number_of}
+use Rattle.semantics.specs.declared.Answer.TheVariants.{Refused}
+use Rattle.semantics.specs.Card.{number_given}
+use Rattle.semantics.specs.Steps.{refusal_of, next, switched_to, accepted, accepted_array, step_of, array_of, number_of}
 use Rattle.semantics.proofs.Refusals.{of_step, answer_number}
 use Rattle.semantics.specs.Flags.{Stay, ClearCommand, MayClear, unflagged, told_by}
 
@@ -68,7 +71,7 @@ stay_accepted s xs Reset n = absurd (n tt)
 pub flags_stay : (s : State) (xs : List ℕ) (x : Step) → (MayClear s x → ⊥) → Stay s.control.flags (step_of s xs x).state.control.flags
 flags_stay s xs x n =
     of_step (λ (y : Next). Stay s.control.flags y.state.control.flags) s xs x (stay_accepted s xs x n)
-    (stay_same _)
+    (λ e. stay_same _)
 
 -- ---- ".. and never block a later command."
 
@@ -118,14 +121,13 @@ pub flags_never_block : (s : State) (f : Flags) (xs : List ℕ) (x : Step)
     × (number_of (step_of (with_flags s f) xs x).answer ≡ number_of (step_of s xs x).answer) × (told_by (step_of (with_flags s f) xs x).answer ≡ told_by (step_of s xs x).answer)
 unfolding step_of array_of
 flags_never_block s f xs x = let a = alike_accepted s f xs x in (
-  rw e (by_cond₂ (λ (y z : Next). unflagged y.state ≡ unflagged z.state) (eqb n 0) _ _ _ _ (λ i. a.0)
-      (λ i. refl)),
-  rw e (by_cond₂ (λ (y z : List ℕ). y ≡ z) (eqb n 0) _ _ _ _ (λ i. a.1) (λ i. refl)),
-  answer_number (with_flags s f) xs x ∙ e ∙ sym (answer_number s xs x),
-  rw e (by_cond₂ (λ (y z : Next). told_by y.answer ≡ told_by z.answer) (eqb n 0) _ _ _ _ (λ i. a.2) (λ i. refl)),
+  rw e (of_option₂ (λ (y z : Next). unflagged y.state ≡ unflagged z.state) n (λ d. next (with_flags s f) (Refused d)) _ (λ d. next s (Refused d)) _ a.0 (λ d. refl)),
+  rw e (of_option₂ (λ (y z : List ℕ). y ≡ z) n (λ d. xs) _ (λ d. xs) _ a.1 (λ d. refl)),
+  answer_number (with_flags s f) xs x ∙ ap number_given e ∙ sym (answer_number s xs x),
+  rw e (of_option₂ (λ (y z : Next). told_by y.answer ≡ told_by z.answer) n (λ d. next (with_flags s f) (Refused d)) _ (λ d. next s (Refused d)) _ a.2 (λ d. refl)),
 )
   where
-    n : ℕ
+    n : Option Refusal
     n = refusal_of s (length xs) x
 
     e : refusal_of (with_flags s f) (length xs) x ≡ n

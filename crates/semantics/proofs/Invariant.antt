@@ -1,12 +1,13 @@
 -- The invariant behind the theorem, and that every step keeps it: the device and the recorder agree on the conditions and on what is under way, and
 -- the words are the journal's. So the state is well formed on the way and the array as long as it was, and of all refusals only 3 and 4 can come.
 -- Assumes nothing.
-use Rattle.std.specs.Prelude.{◌≡◌, List, [], ◌∷◌, Bool, ◌⊎◌, ℕ, suc, ◌≤◌, ◌<◌, ◌%◌, length, get_or}
+use Rattle.std.specs.Prelude.{◌≡◌, List, [], ◌∷◌, Bool, ◌⊎◌, ℕ, ◌≤◌, ◌<◌, ◌%◌, length, get_or, Some, None}
 use Rattle.std.proofs.Math.Path.{refl, ap, fun_ext}
 use Rattle.std.proofs.Common.{sym, ◌∙◌, subst, subst₂, true≢false, inl, inr, arith, length-set, lt-ltb, le-ltb, le-leb, eq-eqb}
 use Rattle.std.proofs.Math.Bool.{true, false}
-use Rattle.std.proofs.Math.Dec.{eqb-suc-zero}
 use Rattle.std.proofs.lemmas.Bool.{lt-leb}
+use Rattle.refusal.specs.declared.Refusal.{Refusal}
+use Rattle.refusal.specs.declared.Refusal.TheVariants as refusal
 use Rattle.geometry.specs.declared.Part.{Part}
 use Rattle.geometry.specs.declared.Geometry.{Geometry}
 use Rattle.geometry.specs.Blocks.{Sound, geometry_of, words, location, block_of}
@@ -39,7 +40,7 @@ use Rattle.semantics.specs.Writing.{cycle_at, written, written_at}
 use Rattle.semantics.specs.Working.{units_done, running_after, buffer_after, worked_on, worked, worked_array}
 use Rattle.semantics.specs.Arrays.{array_length, array_word}
 use Rattle.semantics.specs.Card.{given, card}
-use Rattle.semantics.specs.Split.{step_refusal, first_refusal}
+use Rattle.semantics.specs.Split.{step_refusal}
 use Rattle.semantics.proofs.Split.{reset_refused, refused_first, address_good, address_bad, count_good, count_bad}
 use Rattle.semantics.specs.Steps.{refusal_of, next, switched_to, accepted, accepted_array, step_of, array_of, Machine, after, after_all, fresh}
 use Rattle.semantics.specs.Entries as entries
@@ -56,31 +57,31 @@ use Rattle.semantics.proofs.Spare.{length_empty, length_loaded, length_held, len
 -- ---- refusals
 
 -- a state that is well formed, on an array of its part's length, is refused for neither: a reset of it is not refused
-pub state_good : (s : State) (n : ℕ) → n ≡ words (geometry s) → well_formed s ≡ true → refusal_of s n Reset ≡ 0
+pub state_good : (s : State) (n : ℕ) → n ≡ words (geometry s) → well_formed s ≡ true → refusal_of s n Reset ≡ None
 unfolding refusal_of
 state_good s n h w = rw (reset_refused (geometry s) (well_formed s) n, eq-eqb n (words (geometry s)) h, w)
 
-module _ (s : State) (xs : List ℕ) (good : refusal_of s (length xs) Reset ≡ 0) where
+module _ (s : State) (xs : List ℕ) (good : refusal_of s (length xs) Reset ≡ None) where
   -- so a step is refused for its own numbers
   own : (x : Step) → refusal_of s (length xs) x ≡ step_refusal (geometry s) x
-  unfolding refusal_of first_refusal
+  unfolding refusal_of
   own x = refused_first (geometry s) (well_formed s) (length xs) x ∙ rw good
 
-  pub step_done : (x : Step) → step_refusal (geometry s) x ≡ 0 → step_of s xs x ≡ accepted s xs x
+  pub step_done : (x : Step) → step_refusal (geometry s) x ≡ None → step_of s xs x ≡ accepted s xs x
   unfolding step_of
   step_done x h = rw (own x, h)
 
-  pub step_refused : (x : Step) (n : ℕ) → step_refusal (geometry s) x ≡ suc n → step_of s xs x ≡ next s (Refused (suc n))
+  pub step_refused : (x : Step) (e : Refusal) → step_refusal (geometry s) x ≡ Some e → step_of s xs x ≡ next s (Refused e)
   unfolding step_of
-  step_refused x n h = rw (own x, h, eqb-suc-zero n)
+  step_refused x e h = rw (own x, h)
 
-  pub array_done : (x : Step) → step_refusal (geometry s) x ≡ 0 → array_of s xs x ≡ accepted_array s xs x
+  pub array_done : (x : Step) → step_refusal (geometry s) x ≡ None → array_of s xs x ≡ accepted_array s xs x
   unfolding array_of
   array_done x h = rw (own x, h)
 
-  pub array_refused : (x : Step) (n : ℕ) → step_refusal (geometry s) x ≡ suc n → array_of s xs x ≡ xs
+  pub array_refused : (x : Step) (e : Refusal) → step_refusal (geometry s) x ≡ Some e → array_of s xs x ≡ xs
   unfolding array_of
-  array_refused x n h = rw (own x, h, eqb-suc-zero n)
+  array_refused x e h = rw (own x, h)
 
 -- ---- the array
 
@@ -137,16 +138,16 @@ no_conditions_yet : (s : State) → conditions (with_supply (power_up s.part) s.
 unfolding power_up
 no_conditions_yet s = ap (λ (u : ℕ → Bool). record { supply = s.control.supply; unprotected = u; setup = recorder.no_setup }) (fun_ext (λ b. protection.all_none b))
 
-module _ (s : State) (xs : List ℕ) (good : refusal_of s (length xs) Reset ≡ 0) (fit : Fit s) where
+module _ (s : State) (xs : List ℕ) (good : refusal_of s (length xs) Reset ≡ None) (fit : Fit s) where
   sound : Sound (geometry s)
   sound = laws.sound s.part
 
   -- a refused step is no event
-  refused_nothing : (x : Step) (n : ℕ) → step_refusal (geometry s) x ≡ suc n → Steps-of nothing s xs x
-  refused_nothing x n h = rw (step_refused s xs good x n h, array_refused s xs good x n h) (refl, refl, λ L k. refl)
+  refused_nothing : (x : Step) (e : Refusal) → step_refusal (geometry s) x ≡ Some e → Steps-of nothing s xs x
+  refused_nothing x e h = rw (step_refused s xs good x e h, array_refused s xs good x e h) (refl, refl, λ L k. refl)
 
   -- a step that is not refused, and changes no word
-  quiet : (v : Event) (x : Step) (t : State) → step_refusal (geometry s) x ≡ 0 → (accepted s xs x).state ≡ t → accepted_array s xs x ≡ xs → Follows (geometry s) v s t
+  quiet : (v : Event) (x : Step) (t : State) → step_refusal (geometry s) x ≡ None → (accepted s xs x).state ≡ t → accepted_array s xs x ≡ xs → Follows (geometry s) v s t
       → Steps-of v s xs x
   quiet v x t h q a f =
       rw (step_done s xs good x h, array_done s xs good x h, q, a) (f.0, f.1, λ L k. ap (λ (m : ℕ → ℕ). m L) (sym (f.2 (words_of xs))))
@@ -158,16 +159,16 @@ module _ (s : State) (xs : List ℕ) (good : refusal_of s (length xs) Reset ≡ 
       rw (lt-ltb a 16777216 h)
       (quiet (recorder.cycle (geometry s) (conditions s) (busy (under_way s)) (held? (under_way s)) (setup_of s.buffer s.control.activity.setup) (location (geometry s) a) (w % 256) w) (Write a w)
       (written s a w) (address_good (geometry s) sound a h) refl refl (follows_written s fit.alone fit.ready fit.five fit.thirty_two a w k))
-  steps_write a w (inr h) = rw (le-ltb a 16777216 h) (refused_nothing (Write a w) 2 (address_bad (geometry s) a h))
+  steps_write a w (inr h) = rw (le-ltb a 16777216 h) (refused_nothing (Write a w) refusal.Address (address_bad (geometry s) a h))
 
   steps_read : (a : ℕ) → (a < 16777216) ⊎ (16777216 ≤ a) → Steps-of nothing s xs (Read a)
   unfolding given card step_refusal accepted accepted_array
   steps_read a (inl h) = quiet nothing (Read a) s (address_good (geometry s) sound a h) refl refl (refl, refl, λ m. refl)
-  steps_read a (inr h) = refused_nothing (Read a) 2 (address_bad (geometry s) a h)
+  steps_read a (inr h) = refused_nothing (Read a) refusal.Address (address_bad (geometry s) a h)
 
   steps_work : (n : ℕ) → (65535 < n) ⊎ (n ≤ 65535) → Steps-of (event_of (geometry s) s (Work n)) s xs (Work n)
   unfolding given card step_refusal accepted accepted_array worked_on worked worked_array
-  steps_work n (inl h) = rw (lt-leb n 65535 h) (refused_nothing (Work n) 3 (count_bad (geometry s) n h))
+  steps_work n (inl h) = rw (lt-leb n 65535 h) (refused_nothing (Work n) refusal.WorkCount (count_bad (geometry s) n h))
   steps_work n (inr h) =
       rw (le-leb n 65535 h, step_done s xs good (Work n) (count_good (geometry s) n h), array_done s xs good (Work n) (count_good (geometry s) n h)) (
         ap (λ (c : recorder.Setup). record { supply = s.control.supply; unprotected = (conditions s).unprotected; setup = c })
@@ -210,7 +211,7 @@ module _ (s : State) (xs : List ℕ) (good : refusal_of s (length xs) Reset ≡ 
 
   pub spared_step : (x : Step) → Spared s.control.activity s.buffer → Spared (step_of s xs x).state.control.activity (step_of s xs x).state.buffer
   spared_step x h =
-      of_step (λ (y : Next). Spared y.state.control.activity y.state.buffer) s xs x (spared_accepted x h) h
+      of_step (λ (y : Next). Spared y.state.control.activity y.state.buffer) s xs x (spared_accepted x h) (λ e. h)
 
 -- ---- what no step changes
 
@@ -267,7 +268,7 @@ kept_accepted s xs Reset h = record { part = refl; sixteen = λ z. refl; five = 
 pub kept_step : (s : State) (xs : List ℕ) (x : Step) → length s.unprotected ≡ 5 → Kept s (step_of s xs x).state
 kept_step s xs x h =
     of_step (λ (y : Next). Kept s y.state) s xs x (kept_accepted s xs x h)
-    (kept s s refl refl refl refl (λ z. z) (λ z. z))
+    (λ e. kept s s refl refl refl refl (λ z. z) (λ z. z))
 
 -- ---- the invariant: the device and the recorder agree, and the words are the journal's
 
@@ -294,7 +295,7 @@ agree_formed p xs₀ m c a =
     in
     rw (a.part, f, a.spare, a.spared, a.reserved, a.powered)
 
-agree_good : (p : Part) (xs₀ : List ℕ) (m : Machine) (c : Recorder) → Agree p xs₀ m c → refusal_of m.state (length m.array) Reset ≡ 0
+agree_good : (p : Part) (xs₀ : List ℕ) (m : Machine) (c : Recorder) → Agree p xs₀ m c → refusal_of m.state (length m.array) Reset ≡ None
 agree_good p xs₀ m c a = state_good m.state (length m.array) (a.size ∙ ap (λ (q : Part). words (geometry_of q)) (sym a.part)) (agree_formed p xs₀ m c a)
 
 -- the part of the state itself

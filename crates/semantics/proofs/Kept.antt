@@ -4,6 +4,7 @@
 use Rattle.std.specs.Prelude.{◌≡◌, refl, List, Bool, true, false, ◌&&◌, ℕ, eqb, length}
 use Rattle.std.proofs.Common.{sym, ap, ◌∙◌, subst₂, eqb-true}
 use Rattle.std.proofs.lemmas.Bool.{eqb-false}
+use Rattle.refusal.specs.declared.Refusal.TheVariants as refusal
 use Rattle.geometry.specs.Blocks.{geometry_of, words}
 use Rattle.geometry.specs.Laws as laws
 use Rattle.protection.specs.Words.{spare_zero}
@@ -89,4 +90,4 @@ keeps s xs x h i w = go (eqb (length xs) (words (geometry s))) refl
   where
     go : (b : Bool) → eqb (length xs) (words (geometry s)) ≡ b → well_formed (step_of s xs x).state ≡ true
     go true e = keeps_good s xs x h i (eqb-true (length xs) (words (geometry s)) e) w
-    go false e = ap (λ (n : Next). well_formed n.state) (refusal_changes_nothing s xs x 0 (refusal_1 s (length xs) x (eqb-false _ _ e))).0 ∙ w
+    go false e = ap (λ (n : Next). well_formed n.state) (refusal_changes_nothing s xs x refusal.ArrayLength (refusal_1 s (length xs) x (eqb-false _ _ e))).0 ∙ w

@@ -1,12 +1,13 @@
 -- "Left running, a program ends at 1 unit and an erase at the size of its block, counted over all work steps.", and document 02, item 5: "the progress sentence in 01 needs it on throughout", the
 -- supply. One operation is followed, through the stretches in which it is suspended too. A list may hold any step but two: a reset, and the supply going off.
 -- Assumes nothing.
-use Rattle.std.specs.Prelude.{[], ◌≡◌, List, ◌∷◌, Bool, cond, ◌&&◌, ◌||◌, ◌⊎◌, ℕ, ◌+◌, ◌-◌, ◌≤◌, ◌<◌, min, ltb, leb, eqb, length}
+use Rattle.std.specs.Prelude.{[], ◌≡◌, List, ◌∷◌, Bool, cond, ◌&&◌, ◌||◌, ◌⊎◌, ℕ, ◌+◌, ◌-◌, ◌≤◌, ◌<◌, min, ltb, leb, eqb, length, None}
 use Rattle.std.proofs.Math.Path.{refl, sym}
 use Rattle.std.proofs.Common.{ap, ◌∙◌, subst, true≢false, inl, inr}
 use Rattle.std.proofs.Math.Bool.{true, false}
 use native.Mathlib.Omega.{arith}
 use borrow.Author.Tests.{ltb-true, ltb-false, lt-ltb, le-ltb, le-leb, lt-leb, eqb-true}
+use Rattle.refusal.specs.declared.Refusal.TheVariants as refusal
 use Rattle.geometry.specs.declared.Part.{Part}
 use Rattle.geometry.specs.declared.Geometry.{Geometry}
 use Rattle.geometry.specs.Blocks.{geometry_of, words}
@@ -37,7 +38,7 @@ use Rattle.semantics.proofs.Engine.{Engine, engine, busy, stack, held?, engine_a
 use Rattle.semantics.proofs.UnderWay.{conditions, add_erase, add_program, under_way, under_way_of, Beside, none_is_running, program_is_running, buffer_is_running, erase_is_running, beside}
 use Rattle.semantics.proofs.Follows.{event_of}
 use Rattle.semantics.proofs.Formed.{together}
-use Rattle.semantics.specs.Branches.{of_cond}
+use Rattle.semantics.specs.Branches.{of_cond, of_option}
 use Rattle.semantics.proofs.Invariant.{Steps, kept_step, agree_fit, steps, state_good, step_done, step_refused, length_kept}
 use Rattle.semantics.proofs.Theorem.{reached, reached_formed}
 use Rattle.semantics.proofs.Kept.{own_of, formed_sim, keeps}
@@ -238,7 +239,7 @@ module _ (m : Machine) (o : Good m) where
       lives_any (geometry m.state) m.state.buffer k m.state.control.activity.running m.state.control.activity.program m.state.control.activity.erase
       ∙ any_lacks (geometry m.state) k (stack (under_way m.state)) (entries.match_short (kinds (geometry m.state)) simulated.match) ∙ ap (λ (n : ℕ). ltb 0 n) (sym (left_here k))
 
-  unrefused : refusal_of m.state (length m.array) Reset ≡ 0
+  unrefused : refusal_of m.state (length m.array) Reset ≡ None
   unrefused = state_good m.state (length m.array) o.size o.formed
 
   -- each step is an event
@@ -297,7 +298,7 @@ module _ (m : Machine) (o : Good m) where
       ≡ min (cond b (cond (leb n 65535) n 0) 0) (cond b (units_left (geometry m.state) m.state.control.activity.running) (suspended_left (geometry m.state) k m.state.control.activity.program m.state.control.activity.erase))
   unfolding accepted units_done
   told_work k n z false e = omega arith
-  told_work k n (inl i) true e = rw (step_refused m.state m.array unrefused (Work n) 3 (count_bad (geometry m.state) n i), lt-leb n 65535 i) (omega arith)
+  told_work k n (inl i) true e = rw (step_refused m.state m.array unrefused (Work n) refusal.WorkCount (count_bad (geometry m.state) n i), lt-leb n 65535 i) (omega arith)
   told_work k n (inr i) true e = rw (step_done m.state m.array unrefused (Work n) (count_good (geometry m.state) n i), le-leb n 65535 i)
 
   -- an answer that tells of no unit
@@ -305,7 +306,7 @@ module _ (m : Machine) (o : Good m) where
   unfolding step_of
   told_none k x e =
       of_cond (λ (n : ℕ). n ≡ 0) (runs_now k m.state.control.activity.running) _ 0
-      (of_cond (λ (y : Next). told_by y.answer ≡ 0) (eqb (refusal_of m.state (length m.array) x) 0) _ (next m.state (Refused (refusal_of m.state (length m.array) x))) e refl) refl
+      (of_option (λ (y : Next). told_by y.answer ≡ 0) (refusal_of m.state (length m.array) x) (λ r. next m.state (Refused r)) _ e (λ r. refl)) refl
 
   told_here : (k : Followed) (x : Step) → told k m x ≡ min (offered k m.state x) (left_in k m.state)
   unfolding accepted

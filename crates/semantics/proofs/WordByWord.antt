@@ -2,11 +2,13 @@
 -- of 16,384 words costs the checker what each step counts of it and what a read walks along it. It comes to the same
 -- (`played`), so that FurtherCases states its tables of the whole steps, and computes them so.
 -- Assumes nothing.
-use Rattle.std.specs.Prelude.{ℕ, Bool, true, false, cond, ◌&&◌, List, [], ◌∷◌, ◌≡◌, T, eqb, ltb, length, get_or, replicate}
+use Rattle.std.specs.Prelude.{ℕ, Bool, true, false, cond, ◌&&◌, List, [], ◌∷◌, ◌≡◌, T, eqb, ltb, length, get_or, replicate, Option, Some, None}
+use Rattle.std.specs.Option.{option_map_or}
 use Rattle.std.proofs.Math.Path.{refl, ap}
 use Rattle.std.proofs.Common.{sym, ◌∙◌, subst, arith, ltb-true, ltb-false}
 use Rattle.std.proofs.lemmas.List.{length-replicate, get_or-replicate}
 use Rattle.std.proofs.Math.ListN.{get_or-eq_default}
+use Rattle.refusal.specs.declared.Refusal.{Refusal}
 use Rattle.geometry.specs.declared.Geometry.{Geometry}
 use Rattle.geometry.specs.Blocks.{location}
 use Rattle.semantics.specs.declared.Mode.{Mode}
@@ -67,15 +69,14 @@ onward k f s Reset = k f (accepted s [] Reset).state
 abbrev plays_told : ℕ → (ℕ → ℕ) → State → List Exchange → (State → Bool) → Bool
 plays_told n f s [] t = t s
 plays_told n f s ((x ⟶ a) ∷ l) t =
-    cond (eqb (refusal_of s n x) 0)
+    option_map_or (λ e. eqb (code (Refused e)) (code a) && plays_told n f s l t) (refusal_of s n x)
     (eqb (code (answer_told n f s x)) (code a) && onward (λ g u. plays_told n g u l t) f s x)
-    (eqb (code (Refused (refusal_of s n x))) (code a) && plays_told n f s l t)
 
 abbrev holds_told : Case → Bool
 holds_told (lies p a b k) = holds (lies p a b k)
 holds_told (plays p (words n w) l) = plays_told n (λ L. w) (power_up p) l (λ s. true)
 holds_told (starts s (words n w) l) = plays_told n (λ L. w) s l (λ s. true)
-holds_told (reports p (words n w) l m b) = plays_told n (λ L. w) (power_up p) l (reported 0 m b)
+holds_told (reports p (words n w) l m b) = plays_told n (λ L. w) (power_up p) l (reported m b)
 holds_told (counted s n b) = holds (counted s n b)
 holds_told (unreported s r) = holds (unreported s r)
 
@@ -132,15 +133,15 @@ plays_told_lem : (n : ℕ) (f : ℕ → ℕ) (xs : List ℕ) → Told n f xs →
 unfolding step_of array_of
 plays_told_lem n f xs w s [] t = refl
 plays_told_lem n f xs w s ((x ⟶ a) ∷ l) t =
-    go (eqb (refusal_of s n x) 0) refl (onward_told n f xs w s l t (λ g u. plays_told n g u l t) (λ g ys u v. plays_told_lem n g ys v u l t) x) (plays_told_lem n f xs w s l t)
+    go (refusal_of s n x) refl (onward_told n f xs w s l t (λ g u. plays_told n g u l t) (λ g ys u v. plays_told_lem n g ys v u l t) x) (plays_told_lem n f xs w s l t)
   where
-    go : (b : Bool) → eqb (refusal_of s n x) 0 ≡ b
+    go : (o : Option Refusal) → refusal_of s n x ≡ o
         → plays_out (record { state = (accepted s xs x).state; array = accepted_array s xs x }) l t ≡ onward (λ g u. plays_told n g u l t) f s x
         → plays_out (record { state = s; array = xs }) l t ≡ plays_told n f s l t
         → plays_out (record { state = s; array = xs }) ((x ⟶ a) ∷ l) t
-        ≡ cond b (eqb (code (answer_told n f s x)) (code a) && onward (λ g u. plays_told n g u l t) f s x) (eqb (code (Refused (refusal_of s n x))) (code a) && plays_told n f s l t)
-    go true h i j = let e : length xs ≡ n = w.long in rw (e, h, answer_told_lem n f xs w s x, i)
-    go false h i j = let e : length xs ≡ n = w.long in rw (e, h, j)
+        ≡ option_map_or (λ e. eqb (code (Refused e)) (code a) && plays_told n f s l t) o (eqb (code (answer_told n f s x)) (code a) && onward (λ g u. plays_told n g u l t) f s x)
+    go None h i j = let e : length xs ≡ n = w.long in rw (e, h, answer_told_lem n f xs w s x, i)
+    go (Some d) h i j = let e : length xs ≡ n = w.long in rw (e, h, j)
 
 holds_told_lem : (c : Case) → holds c ≡ holds_told c
 holds_told_lem (lies p a b k) = refl

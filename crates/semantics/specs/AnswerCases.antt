@@ -2,6 +2,7 @@
 -- gives its number beside the answer 0"; and beside an answer that is no refusal the number is 0.
 -- Assumes nothing.
 use Rattle.std.specs.Prelude.{ℕ, Bool, true, ◌&&◌, List, [], ◌∷◌, T, eqb}
+use Rattle.refusal.specs.declared.Refusal.TheVariants as refusal
 use Rattle.semantics.specs.declared.Answer.{Answer}
 use Rattle.semantics.specs.declared.Answer.TheVariants.{Word, Units, Done, Refused}
 use Rattle.semantics.specs.Steps.{number_of, value_of}
@@ -19,7 +20,7 @@ answers =
     tells (Word 0) 0 0 ∷ tells (Word 0x1234) 0 0x1234 ∷ tells (Word 0xFFFF) 0 0xFFFF
     ∷ tells (Units 0) 0 0 ∷ tells (Units 1) 0 1 ∷ tells (Units 64) 0 64 ∷ tells (Units 65535) 0 65535
     ∷ tells Done 0 0
-    ∷ tells (Refused 1) 1 0 ∷ tells (Refused 2) 2 0 ∷ tells (Refused 3) 3 0 ∷ tells (Refused 4) 4 0 ∷ tells (Refused 5) 5 0 ∷ tells (Refused 6) 6 0
+    ∷ tells (Refused refusal.ArrayLength) 1 0 ∷ tells (Refused refusal.Malformed) 2 0 ∷ tells (Refused refusal.Address) 3 0 ∷ tells (Refused refusal.WorkCount) 4 0 ∷ tells (Refused refusal.NoBlock) 5 0 ∷ tells (Refused refusal.NoStep) 6 0
     ∷ []
 
 pub answers_hold : T (every answers)

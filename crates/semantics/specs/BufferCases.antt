@@ -2,6 +2,7 @@
 -- FurtherCases computes them.
 -- Assumes nothing.
 use Rattle.std.specs.Prelude.{ℕ, ◌+◌, true, false, List, [], ◌∷◌, ◌++◌, replicate}
+use Rattle.refusal.specs.declared.Refusal.TheVariants as refusal
 use Rattle.geometry.specs.declared.Part.TheVariants.{BenchBottom, BenchTop}
 use Rattle.semantics.specs.declared.Step.TheVariants.{Write}
 use Rattle.semantics.specs.declared.Answer.TheVariants.{Refused}
@@ -121,7 +122,7 @@ buffer_cases =
     ∷ from 0xFFFF (prepared 0x40 ++ begun 0x40 0 ++ write 0x40 0x1234 ++ supply false ++ write 0x40 0xD0 ++ shows 0x40 0x98)
     -- work, reads and a write that is refused leave the load
     ∷ from 0xFFFF
-    (prepared 0x40 ++ begun 0x40 1 ++ works 5 0 ++ write 0x40 1 ++ (Write 0x1000000 0x1234 ⟶ Refused 3) ∷ write 0x41 2 ++ shows 0x40 0x80 ++ write 0x40 0xD0 ++ works 5 2 ++ write 0x40 0xFF
+    (prepared 0x40 ++ begun 0x40 1 ++ works 5 0 ++ write 0x40 1 ++ (Write 0x1000000 0x1234 ⟶ Refused refusal.Address) ∷ write 0x41 2 ++ shows 0x40 0x80 ++ write 0x40 0xD0 ++ works 5 2 ++ write 0x40 0xFF
     ++ shows 0x41 0x0002)
     -- reset drops it: what follows is read as commands
     ∷ from 0xFFFF (prepared 0x40 ++ begun 0x40 1 ++ write 0x40 0x1234 ++ reset ++ write 0x41 0x70 ++ shows 0x41 0x80 ++ write 0x40 0xD0 ++ works 9 0 ++ write 0x40 0xFF ++ shows 0x40 0xFFFF)
@@ -173,7 +174,7 @@ buffer_cases =
     ∷ from 0xFFFF (prepared 0x40 ++ erase 0x40 ++ write 0x40 0xB0 ++ protect 0x40 ++ load_one 0x40 0x1234 ++ shows 0x40 0xD2)
     -- work, supply steps and refused steps leave the words of a load, and of a suspended buffer program
     ∷ from 0xFFFF
-    (prepared 0x40 ++ begun 0x40 1 ++ write 0x40 1 ++ works 5 0 ++ (Write 0x1000000 0x1234 ⟶ Refused 3) ∷ supply false ++ supply true ++ write 0x41 2 ++ write 0x40 0xD0 ++ supply true ++ works 1 1
+    (prepared 0x40 ++ begun 0x40 1 ++ write 0x40 1 ++ works 5 0 ++ (Write 0x1000000 0x1234 ⟶ Refused refusal.Address) ∷ supply false ++ supply true ++ write 0x41 2 ++ write 0x40 0xD0 ++ supply true ++ works 1 1
     ++ write 0x40 0xB0 ++ works 5 0 ++ supply false ++ supply true ++ write 0x40 0xD0 ++ works 5 1 ++ write 0x40 0xFF ++ shows 0x40 1 ++ shows 0x41 2)
     -- a wrong cycle's flags come beside those that were
     ∷ from 0xFFFF (supply true ++ program 0x40 0x1234 ++ begun 0x40 0x20 ++ shows 0x40 0xB2)

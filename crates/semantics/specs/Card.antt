@@ -1,28 +1,37 @@
--- Document 01, "Refusal card": the rows of it that are of a step, and the number that is given. A step is refused for
--- this number by definition (Steps, and Steps of wear). Row 6 is of a script's lines, row 7 of the lookup. CardCases
--- computes every row at its limits.
+-- Document 01, "Refusal card": the rows of it that are of a step, and the row whose number is given. A step is refused
+-- for this row by definition (Steps, and Steps of wear); the number of each is in the crate refusal (Numbers). Row 6 is
+-- of a script's lines, row 7 of the lookup. CardCases computes every row at its limits.
 -- Assumes nothing.
-use Rattle.std.specs.Prelude.{ℕ, min, Bool, false, cond, not, List, [], ◌∷◌, eqb, ltb, leb}
+use Rattle.std.specs.Prelude.{ℕ, Bool, false, cond, not, List, [], ◌∷◌, eqb, ltb, leb, Option, Some, None}
+use Rattle.refusal.specs.declared.Refusal.{Refusal}
+use Rattle.refusal.specs.declared.Refusal.TheVariants as refusal
+use Rattle.refusal.specs.Numbers.{number}
 use Rattle.geometry.specs.declared.Geometry.{Geometry}
 use Rattle.geometry.specs.Blocks.{words, blocks, location, block_of}
 use Rattle.semantics.specs.declared.Step.{Step}
 use Rattle.semantics.specs.declared.Step.TheVariants.{Read, Write, Work, Supply, Reset}
 
--- a row of the card: its number, and whether it applies
+-- a row of the card: what it refuses for, and whether it applies
 pub record Row : Type 0 where
-  pub number : ℕ
+  pub refusal : Refusal
   pub applies : Bool
 
-abbrev pub row : ℕ → Bool → Row
-row n t = record { number = n; applies = t }
+abbrev pub row : Refusal → Bool → Row
+row e t = record { refusal = e; applies = t }
 
--- "The lowest number is given": of the rows that apply, and 0 where none does
-abbrev pub lower : ℕ → ℕ → ℕ
-lower n m = cond (eqb m 0) n (min n m)
+-- "The lowest number is given": of the rows that apply, and none where none does
+abbrev pub lower : Refusal → Option Refusal → Refusal
+lower e None = e
+lower e (Some d) = cond (leb (number e) (number d)) e d
 
-unfoldable pub given : List Row → ℕ
-given [] = 0
-given (r ∷ l) = cond r.applies (lower r.number (given l)) (given l)
+unfoldable pub given : List Row → Option Refusal
+given [] = None
+given (r ∷ l) = cond r.applies (Some (lower r.refusal (given l))) (given l)
+
+-- the number that is given: 0 where none is
+abbrev pub number_given : Option Refusal → ℕ
+number_given None = 0
+number_given (Some e) = number e
 
 -- "Given by": read and write, where their address is so
 abbrev pub at_address : (ℕ → Bool) → Step → Bool
@@ -44,13 +53,13 @@ at_count p Reset = false
 unfoldable pub card : Geometry → Bool → ℕ → Step → List Row
 card g formed n x =
     -- "array length is not 256u": "every step"
-    row 1 (not (eqb n (words g)))
+    row refusal.ArrayLength (not (eqb n (words g)))
     -- "state not well made": "all that take a device"
-    ∷ row 2 (not formed)
+    ∷ row refusal.Malformed (not formed)
     -- "address 16,777,216 or more": "read, write"
-    ∷ row 3 (at_address (λ a. leb 16777216 a) x)
+    ∷ row refusal.Address (at_address (λ a. leb 16777216 a) x)
     -- "work count above 65,535": "work"
-    ∷ row 4 (at_count (λ m. ltb 65535 m) x)
+    ∷ row refusal.WorkCount (at_count (λ m. ltb 65535 m) x)
     -- "location lies in no block": "read, write"
-    ∷ row 5 (at_address (λ a. leb (blocks g) (block_of g (location g a))) x)
+    ∷ row refusal.NoBlock (at_address (λ a. leb (blocks g) (block_of g (location g a))) x)
     ∷ []

@@ -1,18 +1,24 @@
 -- The refusal card computed: each row at its limits, on parts of both sizes, and the lowest number where several rows
 -- apply. An array is told by its length alone, and a state by whether it is well formed; RefusalCases has whole steps.
 -- Assumes nothing.
-use Rattle.std.specs.Prelude.{ℕ, Bool, true, false, ◌&&◌, List, [], ◌∷◌, ◌++◌, T, eqb}
+use Rattle.std.specs.Prelude.{ℕ, Bool, true, false, ◌&&◌, List, [], ◌∷◌, ◌++◌, T, eqb, Option, Some, None}
+use Rattle.refusal.specs.declared.Refusal.{Refusal}
+use Rattle.refusal.specs.declared.Refusal.TheVariants as refusal
 use Rattle.geometry.specs.declared.Part.TheVariants.{FullBottom, FullTop, BenchBottom, BenchTop}
 use Rattle.geometry.specs.declared.Geometry.{Geometry}
 use Rattle.geometry.specs.Blocks.{geometry_of, mirror, block_from, block_of}
 use Rattle.semantics.specs.declared.Step.{Step}
 use Rattle.semantics.specs.declared.Step.TheVariants.{Read, Write, Work, Supply, Reset}
-use Rattle.semantics.specs.Card.{row, given, card}
+use Rattle.semantics.specs.Card.{row, given, number_given, card}
 
--- each of the steps is refused r, 0 for none
-abbrev gives : Geometry → Bool → ℕ → ℕ → List Step → Bool
+-- one is given, or none, as wanted: they are told apart by their numbers
+abbrev same : Option Refusal → Option Refusal → Bool
+same a b = eqb (number_given a) (number_given b)
+
+-- each of the steps is refused for r, or for nothing
+abbrev gives : Geometry → Bool → ℕ → Option Refusal → List Step → Bool
 gives g formed n r [] = true
-gives g formed n r (x ∷ l) = eqb (given (card g formed n x)) r && gives g formed n r l
+gives g formed n r (x ∷ l) = same (given (card g formed n x)) r && gives g formed n r l
 
 abbrev every : List Bool → Bool
 every [] = true
@@ -55,41 +61,41 @@ between = Read 4 ∷ Read 9 ∷ Read 16777214 ∷ Write 4 0 ∷ Write 9 0xFFFF �
 abbrev pub card_cases : List Bool
 card_cases =
     -- no row applies, or 3 alone, or 4 alone
-    gives (geometry_of FullBottom) true 16777216 0 plain
-    ∷ gives (geometry_of FullTop) true 16777216 0 plain
-    ∷ gives (geometry_of BenchBottom) true 16384 0 plain
-    ∷ gives (geometry_of BenchTop) true 16384 0 plain
-    ∷ gives (geometry_of FullBottom) true 16777216 3 far
-    ∷ gives (geometry_of BenchTop) true 16384 3 far
-    ∷ gives (geometry_of FullTop) true 16777216 4 long
-    ∷ gives (geometry_of BenchBottom) true 16384 4 long
+    gives (geometry_of FullBottom) true 16777216 None plain
+    ∷ gives (geometry_of FullTop) true 16777216 None plain
+    ∷ gives (geometry_of BenchBottom) true 16384 None plain
+    ∷ gives (geometry_of BenchTop) true 16384 None plain
+    ∷ gives (geometry_of FullBottom) true 16777216 (Some refusal.Address) far
+    ∷ gives (geometry_of BenchTop) true 16384 (Some refusal.Address) far
+    ∷ gives (geometry_of FullTop) true 16777216 (Some refusal.WorkCount) long
+    ∷ gives (geometry_of BenchBottom) true 16384 (Some refusal.WorkCount) long
     -- 1, whatever else applies: one word less, one more, none, and the length of the other parts
-    ∷ gives (geometry_of FullBottom) true 16777215 1 any
-    ∷ gives (geometry_of FullTop) false 16777217 1 any
-    ∷ gives (geometry_of FullTop) true 16384 1 any
-    ∷ gives (geometry_of BenchBottom) false 16383 1 any
-    ∷ gives (geometry_of BenchTop) true 16385 1 any
-    ∷ gives (geometry_of BenchTop) true 16777216 1 any
-    ∷ gives (geometry_of BenchBottom) true 0 1 any
+    ∷ gives (geometry_of FullBottom) true 16777215 (Some refusal.ArrayLength) any
+    ∷ gives (geometry_of FullTop) false 16777217 (Some refusal.ArrayLength) any
+    ∷ gives (geometry_of FullTop) true 16384 (Some refusal.ArrayLength) any
+    ∷ gives (geometry_of BenchBottom) false 16383 (Some refusal.ArrayLength) any
+    ∷ gives (geometry_of BenchTop) true 16385 (Some refusal.ArrayLength) any
+    ∷ gives (geometry_of BenchTop) true 16777216 (Some refusal.ArrayLength) any
+    ∷ gives (geometry_of BenchBottom) true 0 (Some refusal.ArrayLength) any
     -- 2, whatever else applies but 1
-    ∷ gives (geometry_of FullBottom) false 16777216 2 any
-    ∷ gives (geometry_of BenchTop) false 16384 2 any
+    ∷ gives (geometry_of FullBottom) false 16777216 (Some refusal.Malformed) any
+    ∷ gives (geometry_of BenchTop) false 16384 (Some refusal.Malformed) any
     -- 5, and what comes before it
-    ∷ gives (odd false) true 5 0 (Read 0 ∷ Read 5 ∷ within)
-    ∷ gives (odd true) true 5 0 (Read 2 ∷ Write 9 0 ∷ within)
-    ∷ gives (odd false) true 5 5 between
-    ∷ gives (odd true) true 5 5 (Read 0 ∷ Write 5 0 ∷ [])
-    ∷ gives (odd false) true 5 3 (Read 16777219 ∷ Write 16777219 0 ∷ [])
-    ∷ gives (odd false) false 5 2 (between ++ any)
-    ∷ gives (odd false) true 4 1 (between ++ any)
+    ∷ gives (odd false) true 5 None (Read 0 ∷ Read 5 ∷ within)
+    ∷ gives (odd true) true 5 None (Read 2 ∷ Write 9 0 ∷ within)
+    ∷ gives (odd false) true 5 (Some refusal.NoBlock) between
+    ∷ gives (odd true) true 5 (Some refusal.NoBlock) (Read 0 ∷ Write 5 0 ∷ [])
+    ∷ gives (odd false) true 5 (Some refusal.Address) (Read 16777219 ∷ Write 16777219 0 ∷ [])
+    ∷ gives (odd false) false 5 (Some refusal.Malformed) (between ++ any)
+    ∷ gives (odd false) true 4 (Some refusal.ArrayLength) (between ++ any)
     -- of rows: none, none that applies, in order, out of order, those left out that do not apply
-    ∷ eqb (given []) 0
-    ∷ eqb (given (row 3 false ∷ row 1 false ∷ [])) 0
-    ∷ eqb (given (row 7 true ∷ [])) 7
-    ∷ eqb (given (row 2 true ∷ row 4 true ∷ row 5 true ∷ [])) 2
-    ∷ eqb (given (row 5 true ∷ row 2 true ∷ row 4 true ∷ [])) 2
-    ∷ eqb (given (row 5 true ∷ row 4 true ∷ row 2 true ∷ [])) 2
-    ∷ eqb (given (row 1 false ∷ row 6 true ∷ row 2 false ∷ row 4 true ∷ row 3 false ∷ [])) 4
+    ∷ same (given []) None
+    ∷ same (given (row refusal.Address false ∷ row refusal.ArrayLength false ∷ [])) None
+    ∷ same (given (row refusal.NoPart true ∷ [])) (Some refusal.NoPart)
+    ∷ same (given (row refusal.Malformed true ∷ row refusal.WorkCount true ∷ row refusal.NoBlock true ∷ [])) (Some refusal.Malformed)
+    ∷ same (given (row refusal.NoBlock true ∷ row refusal.Malformed true ∷ row refusal.WorkCount true ∷ [])) (Some refusal.Malformed)
+    ∷ same (given (row refusal.NoBlock true ∷ row refusal.WorkCount true ∷ row refusal.Malformed true ∷ [])) (Some refusal.Malformed)
+    ∷ same (given (row refusal.ArrayLength false ∷ row refusal.NoStep true ∷ row refusal.Malformed false ∷ row refusal.WorkCount true ∷ row refusal.Address false ∷ [])) (Some refusal.WorkCount)
     ∷ []
 
 pub card_holds : T (every card_cases)

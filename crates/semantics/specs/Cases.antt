@@ -1,7 +1,9 @@
 -- Document 01's table of proved cases, as one table under one statement: the checker computes each through the definitions of the steps and of the lookup,
 -- from power-up with real commands. A wrong number in the table is refused.
 -- Assumes nothing.
-use Rattle.std.specs.Prelude.{ℕ, zero, suc, ◌+◌, ◌*◌, Bool, true, ◌&&◌, List, [], ◌∷◌, ◌++◌, T, eqb, replicate}
+use Rattle.std.specs.Prelude.{ℕ, zero, suc, ◌+◌, ◌*◌, Bool, true, false, ◌&&◌, List, [], ◌∷◌, ◌++◌, T, eqb, replicate, Ok, Err}
+use Rattle.refusal.specs.declared.Refusal.{Refusal}
+use Rattle.refusal.specs.Numbers.{number}
 use Rattle.geometry.specs.declared.Part.{Part}
 use Rattle.geometry.specs.declared.Part.TheVariants.{BenchBottom}
 use Rattle.geometry.specs.Blocks.{mirror, block_from, block_of, bank_of, size_of, start_from, start_of, bank_start, block_offset, bank_offset, bank_of_block, lookup_of}
@@ -42,30 +44,34 @@ pub data Case : Type 0 where
   starts : State → Words → List Exchange → Case
   reports : Part → Words → List Exchange → ℕ → ℕ → Case
   counted : State → ℕ → ℕ → Case
-  unreported : State → ℕ → Case
+  unreported : State → Refusal → Case
 
--- answers apart by their kind and number
+-- answers apart by their kind and number, a refusal by the number that it gives
 abbrev pub code : Answer → ℕ
 code (Word w) = 4 * w
 code (Units n) = 4 * n + 1
 code Done = 2
-code (Refused n) = 4 * n + 3
+code (Refused e) = 4 * number e + 3
 
 -- each step answers so, and what the last one leaves passes a test
 abbrev pub plays_out : Machine → List Exchange → (State → Bool) → Bool
 plays_out m [] f = f m.state
 plays_out m ((x ⟶ a) ∷ l) f = eqb (code (step_of m.state m.array x).answer) (code a) && plays_out (after m x) l f
 
-abbrev pub reported : ℕ → ℕ → ℕ → State → Bool
-reported r n b s = eqb (reported_of s).refusal r && (eqb (reported_of s).count n && eqb (reported_of s).lowest b)
+-- the report on a state says so; or is refused so
+abbrev pub reported : ℕ → ℕ → State → Bool
+reported n b s = elim (reported_of s) [ Ok r ↦ eqb r.count n && eqb r.lowest b | Err e ↦ false ]
+
+abbrev pub refused_report : Refusal → State → Bool
+refused_report d s = elim (reported_of s) [ Ok r ↦ false | Err e ↦ eqb (number e) (number d) ]
 
 abbrev pub holds : Case → Bool
 holds (lies p a b k) = eqb (lookup_of p a).refusal 0 && (eqb (lookup_of p a).block b && eqb (lookup_of p a).bank k)
 holds (plays p m l) = plays_out (fresh p (array_in m)) l (λ s. true)
 holds (starts s m l) = plays_out (record { state = s; array = array_in m }) l (λ s. true)
-holds (reports p m l n b) = plays_out (fresh p (array_in m)) l (reported 0 n b)
-holds (counted s n b) = reported 0 n b s
-holds (unreported s r) = reported r 0 0 s
+holds (reports p m l n b) = plays_out (fresh p (array_in m)) l (reported n b)
+holds (counted s n b) = reported n b s
+holds (unreported s e) = refused_report e s
 
 abbrev pub every : List Case → Bool
 every [] = true

@@ -48,4 +48,4 @@ abbrev pub told_by : Answer → ℕ
 told_by (Word w) = 0
 told_by (Units n) = n
 told_by Done = 0
-told_by (Refused n) = 0
+told_by (Refused e) = 0

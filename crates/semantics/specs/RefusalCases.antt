@@ -2,6 +2,8 @@
 -- 01's sentence on states that are well formed, a state that breaks this part alone and one at its edge. FurtherCases computes them.
 -- Assumes nothing.
 use Rattle.std.specs.Prelude.{ℕ, true, false, List, [], ◌∷◌, ◌++◌, replicate}
+use Rattle.refusal.specs.declared.Refusal.{Refusal}
+use Rattle.refusal.specs.declared.Refusal.TheVariants as refusal
 use Rattle.geometry.specs.declared.Part.{Part}
 use Rattle.geometry.specs.declared.Part.TheVariants.{BenchBottom, BenchTop}
 use Rattle.semantics.specs.declared.Step.TheVariants.{Read, Write, Work, Supply, Reset}
@@ -43,13 +45,13 @@ erase_waits b n = under_way BenchBottom setup.Nothing running.Idle suspended_pro
 -- ---- a state that is not well formed, by the refusal of a step on it; and one that is
 
 abbrev pub bad : State → Case
-bad s = starts s (bench 0) ((Reset ⟶ Refused 2) ∷ [])
+bad s = starts s (bench 0) ((Reset ⟶ Refused refusal.Malformed) ∷ [])
 
 abbrev pub good : State → Case
 good s = starts s (bench 0) ((Supply true ⟶ Done) ∷ [])
 
--- every step refused r, whatever its own numbers
-abbrev pub all : ℕ → List Exchange
+-- every step refused for r, whatever its own numbers
+abbrev pub all : Refusal → List Exchange
 all r =
     (Read 0 ⟶ Refused r) ∷ (Write 0 0xFF ⟶ Refused r) ∷ (Work 1 ⟶ Refused r) ∷ (Supply true ⟶ Refused r) ∷ (Supply false ⟶ Refused r) ∷ (Reset ⟶ Refused r) ∷ (Read 0x1000000 ⟶ Refused r)
     ∷ (Write 0x1000000 0xFF ⟶ Refused r) ∷ (Work 65536 ⟶ Refused r) ∷ []
@@ -59,23 +61,23 @@ refusal_cases =
     -- document 01's script; an address of 16,777,216 is refused 3, a count of 99,999 is refused 4
     plays BenchBottom (bench 0xFFFF)
     (prepared 0x40 ++ program 0x41 0x1234 ++ shows 0x41 0x0000 ++ works 5 1 ++ shows 0x41 0x0080 ++ write 0x0 0xFF ++ shows 0x41 0x1234 ++ shows 0x4041 0x1234
-    ++ (Read 0x1000000 ⟶ Refused 3) ∷ (Work 99999 ⟶ Refused 4) ∷ [])
+    ++ (Read 0x1000000 ⟶ Refused refusal.Address) ∷ (Work 99999 ⟶ Refused refusal.WorkCount) ∷ [])
     -- on an array of another length every step is refused 1, whatever else is wrong with it
-    ∷ plays BenchBottom (words 3 0) (all 1)
-    ∷ plays BenchBottom (words 0 0) (all 1)
-    ∷ plays BenchTop (words 16383 0) ((Reset ⟶ Refused 1) ∷ [])
-    ∷ plays BenchTop (words 16385 0) ((Reset ⟶ Refused 1) ∷ [])
-    ∷ starts (program_runs 0x4000) (words 3 0) (all 1)
+    ∷ plays BenchBottom (words 3 0) (all refusal.ArrayLength)
+    ∷ plays BenchBottom (words 0 0) (all refusal.ArrayLength)
+    ∷ plays BenchTop (words 16383 0) ((Reset ⟶ Refused refusal.ArrayLength) ∷ [])
+    ∷ plays BenchTop (words 16385 0) ((Reset ⟶ Refused refusal.ArrayLength) ∷ [])
+    ∷ starts (program_runs 0x4000) (words 3 0) (all refusal.ArrayLength)
     -- a state that is not well formed: every step, whatever its own numbers, and the report
-    ∷ starts (program_runs 0x4000) (bench 0) (all 2)
-    ∷ unreported (program_runs 0x4000) 2
+    ∷ starts (program_runs 0x4000) (bench 0) (all refusal.Malformed)
+    ∷ unreported (program_runs 0x4000) refusal.Malformed
     -- 3 and 4 at their limits
     ∷ plays BenchBottom (bench 0xFFFF)
-    ((Read 0xFFFFFF ⟶ Word 0xFFFF) ∷ (Read 0x1000000 ⟶ Refused 3) ∷ (Write 0xFFFFFF 0x70 ⟶ Done) ∷ (Write 0x1000000 0x70 ⟶ Refused 3) ∷ (Work 65535 ⟶ Units 0) ∷ (Work 65536 ⟶ Refused 4) ∷ [])
+    ((Read 0xFFFFFF ⟶ Word 0xFFFF) ∷ (Read 0x1000000 ⟶ Refused refusal.Address) ∷ (Write 0xFFFFFF 0x70 ⟶ Done) ∷ (Write 0x1000000 0x70 ⟶ Refused refusal.Address) ∷ (Work 65535 ⟶ Units 0) ∷ (Work 65536 ⟶ Refused refusal.WorkCount) ∷ [])
     -- a refused step changes nothing: neither a pending set-up, nor a mode, nor what runs, nor the array
     ∷ plays BenchBottom (bench 0xFFFF)
-    (prepared 0x40 ++ write 0x40 0x40 ++ (Write 0x1000040 0xFF ⟶ Refused 3) ∷ (Work 65536 ⟶ Refused 4) ∷ write 0x40 0x1234 ++ (Work 65536 ⟶ Refused 4) ∷ (Write 0x1000040 0xB0 ⟶ Refused 3)
-    ∷ shows 0x40 0x00 ++ write 0x40 0xB0 ++ shows 0x40 0x84 ++ write 0x40 0xFF ++ shows 0x40 0xFFFF ++ (Write 0x1000040 0x70 ⟶ Refused 3) ∷ (Read 0x1000040 ⟶ Refused 3) ∷ shows 0x40 0xFFFF)
+    (prepared 0x40 ++ write 0x40 0x40 ++ (Write 0x1000040 0xFF ⟶ Refused refusal.Address) ∷ (Work 65536 ⟶ Refused refusal.WorkCount) ∷ write 0x40 0x1234 ++ (Work 65536 ⟶ Refused refusal.WorkCount) ∷ (Write 0x1000040 0xB0 ⟶ Refused refusal.Address)
+    ∷ shows 0x40 0x00 ++ write 0x40 0xB0 ++ shows 0x40 0x84 ++ write 0x40 0xFF ++ shows 0x40 0xFFFF ++ (Write 0x1000040 0x70 ⟶ Refused refusal.Address) ∷ (Read 0x1000040 ⟶ Refused refusal.Address) ∷ shows 0x40 0xFFFF)
     -- "a running operation means no set-up pending"
     ∷ bad (under_way BenchBottom setup.Program (running.Program 0x40 0) suspended_program.Nothing suspended_erase.Nothing)
     ∷ bad (under_way BenchBottom setup.Erase (running.Program 0x40 0) suspended_program.Nothing suspended_erase.Nothing)
@@ -121,5 +123,5 @@ refusal_cases =
     -- "spare storage, if any, is zero": blocks 256 to 258 are the last word's three lowest digits
     ∷ good (last_word 7)
     ∷ bad (last_word 8)
-    ∷ unreported (last_word 8) 2
+    ∷ unreported (last_word 8) refusal.Malformed
     ∷ []

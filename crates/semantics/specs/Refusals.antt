@@ -8,7 +8,7 @@ use Rattle.semantics.specs.State.{geometry}
 use Rattle.semantics.specs.Reading.{read_word}
 use Rattle.semantics.specs.Working.{units_done}
 
--- what a step answers by document 01's number and value, where r is its refusal or 0: a step that is accepted answers the word that was read, the units that were done, or 0
+-- the value of a step that is accepted: the word that was read, the units that were done, or 0
 abbrev pub value_given : State → List ℕ → Step → ℕ
 value_given s xs (Read a) = read_word s xs a
 value_given s xs (Write a w) = 0

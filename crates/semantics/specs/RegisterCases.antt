@@ -1,6 +1,7 @@
 -- Cases of the configuration register and its reserved bits: document 02, item 4. FurtherCases computes them.
 -- Assumes nothing.
 use Rattle.std.specs.Prelude.{ℕ, ◌-◌, true, false, List, [], ◌∷◌, ◌++◌, replicate}
+use Rattle.refusal.specs.declared.Refusal.TheVariants as refusal
 use Rattle.geometry.specs.declared.Part.{Part}
 use Rattle.geometry.specs.declared.Part.TheVariants.{FullBottom, FullTop, BenchBottom, BenchTop}
 use Rattle.semantics.specs.declared.Step.TheVariants.{Write, Work, Reset}
@@ -44,7 +45,7 @@ allowed w = starts (registered w) (bench 0) (has w)
 
 -- one that is not: every step is refused 2, and on an array of another length 1, and the report is refused 2
 abbrev refused : ℕ → List Case
-refused w = starts (registered w) (bench 0) (all 2) ∷ starts (registered w) (words 3 0) (all 1) ∷ unreported (registered w) 2 ∷ []
+refused w = starts (registered w) (bench 0) (all refusal.Malformed) ∷ starts (registered w) (words 3 0) (all refusal.ArrayLength) ∷ unreported (registered w) refusal.Malformed ∷ []
 
 -- what is under way, on the bench bottom part with register w
 abbrev busy : Setup → Running → SuspendedProgram → SuspendedErase → ℕ → State
@@ -123,7 +124,7 @@ register_cases =
     ∷ plays BenchBottom (bench 0xFFFF) (cycles 0x4030 0x60 0x03 ++ shows 0x0 0x80 ++ erase 0x40 ++ shows 0x40 0xA8 ++ cycles 0x4030 0x60 0x03 ++ shows 0x0 0xA8)
     -- supply, work, other commands, refused steps and a wrong lock code leave the register
     ∷ plays BenchBottom (bench 0xFFFF)
-    (stores 0x1234 0x1204 ++ supply true ++ works 5 0 ++ prepared 0x40 ++ erase 0x40 ++ works 3 3 ++ write 0x40 0xB0 ++ cycles 0x40 0x60 0x04 ++ (Write 0x1000003 0x03 ⟶ Refused 3) ∷ (Work 65536 ⟶ Refused 4) ∷ write 0x40 0x90
+    (stores 0x1234 0x1204 ++ supply true ++ works 5 0 ++ prepared 0x40 ++ erase 0x40 ++ works 3 3 ++ write 0x40 0xB0 ++ cycles 0x40 0x60 0x04 ++ (Write 0x1000003 0x03 ⟶ Refused refusal.Address) ∷ (Work 65536 ⟶ Refused refusal.WorkCount) ∷ write 0x40 0x90
     ++ shows 0x5 0x1204 ++ supply false ++ shows 0x5 0x1204)
     -- reset gives the default, whatever was stored
     ∷ plays BenchTop (bench 0xFFFF) (stores 0x0 0x0 ++ reset ++ has 0xBFCF)
@@ -171,9 +172,9 @@ register_cases =
     ∷ bad (with_supply (registered 0x4000) true) ∷ bad (with_flags (registered 0x4000) (flags_of true false false false)) ∷ bad (with_flags (registered 0x4000) (flags_of false true false false))
     ∷ bad (with_flags (registered 0x4000) (flags_of false false true false)) ∷ bad (with_flags (registered 0x4000) (flags_of false false false true))
     ∷ bad (with_protection (registered 0x4000) (0x11 ∷ replicate 4 0)) ∷ bad (in_mode Status) ∷ bad (in_mode Signature) ∷ bad (in_mode Query)
-    ∷ unreported (configured (power_up FullBottom) 0x4000) 2 ∷ unreported (configured (power_up FullTop) 0x4000) 2
+    ∷ unreported (configured (power_up FullBottom) 0x4000) refusal.Malformed ∷ unreported (configured (power_up FullTop) 0x4000) refusal.Malformed
     -- a state that is refused comes back as it was: refused 1, it is refused 2 still, or has its register still; refused 2, it has the register that it had, which shows where its bit 14 is taken off
-    ∷ unreported (back1 (registered 0x4000)) 2 ∷ starts (back1 (registered 0x8041)) (bench 0) (has 0x8041)
+    ∷ unreported (back1 (registered 0x4000)) refusal.Malformed ∷ starts (back1 (registered 0x8041)) (bench 0) (has 0x8041)
     ∷ starts (registered ((back (registered 0xC041)).control.configuration - 0x4000)) (bench 0) (has 0x8041)
     -- with any of the others it is
     ∷ allowed 0x0 ∷ allowed 0x1 ∷ allowed 0x2 ∷ allowed 0x4 ∷ allowed 0x8 ∷ allowed 0x40 ∷ allowed 0x80 ∷ allowed 0x100 ∷ allowed 0x200 ∷ allowed 0x400 ∷ allowed 0x800 ∷ allowed 0x1000

@@ -1,7 +1,12 @@
 -- The five steps whole, with their refusals, and a list of them played: document 01, "The five steps" and "Refusal card", and document 02, item 5, for the supply step.
 -- Assumes nothing.
-use Rattle.std.specs.Prelude.{ℕ, Bool, cond, List, [], ◌∷◌, eqb, length}
+use Rattle.std.specs.Prelude.{ℕ, Bool, cond, List, [], ◌∷◌, length, Option, Result, Ok, Err}
+use Rattle.std.specs.Option.{option_map_or}
+use Rattle.refusal.specs.declared.Refusal.{Refusal}
+use Rattle.refusal.specs.declared.Refusal.TheVariants as refusal
+use Rattle.refusal.specs.Numbers.{number}
 use Rattle.geometry.specs.declared.Part.{Part}
+use Rattle.protection.specs.declared.Report.{Report}
 use Rattle.protection.specs.Words.{report_of}
 use Rattle.semantics.specs.declared.State.{State}
 use Rattle.semantics.specs.declared.Step.{Step}
@@ -9,7 +14,6 @@ use Rattle.semantics.specs.declared.Step.TheVariants.{Read, Write, Work, Supply,
 use Rattle.semantics.specs.declared.Answer.{Answer}
 use Rattle.semantics.specs.declared.Answer.TheVariants.{Word, Units, Done, Refused}
 use Rattle.semantics.specs.declared.Next.{Next}
-use Rattle.semantics.specs.declared.Reported.{Reported}
 use Rattle.semantics.specs.State.{geometry, with_control, with_buffer, with_supply, power_up}
 use Rattle.semantics.specs.Supply.{switched}
 use Rattle.semantics.specs.WellFormed.{well_formed}
@@ -18,8 +22,8 @@ use Rattle.semantics.specs.Reading.{read_word}
 use Rattle.semantics.specs.Writing.{written}
 use Rattle.semantics.specs.Working.{units_done, buffer_after, worked, worked_array}
 
--- the refusal of a step on an array of n words, 0 where there is none: the card's
-unfoldable pub refusal_of : State → ℕ → Step → ℕ
+-- what a step on an array of n words is refused for, if anything: the card's
+unfoldable pub refusal_of : State → ℕ → Step → Option Refusal
 refusal_of s n x = given (card (geometry s) (well_formed s) n x)
 
 -- ---- a step
@@ -50,32 +54,29 @@ accepted_array s xs Reset = xs
 
 -- "A refusal gives its number beside the answer 0, gives back the state it got and leaves all lent memory."
 unfoldable pub step_of : State → List ℕ → Step → Next
-step_of s xs x = cond (eqb (refusal_of s (length xs) x) 0) (accepted s xs x) (next s (Refused (refusal_of s (length xs) x)))
+step_of s xs x = option_map_or (λ e. next s (Refused e)) (refusal_of s (length xs) x) (accepted s xs x)
 
 unfoldable pub array_of : State → List ℕ → Step → List ℕ
-array_of s xs x = cond (eqb (refusal_of s (length xs) x) 0) (accepted_array s xs x) xs
+array_of s xs x = option_map_or (λ e. xs) (refusal_of s (length xs) x) (accepted_array s xs x)
 
 -- document 01's refusal number, and its value, of each answer
 abbrev pub number_of : Answer → ℕ
 number_of (Word w) = 0
 number_of (Units n) = 0
 number_of Done = 0
-number_of (Refused n) = n
+number_of (Refused e) = number e
 
 abbrev pub value_of : Answer → ℕ
 value_of (Word w) = w
 value_of (Units n) = n
 value_of Done = 0
-value_of (Refused n) = 0
+value_of (Refused e) = 0
 
 -- ---- the report of unprotected blocks (document 01: open report)
 
--- "how many blocks are open and the lowest open one, 259 if none"; refused 2 where the state is not well formed, with 0 beside the number
-unfoldable pub reported_of : State → Reported
-reported_of s =
-    cond (well_formed s)
-    (record { refusal = 0; count = (report_of s.unprotected).count; lowest = (report_of s.unprotected).lowest })
-    (record { refusal = 2; count = 0; lowest = 0 })
+-- "how many blocks are open and the lowest open one, 259 if none"; refused where the state is not well formed
+unfoldable pub reported_of : State → Result Report Refusal
+reported_of s = cond (well_formed s) (Ok (report_of s.unprotected)) (Err refusal.Malformed)
 
 -- ---- a list of steps
 

@@ -2,6 +2,7 @@
 -- Bench bottom: block 0 has the locations 0 to F, block 4 40 to 7F, block 5 80 to BF, all in bank 0, and block 19 400 to 43F, in bank 1.
 -- Assumes nothing.
 use Rattle.std.specs.Prelude.{ℕ, Bool, true, false, List, [], ◌∷◌, ◌++◌, replicate}
+use Rattle.refusal.specs.declared.Refusal.TheVariants as refusal
 use Rattle.geometry.specs.declared.Part.{Part}
 use Rattle.geometry.specs.declared.Part.TheVariants.{FullBottom, FullTop, BenchBottom, BenchTop}
 use Rattle.semantics.specs.declared.Setup.{Setup}
@@ -80,7 +81,7 @@ three = suspended_erase.Erase 4 3
 
 -- a state that is not well formed: every step is refused 2, and on an array of another length 1, and the report is refused 2
 abbrev refused : State → List Case
-refused s = starts s (bench 0) (all 2) ∷ starts s (words 3 0) (all 1) ∷ unreported s 2 ∷ []
+refused s = starts s (bench 0) (all refusal.Malformed) ∷ starts s (words 3 0) (all refusal.ArrayLength) ∷ unreported s refusal.Malformed ∷ []
 
 abbrev pub supply_cases : List Case
 supply_cases =
@@ -187,7 +188,7 @@ supply_cases =
     -- a state is well formed only where supply is on if something runs: a program, an erase, a buffer program, alone and beside a suspended erase
     ∷ refused (runs BenchBottom (running.Program 0x80 0x1234) none false) ++ refused (runs BenchBottom (running.Erase 4 0) none false) ++ refused (runs_two none false)
     ++ bad (runs BenchBottom (running.Program 0x80 0x1234) three false) ∷ bad (runs_two three false) ∷ bad (runs BenchTop (running.Program 0x80 0x1234) none false) ∷ bad (runs BenchBottom (running.Erase 4 63) none false)
-    ∷ unreported (runs FullBottom (running.Erase 4 65535) none false) 2 ∷ unreported (runs FullTop (running.Program 0xFFFFFF 0x1234) none false) 2
+    ∷ unreported (runs FullBottom (running.Erase 4 65535) none false) refusal.Malformed ∷ unreported (runs FullTop (running.Program 0xFFFFFF 0x1234) none false) refusal.Malformed
     ∷ starts (runs BenchBottom (running.Program 0x80 0x1234) none true) (bench 0xFFFF) (works 5 1 ++ shows 0x80 0x1234)
     ∷ starts (runs BenchBottom (running.Erase 4 0) none true) (bench 0) (works 65535 64 ++ shows 0x7F 0xFFFF)
     ∷ starts (runs_two none true) (bench 0xFFFF) (works 5 2 ++ shows 0x81 0xBBBB)

@@ -3,6 +3,7 @@
 #![tactic(auto)]
 
 use geometry::Part;
+use refusal::Refusal;
 
 // The read mode of a bank.
 #[derive(Clone, Copy)]
@@ -128,13 +129,13 @@ pub enum Step {
     Reset,
 }
 
-// What a step answers: a word that was read, the units that were done, that it was done, or the refusal's number on document 01's card.
+// What a step answers: a word that was read, the units that were done, that it was done, or why it is refused: a row of document 01's card.
 #[derive(Clone, Copy)]
 pub enum Answer {
     Word(u16),
     Units(u32),
     Done,
-    Refused(u32),
+    Refused(Refusal),
 }
 
 // The state after a step, and its answer.
@@ -142,15 +143,6 @@ pub enum Answer {
 pub struct Next {
     pub state: State,
     pub answer: Answer,
-}
-
-// The report of unprotected blocks (document 01: open report): a refusal's number or 0, how many blocks are unprotected, and the lowest of them, 259 where there
-// is none; count and lowest are 0 beside a refusal.
-#[derive(Clone, Copy)]
-pub struct Reported {
-    pub refusal: u32,
-    pub count: u32,
-    pub lowest: u32,
 }
 
 // The commands of a first cycle.
