@@ -16,6 +16,7 @@ ghost use Rattle.semantics.specs.Card.{given, card};
 ghost use Rattle.semantics.specs.Split.{step_refusal, first_refusal};
 
 use geometry::Part;
+use refusal::Refusal;
 use semantics::{
     Activity, Bank, Control, Flags, Mode, Place, Running, Setup, State, Step, SuspendedErase,
     SuspendedProgram, View,
@@ -249,54 +250,52 @@ pub fn well_formed(s: State) -> bool
 }
 
 // What every step is refused for, and a reset for nothing else, beside an array of n words and a state of the part that
-// is well formed or not: 1 for the length, or else 2 for the state, or else 0.
+// is well formed or not: the length, or else the state.
 #[tactic(auto, using(semantics::proofs::Split::reset_refused))]
-pub fn refusal_beside(part: Part, formed: bool, n: usize) -> u32
+pub fn refusal_beside(part: Part, formed: bool, n: usize) -> Option<Refusal>
     ensures { result ≡ given (card (geometry_of part) formed n Step.Reset) }
 {
     if n != geometry::length_of(part) as usize {
-        1
+        Some(Refusal::ArrayLength)
     } else if formed {
-        0
+        None
     } else {
-        2
+        Some(Refusal::Malformed)
     }
 }
 
-// The refusal of an address, of a read's as of a write's, 0 where there is none. It is 3 where the address is too
-// large; 5, its location in no block, is not tested, since every location lies in a block (`address_good` of
-// semantics).
+// The refusal of an address, of a read's as of a write's: it is too large. That its location lies in no block is not
+// tested, since every location lies in a block (`address_good` of semantics).
 #[tactic(auto, using(semantics::proofs::Split::address_good, semantics::proofs::Split::address_bad, geometry::specs::Laws::sound))]
-pub fn address_refusal(part: Part, address: u32) -> u32
+pub fn address_refusal(part: Part, address: u32) -> Option<Refusal>
     ensures { result ≡ step_refusal (geometry_of part) (Step.Read address) }
 {
-    if 16777216 <= address { 3 } else { 0 }
+    (16777216 <= address).then_some(Refusal::Address)
 }
 
-// What a step's own numbers are refused for, 0 where for nothing.
+// What a step's own numbers are refused for.
 #[tactic(auto, unfolding(semantics::specs::Split::step_refusal, semantics::specs::Card::given, semantics::specs::Card::card))]
-pub fn step_refusal(part: Part, x: Step) -> u32
+pub fn step_refusal(part: Part, x: Step) -> Option<Refusal>
     ensures { result ≡ step_refusal (geometry_of part) x }
 {
     match x {
         Step::Read(address) | Step::Write(address, _) => address_refusal(part, address),
         Step::Work(count) => count_refusal(count),
-        Step::Supply(_) | Step::Reset => 0,
+        Step::Supply(_) | Step::Reset => None,
     }
 }
 
-// The refusal of a work count, 0 where there is none.
+// The refusal of a work count.
 #[tactic(auto, using(semantics::proofs::Split::count_good, semantics::proofs::Split::count_bad))]
-pub fn count_refusal(n: u32) -> u32
+pub fn count_refusal(n: u32) -> Option<Refusal>
     ensures { (g : Geometry) → result ≡ step_refusal g (Step.Work n) }
 {
-    if 65535 < n { 4 } else { 0 }
+    (65535 < n).then_some(Refusal::WorkCount)
 }
 
-// The first of two refusals that is one: 0 is none.
-#[tactic(auto, unfolding(semantics::specs::Split::first_refusal))]
-pub fn first_refusal(a: u32, b: u32) -> u32
+// The first of two refusals, or the second where there is no first.
+pub fn first_refusal(a: Option<Refusal>, b: Option<Refusal>) -> Option<Refusal>
     ensures { result ≡ first_refusal a b }
 {
-    if a == 0 { b } else { a }
+    a.or(b)
 }
