@@ -6,7 +6,6 @@ use Rattle.std.proofs.Common.{ap}
 use borrow.Author.Tests.{lt-ltb, le-ltb, lt-leb, le-leb}
 use Rattle.refusal.specs.declared.Refusal.{Refusal}
 use Rattle.refusal.specs.declared.Refusal.TheVariants as refusal
-use Rattle.refusal.specs.Numbers.{number}
 use Rattle.geometry.specs.declared.Geometry.{Geometry}
 use Rattle.geometry.specs.Blocks.{words, blocks, location, block_of, Sound}
 use Rattle.geometry.specs.Laws as laws
@@ -18,24 +17,21 @@ use Rattle.semantics.specs.Split.{step_refusal, first_refusal}
 -- ---- the lowest of the rows
 
 -- no number is lower than that of the first row
-least : (e : Refusal) → leb 1 (number e) ≡ true
-least refusal.ArrayLength = refl
-least refusal.Malformed = refl
-least refusal.Address = refl
-least refusal.WorkCount = refl
-least refusal.NoBlock = refl
-least refusal.NoStep = refl
-least refusal.NoPart = refl
-least refusal.RecordForm = refl
-least refusal.RecordSum = refl
-least refusal.RecordType = refl
-least refusal.OutsideArray = refl
-least refusal.NoEndRecord = refl
-least refusal.RoomLength = refl
-
 lowest_1 : (o : Option Refusal) → lower refusal.ArrayLength o ≡ refusal.ArrayLength
 lowest_1 None = refl
-lowest_1 (Some e) = rw (least e)
+lowest_1 (Some refusal.ArrayLength) = refl
+lowest_1 (Some refusal.Malformed) = refl
+lowest_1 (Some refusal.Address) = refl
+lowest_1 (Some refusal.WorkCount) = refl
+lowest_1 (Some refusal.NoBlock) = refl
+lowest_1 (Some refusal.NoStep) = refl
+lowest_1 (Some refusal.NoPart) = refl
+lowest_1 (Some refusal.RecordForm) = refl
+lowest_1 (Some refusal.RecordSum) = refl
+lowest_1 (Some refusal.RecordType) = refl
+lowest_1 (Some refusal.OutsideArray) = refl
+lowest_1 (Some refusal.NoEndRecord) = refl
+lowest_1 (Some refusal.RoomLength) = refl
 
 lowest_2 : (t u v : Bool)
     → lower refusal.Malformed (given (row refusal.Address t ∷ row refusal.WorkCount u ∷ row refusal.NoBlock v ∷ [])) ≡ refusal.Malformed

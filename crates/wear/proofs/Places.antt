@@ -2,8 +2,8 @@
 -- of its block and of no other. A row is a bank.
 -- Assumes nothing.
 use Prim.Native.Nat.{ℕ, zero, suc, ◌+◌, ◌*◌, ◌≤◌, ◌<◌, min}
-use Rattle.std.specs.Prelude.{Bool, true, false, cond, ◌&&◌, List, [], ◌≡◌, refl, eqb, ltb, length, get_or, set}
-use Rattle.std.proofs.Common.{sym, ◌∙◌, length-set, get_or-set_same, get_or-set_other, lt-ltb, ltb-true, ltb-false, eq-eqb, ne_eqb, eqb-true}
+use Rattle.std.specs.Prelude.{Bool, true, false, cond, ◌&&◌, List, [], ◌≡◌, refl, eqb, ltb, length, get_or, set, Some, None}
+use Rattle.std.proofs.Common.{sym, ◌∙◌, length-set, get_or-set_same, get_or-set_other, lt-ltb, le-ltb, ltb-true, ltb-false, eq-eqb, ne_eqb, eqb-true}
 use Rattle.std.proofs.Math.Path.{ap}
 use native.Mathlib.Omega.{arith}
 use Rattle.std.proofs.lemmas.Bool.{eqb-false}
@@ -15,7 +15,8 @@ use Rattle.semantics.specs.declared.Running.{Running}
 use Rattle.semantics.specs.declared.Running.TheVariants as running
 use Rattle.semantics.specs.State.{runs}
 use Rattle.wear.specs.Counts.{Counts, lent, row_of, place_in, count_at, count_of, put_at, with_count, one_more, counts_after}
-use Rattle.wear.specs.Places.{Placed, Shaped}
+use Rattle.wear.specs.declared.Place.TheVariants.{Small, Main}
+use Rattle.wear.specs.Places.{Placed, Shaped, StandsAt}
 
 -- ---- rows and places
 
@@ -105,16 +106,40 @@ shape_with k s c x = go (ltb c 4) refl (ltb c 259) refl
     }
     go false e false f = s
 
+-- ---- a count by where it stands, as the code finds it
+
+module _ (k : Counts) (b i : ℕ) (at : StandsAt b (Some (Small i))) where
+  pub count_small : get_or k.small i 0 ≡ count_of k b
+  unfolding count_of
+  count_small = rw (at.0, lt-ltb b 4 at.1)
+
+  pub put_small : (x : ℕ) → lent k.main (set k.small i x) ≡ with_count k b x
+  unfolding with_count
+  put_small x = rw (at.0, lt-ltb b 4 at.1)
+
+module _ (k : Counts) (b r i : ℕ) (at : StandsAt b (Some (Main r i))) where
+  pub count_main : get_or (get_or k.main r []) i 0 ≡ count_of k b
+  unfolding count_of count_at
+  count_main = rw (at.2, at.4, le-ltb b 4 at.0, lt-ltb b 259 at.1)
+
+  pub put_main : (x : ℕ) → lent (set k.main r (set (get_or k.main r []) i x)) k.small ≡ with_count k b x
+  unfolding with_count put_at
+  put_main x = rw (at.2, at.4, le-ltb b 4 at.0, lt-ltb b 259 at.1)
+
+module _ (k : Counts) (b : ℕ) (at : StandsAt b None) where
+  pub count_none : 0 ≡ count_of k b
+  unfolding count_of
+  count_none = rw (le-ltb b 4 (omega (arith, at)), le-ltb b 259 at)
+
+  pub put_none : (x : ℕ) → k ≡ with_count k b x
+  unfolding with_count
+  put_none x = rw (le-ltb b 4 (omega (arith, at)), le-ltb b 259 at)
+
 -- ---- one more, as the code does it
 
-module _ (k : Counts) (b n : ℕ) (is : n ≡ count_of k b) where
-  pub full : 65535 ≤ n → with_count k b 65535 ≡ one_more k b
-  unfolding one_more
-  full h = let e : 65535 ≡ min 65535 (count_of k b + 1) = omega arith in ap (λ (x : ℕ). with_count k b x) e
-
-  pub more : n < 65535 → with_count k b (n + 1) ≡ one_more k b
-  unfolding one_more
-  more h = let e : n + 1 ≡ min 65535 (count_of k b + 1) = omega arith in ap (λ (x : ℕ). with_count k b x) e
+pub more : (k : Counts) (b n m : ℕ) → n ≡ count_of k b → m ≡ min (n + 1) 65535 → with_count k b m ≡ one_more k b
+unfolding one_more
+more k b n m is h = let e : m ≡ min 65535 (count_of k b + 1) = omega (arith, is, h) in rw e
 
 module _ (k : Counts) (r t : Running) (b done : ℕ) (erases : r ≡ running.Erase b done) where
   pub finished : runs t ≡ false → one_more k b ≡ counts_after r t k
@@ -124,3 +149,11 @@ module _ (k : Counts) (r t : Running) (b done : ℕ) (erases : r ≡ running.Era
   pub unfinished : runs t ≡ true → k ≡ counts_after r t k
   unfolding counts_after
   unfinished h = rw (erases, h)
+
+-- what is no erase finishes none
+pub no_erase : (k : Counts) (r t : Running) → ((b done : ℕ) → r ≡ running.Erase b done → ⊥) → k ≡ counts_after r t k
+unfolding counts_after
+no_erase k running.Idle t n = refl
+no_erase k (running.Program l w) t n = refl
+no_erase k (running.Erase b done) t n = absurd (n b done refl)
+no_erase k (running.Buffer l i done) t n = refl

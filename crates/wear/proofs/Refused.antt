@@ -2,11 +2,13 @@
 -- of steps is. Where it is not 0, every step is refused 1 or 2, and the reports 2.
 -- Assumes nothing.
 use Prim.Native.Nat.{ℕ, zero, suc, ◌+◌, ◌≤◌, ◌<◌, min}
-use Rattle.std.specs.Prelude.{Bool, cond, ◌&&◌, List, [], ◌∷◌, ◌⊎◌, ◌≡◌, eqb, ltb, length, get_or, set}
+use Rattle.std.specs.Prelude.{Bool, cond, ◌&&◌, List, [], ◌∷◌, ◌⊎◌, ◌≡◌, eqb, ltb, length, get_or, set, Some, None, Err}
 use Rattle.std.proofs.Math.Bool.{true, false}
 use Rattle.std.proofs.Common.{true≢false, inl, inr, sym, ap, ◌∙◌, subst, arith, get_or-set_other}
 use Rattle.std.proofs.Math.Path.{refl}
 use borrow.Author.Tests.{ltb-true, ltb-false, le-ltb, eq-eqb, ne_eqb}
+use Rattle.refusal.specs.declared.Refusal.{Refusal}
+use Rattle.refusal.specs.declared.Refusal.TheVariants as refusal
 use Rattle.geometry.specs.Blocks.{words}
 use Rattle.geometry.specs.Laws.{order}
 use Rattle.semantics.specs.declared.State.{State}
@@ -16,7 +18,7 @@ use Rattle.semantics.specs.declared.Running.{Running}
 use Rattle.semantics.specs.declared.Running.TheVariants as running
 use Rattle.semantics.specs.declared.Answer.TheVariants.{Refused}
 use Rattle.semantics.specs.State.{geometry, runs}
-use Rattle.semantics.specs.Branches.{of_cond, by_test}
+use Rattle.semantics.specs.Branches.{of_cond, of_option, by_test}
 use Rattle.semantics.specs.WellFormed.{well_formed}
 use Rattle.semantics.specs.Split.{step_refusal, first_refusal}
 use Rattle.semantics.proofs.Split.{reset_refused, refused_first}
@@ -29,17 +31,13 @@ use Rattle.wear.specs.Refused.{is_work, Moved}
 
 -- ---- a step that leaves the array, or the counts, where it is accepted
 
-cond_still : {A : Type 0} (t : Bool) (x y : A) → x ≡ y → cond t x y ≡ y
-cond_still true x y e = e
-cond_still false x y e = refl
-
 pub array_still : (s : State) (k : Counts) (xs : List ℕ) (x : Step) → accepted_array s xs x ≡ xs → array_with s k xs x ≡ xs
 unfolding array_with
-array_still s k xs x e = cond_still (eqb (refusal_with s k (length xs) x) 0) (accepted_array s xs x) xs e
+array_still s k xs x e = of_option (λ (l : List ℕ). l ≡ xs) (refusal_with s k (length xs) x) (λ r. xs) (accepted_array s xs x) e (λ r. refl)
 
 pub counts_still : (s : State) (k : Counts) (xs : List ℕ) (x : Step) → accepted_counts s k x ≡ k → counts_with s k xs x ≡ k
 unfolding counts_with
-counts_still s k xs x e = cond_still (eqb (refusal_with s k (length xs) x) 0) (accepted_counts s k x) k e
+counts_still s k xs x e = of_option (λ (m : Counts). m ≡ k) (refusal_with s k (length xs) x) (λ r. k) (accepted_counts s k x) e (λ r. refl)
 
 pub only_work : (s : State) (k : Counts) (xs : List ℕ) (x : Step) → is_work x ≡ false → counts_with s k xs x ≡ k
 unfolding accepted_counts
@@ -89,11 +87,8 @@ shared_accepted s k Reset = refl
 
 pub shared_kept : (s : State) (k : Counts) (xs : List ℕ) (x : Step) → shared_zero (counts_with s k xs x).main ≡ shared_zero k.main
 unfolding counts_with
-shared_kept s k xs x = go (eqb (refusal_with s k (length xs) x) 0)
-  where
-    go : (t : Bool) → shared_zero (cond t (accepted_counts s k x) k).main ≡ shared_zero k.main
-    go true = shared_accepted s k x
-    go false = refl
+shared_kept s k xs x =
+    of_option (λ (m : Counts). shared_zero m.main ≡ shared_zero k.main) (refusal_with s k (length xs) x) (λ e. k) (accepted_counts s k x) (shared_accepted s k x) (λ e. refl)
 
 pub shared_all : (c : Counted) (l : List Step) → shared_zero (after_all_with c l).counts.main ≡ shared_zero c.counts.main
 shared_all c [] = refl
@@ -107,7 +102,7 @@ fresh_shared = refl
 
 module _ (s : State) (k : Counts) (n : ℕ) where
   -- what every step is refused for
-  pub reset_with : refusal_with s k n Reset ≡ cond (eqb n (words (geometry s))) (cond (formed_with s k) 0 2) 1
+  pub reset_with : refusal_with s k n Reset ≡ cond (eqb n (words (geometry s))) (cond (formed_with s k) None (Some refusal.Malformed)) (Some refusal.ArrayLength)
   unfolding refusal_with
   reset_with = reset_refused (geometry s) (formed_with s k) n
 
@@ -116,8 +111,7 @@ module _ (s : State) (k : Counts) (n : ℕ) where
   unfolding refusal_with
   refusal_first x = refused_first (geometry s) (formed_with s k) n x
 
-  pub length_refused : (n ≡ words (geometry s) → ⊥) → (x : Step) → refusal_with s k n x ≡ 1
-  unfolding first_refusal
+  pub length_refused : (n ≡ words (geometry s) → ⊥) → (x : Step) → refusal_with s k n x ≡ Some refusal.ArrayLength
   length_refused h x = rw (refusal_first x, reset_with, ne_eqb n (words (geometry s)) h)
 
 -- ---- where it is not 0
@@ -132,22 +126,22 @@ module _ (s : State) (k : Counts) (bad : shared_zero k.main ≡ false) where
       go false = refl
 
   -- every step is refused, 1 for the array's length or else 2, and gives the state back (the array and the counts: `refused_nothing`)
-  pub bad_refused : (xs : List ℕ) (x : Step) → step_with s k xs x ≡ next s (Refused (cond (eqb (length xs) (words (geometry s))) 2 1))
-  unfolding step_with first_refusal
+  pub bad_refused : (xs : List ℕ) (x : Step) → step_with s k xs x ≡ next s (Refused (cond (eqb (length xs) (words (geometry s))) refusal.Malformed refusal.ArrayLength))
+  unfolding step_with
   bad_refused xs x =
       let f = refusal_first s k (length xs) x in
       let r = reset_with s k (length xs) in
       by_test (eqb (length xs) (words (geometry s))) (λ e. rw (f, r, formed_bad, e)) (λ e. rw (f, r, formed_bad, e))
 
-  pub bad_reported : reported_with s k ≡ record { refusal = 2; count = 0; lowest = 0 }
+  pub bad_reported : reported_with s k ≡ Err refusal.Malformed
   unfolding reported_with
   bad_reported = rw formed_bad
 
-  pub bad_most_worn : most_worn_with s k ≡ record { refusal = 2; block = 0; count = 0 }
+  pub bad_most_worn : most_worn_with s k ≡ Err refusal.Malformed
   unfolding most_worn_with
   bad_most_worn = rw formed_bad
 
-  pub bad_worn : (b : ℕ) → erase_count_with s k b ≡ record { refusal = 2; block = 0; count = 0 }
+  pub bad_worn : (b : ℕ) → erase_count_with s k b ≡ Err refusal.Malformed
   unfolding erase_count_with
   bad_worn b = rw formed_bad
 
@@ -204,10 +198,10 @@ answers_alone c (x ∷ l) z =
 -- ---- a step that is refused, and one that is not
 
 -- "A refusal gives its number beside the answer 0, gives back the state it got and leaves all lent memory": the array and the counts
-pub refused_nothing : (s : State) (k : Counts) (xs : List ℕ) (x : Step) → eqb (refusal_with s k (length xs) x) 0 ≡ false
-    → (step_with s k xs x ≡ next s (Refused (refusal_with s k (length xs) x))) × (array_with s k xs x ≡ xs) × (counts_with s k xs x ≡ k)
+pub refused_nothing : (s : State) (k : Counts) (xs : List ℕ) (x : Step) (e : Refusal) → refusal_with s k (length xs) x ≡ Some e
+    → (step_with s k xs x ≡ next s (Refused e)) × (array_with s k xs x ≡ xs) × (counts_with s k xs x ≡ k)
 unfolding step_with array_with counts_with
-refused_nothing s k xs x h = (rw h, rw h, rw h)
+refused_nothing s k xs x e h = (rw h, rw h, rw h)
 
 moved_not : (k : Counts) → Moved k k
 moved_not k = record { block = 0; others = λ b h n. refl; below = omega arith; above = λ h. omega arith }
@@ -225,7 +219,7 @@ moved_by k s c (inr h) = subst (λ (m : Counts). Moved k m) (sym (no_block k c _
 
 pub one_count : (s : State) (k : Counts) → Shaped k → (xs : List ℕ) (x : Step) → Moved k (counts_with s k xs x)
 unfolding counts_with accepted_counts counts_after
-one_count s k f xs x = of_cond (Moved k) (eqb (refusal_with s k (length xs) x) 0) (accepted_counts s k x) k (go x) (moved_not k)
+one_count s k f xs x = of_option (Moved k) (refusal_with s k (length xs) x) (λ e. k) (accepted_counts s k x) (go x) (λ e. moved_not k)
   where
     work : (r t : Running) → Moved k (counts_after r t k)
     work running.Idle t = moved_not k

@@ -1,7 +1,7 @@
 -- The counts' theorem: after any list of the five steps from power-up, refused ones included, the count of every block is the lesser of 65,535 and the number of its finished erases
 -- in the journal, which is drawn up from the steps alone. It stands on the invariant of demand 3 (semantics, Invariant): the journal's running entry is what the device runs.
 -- Assumes nothing.
-use Rattle.std.specs.Prelude.{◌≡◌, List, [], ◌∷◌, map, Bool, true, false, cond, ◌&&◌, ◌⊎◌, ltb, eqb, length, get_or, replicate}
+use Rattle.std.specs.Prelude.{◌≡◌, List, [], ◌∷◌, map, Bool, true, false, cond, ◌&&◌, ◌⊎◌, ltb, eqb, length, get_or, replicate, None}
 use Rattle.std.proofs.Math.Path.{refl}
 use Rattle.std.proofs.Common.{sym, ap, ◌∙◌, subst, true≢false, inl, inr, arith, lt-ltb, le-leb, ltb-true, ltb-false, eq-eqb, ne_eqb, eqb-true}
 use Prim.Native.Nat.{ℕ, suc, ◌+◌, ◌-◌, ◌≤◌, ◌<◌, min}
@@ -20,7 +20,6 @@ use Rattle.semantics.specs.declared.Step.{Step}
 use Rattle.semantics.specs.declared.Step.TheVariants.{Read, Write, Work, Supply, Reset}
 use Rattle.semantics.specs.State.{geometry, runs}
 use Rattle.semantics.specs.Working.{units_left, units_done, running_after}
-use Rattle.semantics.specs.Split.{first_refusal}
 use Rattle.semantics.proofs.Split.{count_good, count_bad}
 use Rattle.semantics.specs.Steps.{Machine}
 use Rattle.semantics.specs.Entries as entries
@@ -154,14 +153,14 @@ module _ (g : Geometry) (sound : Sound g) (limit : blocks g ≡ 259) where
 -- ---- a step
 
 -- a work step by its count: refused, and the counts stay; or not
-module _ (s : State) (k : Counts) (xs : List ℕ) (n : ℕ) (good : refusal_with s k (length xs) Reset ≡ 0) where
+module _ (s : State) (k : Counts) (xs : List ℕ) (n : ℕ) (good : refusal_with s k (length xs) Reset ≡ None) where
   worked_refused : 65535 < n → counts_with s k xs (Work n) ≡ k
-  unfolding counts_with first_refusal
+  unfolding counts_with
   worked_refused h = rw (refusal_first s k (length xs) (Work n), good, count_bad (geometry s) n h)
 
   worked_counted : n ≤ 65535
       → counts_with s k xs (Work n) ≡ counts_after s.control.activity.running (running_after (geometry s) s.control.activity.running (units_done (geometry s) s.control.activity.running n)) k
-  unfolding counts_with first_refusal accepted_counts
+  unfolding counts_with accepted_counts
   worked_counted h = rw (refusal_first s k (length xs) (Work n), good, count_good (geometry s) n h)
 
 -- one step, of a device that agrees with the recorder: the part is the device's own
@@ -181,7 +180,7 @@ right_own xs₀ m c k x a z r = subst (λ (v : Event). Right (counts_with m.stat
         ap (λ (d : Conditions). event (geometry m.state) x (record { conditions = d; journal = c.journal })) (sym a.same)
         ∙ rules_agree (geometry m.state) x (conditions m.state) (under_way m.state) c.journal a.sim
 
-    good : refusal_with m.state k (length m.array) Reset ≡ 0
+    good : refusal_with m.state k (length m.array) Reset ≡ None
     good = refusal_alone m.state k z (length m.array) Reset ∙ state_good m.state (length m.array) a.size (agree_formed m.state.part xs₀ m c a)
 
     -- a step that is no work leaves the counts

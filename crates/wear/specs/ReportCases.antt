@@ -1,17 +1,19 @@
 -- Cases of the reports, of refused steps whole, and of the full parts: document 02, item 6. The checker computes them: a rule that is written down wrong makes a case fail.
 -- Assumes nothing.
-use Rattle.std.specs.Prelude.{ℕ, ◌<◌, true, false, List, [], ◌∷◌, ◌++◌, map, ◌≡◌, refl, replicate}
+use Rattle.std.specs.Prelude.{ℕ, ◌<◌, true, false, List, [], ◌∷◌, ◌++◌, map, ◌≡◌, refl, replicate, Result, Ok, Err}
 use Rattle.std.proofs.Common.{arith}
+use Rattle.refusal.specs.declared.Refusal.{Refusal}
+use Rattle.refusal.specs.declared.Refusal.TheVariants as refusal
 use Rattle.geometry.specs.declared.Part.{Part}
 use Rattle.geometry.specs.declared.Part.TheVariants.{FullBottom, FullTop, BenchBottom, BenchTop}
 use Rattle.geometry.specs.Blocks.{geometry_of, blocks, mirror, block_from, block_of, bank_of, size_of, start_from, start_of}
+use Rattle.protection.specs.declared.Report.{Report}
 use Rattle.protection.specs.Words.{bit, bit_at, is_unprotected, with_unprotected, spare_zero, all_protected, count, least, unprotected_count, lowest_unprotected, report_of}
 use Rattle.semantics.specs.declared.Step.{Step}
 use Rattle.semantics.specs.declared.Step.TheVariants.{Read, Write, Work, Supply, Reset}
 use Rattle.semantics.specs.declared.Answer.{Answer}
 use Rattle.semantics.specs.declared.Answer.TheVariants.{Refused}
 use Rattle.semantics.specs.declared.State.{State}
-use Rattle.semantics.specs.declared.Reported.{Reported}
 use Rattle.semantics.specs.State.{empty_buffer, power_up}
 use Rattle.semantics.specs.Register.{without_reserved, reserved_zero}
 use Rattle.semantics.specs.Supply.{end_flags, ended, ended_if_unsupplied, switched}
@@ -69,11 +71,18 @@ mosts_hold = (refl, refl)
 
 -- ---- the reports
 
-abbrev worn : ℕ → ℕ → ℕ → Worn
-worn r b n = record { refusal = r; block = b; count = n }
+abbrev worn : ℕ → ℕ → Result Worn Refusal
+worn b n = Ok (record { block = b; count = n })
 
-abbrev reported : ℕ → ℕ → ℕ → Reported
-reported r n b = record { refusal = r; count = n; lowest = b }
+abbrev reported : ℕ → ℕ → Result Report Refusal
+reported n b = Ok (record { count = n; lowest = b })
+
+-- the three reports are refused for what the state is
+abbrev not_worn : Result Worn Refusal
+not_worn = Err refusal.Malformed
+
+abbrev not_reported : Result Report Refusal
+not_reported = Err refusal.Malformed
 
 -- an erase of block 4 with its last word left, blocks 1 and 258 unprotected
 abbrev two_unprotected : State
@@ -89,24 +98,24 @@ refusals =
     by unsupplied none ∷ by unsupplied (four 3) ∷ by two_unprotected (at 0 0 1) ∷ by (power_up BenchBottom) (at 0 0 65535) ∷ by (power_up FullTop) spread ∷ by (waiting FullBottom 4 63) spread ∷ by unsupplied (at 0 0 1)
     ∷ by (erasing BenchBottom 4 64) none ∷ by (erasing FullBottom 259 0) none ∷ []
 
-abbrev open_of : Told → Reported
+abbrev open_of : Told → Result Report Refusal
 open_of (by s k) = reported_with s k
 
-abbrev most_of : Told → Worn
+abbrev most_of : Told → Result Worn Refusal
 most_of (by s k) = most_worn_with s k
 
-abbrev counted_of : ℕ → Told → Worn
+abbrev counted_of : ℕ → Told → Result Worn Refusal
 counted_of b (by s k) = erase_count_with s k b
 
--- "A refusal gives its number beside the answer 0": the three reports, of a state that is not well formed and "also when the shared place is not 0"
-pub reports_refused : (map open_of refusals ≡ replicate 9 (reported 2 0 0)) × (map most_of refusals ≡ replicate 9 (worn 2 0 0)) × (map (counted_of 4) refusals ≡ replicate 9 (worn 2 0 0))
+-- the three reports are refused, of a state that is not well formed and "also when the shared place is not 0"
+pub reports_refused : (map open_of refusals ≡ replicate 9 not_reported) × (map most_of refusals ≡ replicate 9 not_worn) × (map (counted_of 4) refusals ≡ replicate 9 not_worn)
 unfolding mirror block_from block_of size_of start_from start_of bit spare_zero all_protected empty_buffer power_up running_alone program_alone erase_alone erase_fits words_fit buffer_fits setup_fits running_fits program_fits suspended_erase_fits all_fit running_apart program_apart apart activity_formed setup_places running_places program_places places_used zero_from reserved_zero runs_supplied well_formed count_at shared_zero no_counts formed_with reported_with most_worn_with erase_count_with
 reports_refused = (refl, refl, refl)
 
 -- else they report: the unprotected blocks and the lowest of them, 259 if none; the most worn block with its count; the count of the block that is asked for
-pub reports_hold : (map open_of (by two_unprotected none ∷ by two_unprotected (four 9) ∷ by (power_up FullTop) (smalls 1 1 1 1) ∷ by (waiting BenchTop 4 63) (at 1 0 1) ∷ []) ≡ reported 0 2 1 ∷ reported 0 2 1 ∷ reported 0 0 259 ∷ reported 0 0 259 ∷ [])
+pub reports_hold : (map open_of (by two_unprotected none ∷ by two_unprotected (four 9) ∷ by (power_up FullTop) (smalls 1 1 1 1) ∷ by (waiting BenchTop 4 63) (at 1 0 1) ∷ []) ≡ reported 2 1 ∷ reported 2 1 ∷ reported 0 259 ∷ reported 0 259 ∷ [])
     × (map most_of (by two_unprotected (four 9) ∷ by (power_up FullTop) (smalls 1 1 1 1) ∷ [])
-    ≡ worn 0 4 9 ∷ worn 0 0 1 ∷ [])
+    ≡ worn 4 9 ∷ worn 0 1 ∷ [])
 unfolding mirror block_from block_of size_of start_from start_of bit bit_at spare_zero all_protected count least unprotected_count lowest_unprotected report_of empty_buffer power_up running_alone program_alone erase_alone erase_fits words_fit buffer_fits setup_fits running_fits program_fits suspended_erase_fits all_fit running_apart program_apart apart activity_formed setup_places running_places program_places places_used zero_from reserved_zero runs_supplied well_formed count_at shared_zero no_counts formed_with reported_with most_worn_with row_of place_in count_of greatest most_worn
 reports_hold = (refl, refl)
 
@@ -114,39 +123,39 @@ reports_hold = (refl, refl)
 abbrev spread_zero : Counts
 spread_zero = lent ((0 ∷ up 15 1004) ∷ rows 15 1019) (up 4 1000)
 
-pub asked_hold : map (erase_count_with two_unprotected spread_zero) (0 ∷ 3 ∷ 4 ∷ 18 ∷ 19 ∷ 258 ∷ 259 ∷ 1000 ∷ []) ≡ worn 0 0 1000 ∷ worn 0 3 1003 ∷ worn 0 4 1004 ∷ worn 0 18 1018 ∷ worn 0 19 1019 ∷ worn 0 258 1258 ∷ worn 0 259 0 ∷ worn 0 1000 0 ∷ []
+pub asked_hold : map (erase_count_with two_unprotected spread_zero) (0 ∷ 3 ∷ 4 ∷ 18 ∷ 19 ∷ 258 ∷ 259 ∷ 1000 ∷ []) ≡ worn 0 1000 ∷ worn 3 1003 ∷ worn 4 1004 ∷ worn 18 1018 ∷ worn 19 1019 ∷ worn 258 1258 ∷ worn 259 0 ∷ worn 1000 0 ∷ []
 unfolding mirror block_from block_of size_of start_from start_of bit spare_zero all_protected empty_buffer power_up running_alone program_alone erase_alone erase_fits words_fit buffer_fits setup_fits running_fits program_fits suspended_erase_fits all_fit running_apart program_apart apart activity_formed setup_places running_places program_places places_used zero_from reserved_zero runs_supplied well_formed row_of place_in count_at count_of shared_zero formed_with erase_count_with
 asked_hold = refl
 
 -- ---- "A refusal gives its number beside the answer 0, gives back the state it got and leaves all lent memory": the state, the array and the counts after each kind of step
 
-pub data Refusal : Type 0 where
-  refused : ℕ → Counted → Step → Refusal
+pub data RefusedStep : Type 0 where
+  refused : Refusal → Counted → Step → RefusedStep
 
-abbrev pub answer_of : Refusal → Answer
+abbrev pub answer_of : RefusedStep → Answer
 answer_of (refused r c x) = answer_with c x
 
-abbrev pub left_of : Refusal → Counted
+abbrev pub left_of : RefusedStep → Counted
 left_of (refused r c x) = after_with c x
 
-abbrev pub number_of : Refusal → Answer
-number_of (refused r c x) = Refused r
+abbrev pub refusal_of : RefusedStep → Answer
+refusal_of (refused r c x) = Refused r
 
-abbrev pub given_of : Refusal → Counted
+abbrev pub given_of : RefusedStep → Counted
 given_of (refused r c x) = c
 
 -- each of the five kinds of step, those of one word or more on an erase that has one word left
-abbrev each : ℕ → Counted → List Refusal
+abbrev each : Refusal → Counted → List RefusedStep
 each r c = refused r c (Read 0) ∷ refused r c (Write 0 0xB0) ∷ refused r c (Work 1) ∷ refused r c (Work 65536) ∷ refused r c (Supply false) ∷ refused r c Reset ∷ refused r c (Write 0x1000000 0xB0) ∷ []
 
-abbrev pub refusals_whole : List Refusal
+abbrev pub refusals_whole : List RefusedStep
 refusals_whole =
-    each 2 (beside two_unprotected (replicate 16384 0x1234) (at 0 0 1)) ++ each 2 (beside unsupplied (replicate 16384 0x1234) spread_zero) ++ each 1 (beside two_unprotected (7 ∷ 8 ∷ 9 ∷ []) (at 0 0 1))
-    ++ each 1 (beside two_unprotected (replicate 16385 0x1234) spread_zero) ++ each 1 (beside two_unprotected [] (four 1))
-    ++ refused 4 (beside two_unprotected (replicate 16384 0x1234) spread_zero) (Work 65536) ∷ refused 3 (beside two_unprotected (replicate 16384 0x1234) spread_zero) (Read 0x1000000)
-    ∷ refused 3 (beside two_unprotected (replicate 16384 0x1234) spread_zero) (Write 0x1000000 0xB0) ∷ []
+    each refusal.Malformed (beside two_unprotected (replicate 16384 0x1234) (at 0 0 1)) ++ each refusal.Malformed (beside unsupplied (replicate 16384 0x1234) spread_zero) ++ each refusal.ArrayLength (beside two_unprotected (7 ∷ 8 ∷ 9 ∷ []) (at 0 0 1))
+    ++ each refusal.ArrayLength (beside two_unprotected (replicate 16385 0x1234) spread_zero) ++ each refusal.ArrayLength (beside two_unprotected [] (four 1))
+    ++ refused refusal.WorkCount (beside two_unprotected (replicate 16384 0x1234) spread_zero) (Work 65536) ∷ refused refusal.Address (beside two_unprotected (replicate 16384 0x1234) spread_zero) (Read 0x1000000)
+    ∷ refused refusal.Address (beside two_unprotected (replicate 16384 0x1234) spread_zero) (Write 0x1000000 0xB0) ∷ []
 
-pub refusals_hold : (map answer_of refusals_whole ≡ map number_of refusals_whole) × (map left_of refusals_whole ≡ map given_of refusals_whole)
+pub refusals_hold : (map answer_of refusals_whole ≡ map refusal_of refusals_whole) × (map left_of refusals_whole ≡ map given_of refusals_whole)
 unfolding mirror block_from block_of size_of start_from start_of bit spare_zero all_protected empty_buffer power_up running_alone program_alone erase_alone erase_fits words_fit buffer_fits setup_fits running_fits program_fits suspended_erase_fits all_fit running_apart program_apart apart activity_formed setup_places running_places program_places places_used zero_from reserved_zero runs_supplied well_formed given card count_at shared_zero formed_with refusal_with step_with array_with counts_with
 refusals_hold = (refl, refl)
 

@@ -1,8 +1,12 @@
 -- The five steps of a device with its counts beside it, a list of them, and the reports: document 02, item 6. What the step makes of the device is the definition of
 -- semantics; the counts add one refusal, and count the erases that finish.
 -- Assumes nothing.
-use Rattle.std.specs.Prelude.{ℕ, Bool, cond, ◌&&◌, List, [], ◌∷◌, eqb, length}
+use Rattle.std.specs.Prelude.{ℕ, Bool, cond, ◌&&◌, List, [], ◌∷◌, length, Option, Result, Ok, Err}
+use Rattle.std.specs.Option.{option_map_or}
+use Rattle.refusal.specs.declared.Refusal.{Refusal}
+use Rattle.refusal.specs.declared.Refusal.TheVariants as refusal
 use Rattle.geometry.specs.declared.Part.{Part}
+use Rattle.protection.specs.declared.Report.{Report}
 use Rattle.protection.specs.Words.{report_of}
 use Rattle.semantics.specs.declared.State.{State}
 use Rattle.semantics.specs.declared.Step.{Step}
@@ -10,7 +14,6 @@ use Rattle.semantics.specs.declared.Step.TheVariants.{Read, Write, Work, Supply,
 use Rattle.semantics.specs.declared.Answer.{Answer}
 use Rattle.semantics.specs.declared.Answer.TheVariants.{Refused}
 use Rattle.semantics.specs.declared.Next.{Next}
-use Rattle.semantics.specs.declared.Reported.{Reported}
 use Rattle.semantics.specs.State.{geometry}
 use Rattle.semantics.specs.WellFormed.{well_formed}
 use Rattle.semantics.specs.Working.{units_done, running_after}
@@ -25,8 +28,8 @@ use Rattle.wear.specs.Counts.{Counts, count_of, shared_zero, no_counts, counts_a
 unfoldable pub formed_with : State → Counts → Bool
 formed_with s k = well_formed s && shared_zero k.main
 
--- the refusal of a step on an array of n words, 0 where there is none: the card's
-unfoldable pub refusal_with : State → Counts → ℕ → Step → ℕ
+-- what a step on an array of n words is refused for, if anything: the card's
+unfoldable pub refusal_with : State → Counts → ℕ → Step → Option Refusal
 refusal_with s k n x = given (card (geometry s) (formed_with s k) n x)
 
 -- ---- a step
@@ -42,13 +45,13 @@ accepted_counts s k Reset = k
 
 -- a refusal "gives back the state it got and leaves all lent memory", the counts among it
 unfoldable pub step_with : State → Counts → List ℕ → Step → Next
-step_with s k xs x = cond (eqb (refusal_with s k (length xs) x) 0) (accepted s xs x) (next s (Refused (refusal_with s k (length xs) x)))
+step_with s k xs x = option_map_or (λ e. next s (Refused e)) (refusal_with s k (length xs) x) (accepted s xs x)
 
 unfoldable pub array_with : State → Counts → List ℕ → Step → List ℕ
-array_with s k xs x = cond (eqb (refusal_with s k (length xs) x) 0) (accepted_array s xs x) xs
+array_with s k xs x = option_map_or (λ e. xs) (refusal_with s k (length xs) x) (accepted_array s xs x)
 
 unfoldable pub counts_with : State → Counts → List ℕ → Step → Counts
-counts_with s k xs x = cond (eqb (refusal_with s k (length xs) x) 0) (accepted_counts s k x) k
+counts_with s k xs x = option_map_or (λ e. k) (refusal_with s k (length xs) x) (accepted_counts s k x)
 
 -- ---- a list of steps
 
@@ -80,16 +83,16 @@ answers_with c (x ∷ l) = answer_with c x ∷ answers_with (after_with c x) l
 abbrev pub fresh_with : Part → List ℕ → Counted
 fresh_with p xs = record { machine = fresh p xs; counts = no_counts }
 
--- ---- the reports: "A refusal gives its number beside the answer 0"
+-- ---- the reports, or a refusal in place of each
 
 -- the report of unprotected blocks
-unfoldable pub reported_with : State → Counts → Reported
-reported_with s k = cond (formed_with s k) (record { refusal = 0; count = (report_of s.unprotected).count; lowest = (report_of s.unprotected).lowest }) (record { refusal = 2; count = 0; lowest = 0 })
+unfoldable pub reported_with : State → Counts → Result Report Refusal
+reported_with s k = cond (formed_with s k) (Ok (report_of s.unprotected)) (Err refusal.Malformed)
 
 -- "It reports the most worn block, the lowest number on a tie", with its count
-unfoldable pub most_worn_with : State → Counts → Worn
-most_worn_with s k = cond (formed_with s k) (record { refusal = 0; block = most_worn k; count = count_of k (most_worn k) }) (record { refusal = 2; block = 0; count = 0 })
+unfoldable pub most_worn_with : State → Counts → Result Worn Refusal
+most_worn_with s k = cond (formed_with s k) (Ok (record { block = most_worn k; count = count_of k (most_worn k) })) (Err refusal.Malformed)
 
 -- the count of a block that is asked for by its number
-unfoldable pub erase_count_with : State → Counts → ℕ → Worn
-erase_count_with s k b = cond (formed_with s k) (record { refusal = 0; block = b; count = count_of k b }) (record { refusal = 2; block = 0; count = 0 })
+unfoldable pub erase_count_with : State → Counts → ℕ → Result Worn Refusal
+erase_count_with s k b = cond (formed_with s k) (Ok (record { block = b; count = count_of k b })) (Err refusal.Malformed)

@@ -3,6 +3,8 @@
 -- Bench bottom: block 0 has the locations 0 to F, block 1 10 to 1F, block 4 40 to 7F, block 5 80 to BF, all in bank 0, block 19 400 to 43F, in bank 1, and block 258 3FC0 to 3FFF.
 -- Assumes nothing.
 use Rattle.std.specs.Prelude.{ℕ, true, false, List, [], ◌∷◌, ◌++◌, map, ◌≡◌, refl, replicate}
+use Rattle.refusal.specs.declared.Refusal.{Refusal}
+use Rattle.refusal.specs.declared.Refusal.TheVariants as refusal
 use Rattle.geometry.specs.declared.Part.{Part}
 use Rattle.geometry.specs.declared.Part.TheVariants.{FullTop, BenchBottom, BenchTop}
 use Rattle.geometry.specs.Blocks.{mirror, block_from, block_of, bank_of, size_of, start_from, start_of, bank_start, block_offset, bank_offset, bank_of_block, lookup_of}
@@ -172,7 +174,7 @@ abbrev pub unprotected : State → State
 unprotected s = with_protection s (2 ∷ 0 ∷ 0 ∷ 0 ∷ 4 ∷ [])
 
 -- one of each kind of step that n words or the counts are refused for, with numbers that are right and numbers that are not; the counts stand after each
-abbrev each : ℕ → Counts → List Exchange
+abbrev each : Refusal → Counts → List Exchange
 each r k =
     (Read 0 ⟶ Refused r) ∷ counts k ∷ (Write 0 0xFF ⟶ Refused r) ∷ counts k ∷ (Work 1 ⟶ Refused r) ∷ counts k ∷ (Work 65535 ⟶ Refused r) ∷ counts k ∷ (Supply true ⟶ Refused r) ∷ counts k
     ∷ (Supply false ⟶ Refused r) ∷ counts k ∷ (Reset ⟶ Refused r) ∷ counts k ∷ (Read 0x1000000 ⟶ Refused r) ∷ (Write 0x1000000 0xFF ⟶ Refused r) ∷ (Work 65536 ⟶ Refused r) ∷ counts k ∷ []
@@ -232,23 +234,23 @@ wear_cases =
     ∷ starts (erasing BenchBottom 2 15) (smalls 0 0 65534 0) 16384 (works 65535 1 ++ stand (smalls 0 0 65535 0) ++ on ++ unprotect 0x20 ++ erase 0x20 ++ works 65535 16 ++ stand (smalls 0 0 65535 0))
     -- "A refusal .. gives back the state it got and leaves all lent memory": an erase with its last word left is as it was after a count above 65,535 and an address past the limit
     ∷ starts (erasing BenchBottom 4 63) none 16384
-    ((Work 65536 ⟶ Refused 4) ∷ stand none ++ (Read 0x1000000 ⟶ Refused 3) ∷ (Write 0x1000000 0xB0 ⟶ Refused 3) ∷ stand none ++ (Work 99999 ⟶ Refused 4) ∷ works 0 0 ++ stand none ++ works 65535 1 ++ stand (four 1)
-    ++ (Work 65536 ⟶ Refused 4) ∷ stand (four 1))
+    ((Work 65536 ⟶ Refused refusal.WorkCount) ∷ stand none ++ (Read 0x1000000 ⟶ Refused refusal.Address) ∷ (Write 0x1000000 0xB0 ⟶ Refused refusal.Address) ∷ stand none ++ (Work 99999 ⟶ Refused refusal.WorkCount) ∷ works 0 0 ++ stand none ++ works 65535 1 ++ stand (four 1)
+    ++ (Work 65536 ⟶ Refused refusal.WorkCount) ∷ stand (four 1))
     -- a state that is not well formed: 2; an array of another length: 1, first
-    ∷ starts unsupplied none 16384 (each 2 none)
-    ∷ starts unsupplied (four 3) 16384 (each 2 (four 3))
-    ∷ starts (erasing BenchBottom 4 63) (four 3) 16383 (each 1 (four 3))
-    ∷ starts (erasing BenchBottom 4 63) (four 3) 0 (each 1 (four 3))
-    ∷ starts unsupplied (four 3) 16385 (each 1 (four 3))
-    ∷ starts (erasing FullTop 4 65535) (four 3) 16384 (each 1 (four 3))
+    ∷ starts unsupplied none 16384 (each refusal.Malformed none)
+    ∷ starts unsupplied (four 3) 16384 (each refusal.Malformed (four 3))
+    ∷ starts (erasing BenchBottom 4 63) (four 3) 16383 (each refusal.ArrayLength (four 3))
+    ∷ starts (erasing BenchBottom 4 63) (four 3) 0 (each refusal.ArrayLength (four 3))
+    ∷ starts unsupplied (four 3) 16385 (each refusal.ArrayLength (four 3))
+    ∷ starts (erasing FullTop 4 65535) (four 3) 16384 (each refusal.ArrayLength (four 3))
     -- "also when the shared place is not 0": 2, whatever the state; 1 first
-    ∷ starts (erasing BenchBottom 4 63) (at 0 0 1) 16384 (each 2 (at 0 0 1))
-    ∷ starts (power_up BenchTop) (at 0 0 65535) 16384 (each 2 (at 0 0 65535))
-    ∷ starts (power_up BenchBottom) (at 0 0 256) 16384 (each 2 (at 0 0 256))
-    ∷ starts (waiting BenchBottom 4 63) spread 16384 (each 2 spread)
-    ∷ starts unsupplied (at 0 0 1) 16384 (each 2 (at 0 0 1))
-    ∷ starts (erasing BenchBottom 4 63) (at 0 0 1) 16385 (each 1 (at 0 0 1))
-    ∷ starts unsupplied (at 0 0 1) 3 (each 1 (at 0 0 1))
+    ∷ starts (erasing BenchBottom 4 63) (at 0 0 1) 16384 (each refusal.Malformed (at 0 0 1))
+    ∷ starts (power_up BenchTop) (at 0 0 65535) 16384 (each refusal.Malformed (at 0 0 65535))
+    ∷ starts (power_up BenchBottom) (at 0 0 256) 16384 (each refusal.Malformed (at 0 0 256))
+    ∷ starts (waiting BenchBottom 4 63) spread 16384 (each refusal.Malformed spread)
+    ∷ starts unsupplied (at 0 0 1) 16384 (each refusal.Malformed (at 0 0 1))
+    ∷ starts (erasing BenchBottom 4 63) (at 0 0 1) 16385 (each refusal.ArrayLength (at 0 0 1))
+    ∷ starts unsupplied (at 0 0 1) 3 (each refusal.ArrayLength (at 0 0 1))
     -- no other place is looked at for it
     ∷ starts (erasing BenchBottom 4 63) (at 0 1 1) 16384 (works 1 1 ++ stand (at 0 1 2))
     ∷ starts (erasing BenchBottom 4 63) (at 1 0 7) 16384 (works 1 1 ++ stand (lent ((0 ∷ 1 ∷ replicate 14 0) ∷ (7 ∷ replicate 15 0) ∷ replicate 14 (replicate 16 0)) (replicate 4 0)))

@@ -4,31 +4,48 @@
 
 ghost use Rattle.std.specs.Prelude.{◌≡◌};
 ghost use Rattle.wear.specs.Counts.{lent, count_of, shared_zero, no_counts, with_count, one_more, counts_after, most_worn};
+ghost use Rattle.wear.specs.Places.{StandsAt};
 
 use semantics::Running;
 
-// A refusal's number or 0, a block, and its count; block and count are 0 beside a refusal.
+// A block, and its count.
 #[derive(Clone, Copy)]
 pub struct Worn {
-    pub refusal: u32,
     pub block: u32,
     pub count: u32,
 }
 
 // ---- a count
 
+// Where the count of a block stands: of a small block, or at a place of a row.
+enum Place {
+    Small(usize),
+    Main(usize, usize),
+}
+
+// None of a number that is no block.
+fn place_of(block: u32) -> Option<Place>
+    ensures { StandsAt block result }
+{
+    match block {
+        0..=3 => Some(Place::Small(block as usize)),
+        4..=258 => {
+            let at = (block - 3) as usize;
+            Some(Place::Main(at / 16, at % 16))
+        }
+        _ => None,
+    }
+}
+
 // The count of a block, 0 of a number that is no block.
 pub fn count_of(main: &[[u16; 16]; 16], small: &[u16; 4], block: u32) -> u16
     ensures { result ≡ count_of (lent main.now small.now) block }
 {
-    if block < 4 {
-        return small[block as usize];
+    match place_of(block) {
+        Some(Place::Small(i)) => small[i],
+        Some(Place::Main(row, i)) => main[row][i],
+        None => 0,
     }
-    if block < 259 {
-        let at = block - 3;
-        return main[(at / 16) as usize][(at % 16) as usize];
-    }
-    0
 }
 
 // Whether the place that the small blocks would share is 0.
@@ -44,13 +61,10 @@ pub fn shared_zero(main: &[[u16; 16]; 16]) -> bool
 fn put_count(main: &mut [[u16; 16]; 16], small: &mut [u16; 4], block: u32, x: u16)
     ensures { lent main.new small.new ≡ with_count (lent main.old small.old) block x }
 {
-    if block < 4 {
-        small[block as usize] = x;
-        return;
-    }
-    if block < 259 {
-        let at = block - 3;
-        main[(at / 16) as usize][(at % 16) as usize] = x;
+    match place_of(block) {
+        Some(Place::Small(i)) => small[i] = x,
+        Some(Place::Main(row, i)) => main[row][i] = x,
+        None => {}
     }
 }
 
@@ -59,27 +73,17 @@ pub fn add_one(main: &mut [[u16; 16]; 16], small: &mut [u16; 4], block: u32)
     ensures { lent main.new small.new ≡ one_more (lent main.old small.old) block }
 {
     let n = count_of(main, small, block);
-    if n < 65535 {
-        put_count(main, small, block, n + 1);
-        return;
-    }
-    put_count(main, small, block, 65535);
+    put_count(main, small, block, n.saturating_add(1));
 }
 
 // Counts the erase that work has finished: `was` ran before it, and `left` runs after it.
 pub fn count_finished(main: &mut [[u16; 16]; 16], small: &mut [u16; 4], was: Running, left: Running)
     ensures { lent main.new small.new ≡ counts_after was left (lent main.old small.old) }
 {
-    match was {
-        Running::Idle => {}
-        Running::Program { .. } => {}
-        Running::Erase { block, .. } => {
-            if operation::runs(left) {
-                return;
-            }
+    if let Running::Erase { block, .. } = was {
+        if !operation::runs(left) {
             add_one(main, small, block);
         }
-        Running::Buffer { .. } => {}
     }
 }
 
@@ -87,8 +91,8 @@ pub fn count_finished(main: &mut [[u16; 16]; 16], small: &mut [u16; 4], was: Run
 pub fn clear(main: &mut [[u16; 16]; 16], small: &mut [u16; 4])
     ensures { lent main.new small.new ≡ no_counts }
 {
-    *main = [[0u16; 16]; 16];
-    *small = [0u16; 4];
+    *main = [[0; 16]; 16];
+    *small = [0; 4];
 }
 
 // ---- the most worn block

@@ -1,16 +1,12 @@
--- `wear::count_of` meets its contract: a small block apart, any other by its row and place. Assumes nothing.
-use borrow.Author.Tests.{lt-ltb, le-ltb}
-use Rattle.wear.specs.Counts.{row_of, place_in, count_at, count_of}
+-- `wear::count_of` meets its contract, by where the count stands. Assumes nothing.
+use Rattle.wear.proofs.Places.{count_small, count_main, count_none}
 use Rattle.wear.proofs.count_of.Goals as goal
 
-pub returns-then-block-lt4 : goal.returns-then-block-lt4
-unfolding count_of
-returns-then-block-lt4 c = rw (lt-ltb _ 4 c.if-block-lt4.true)
+pub returns-in-Some-Small : goal.returns-in-Some-Small
+returns-in-Some-Small c = count_small _ _ _ (rw c.in-Some-Small.field-0-is at c.in-Some-Small.ensures)
 
-pub returns-then-block-lt259 : goal.returns-then-block-lt259
-unfolding count_of count_at row_of place_in
-returns-then-block-lt259 c = rw (le-ltb _ 4 c.if-block-lt4.false, lt-ltb _ 259 c.if-block-lt259.true)
+pub returns-in-Some-Main : goal.returns-in-Some-Main
+returns-in-Some-Main c = count_main _ _ _ _ (rw c.in-Some-Main.field-0-is at c.in-Some-Main.ensures)
 
-pub returns : goal.returns
-unfolding count_of
-returns c = rw (le-ltb _ 4 c.if-block-lt4.false, le-ltb _ 259 c.if-block-lt259.false)
+pub returns-in-None : goal.returns-in-None
+returns-in-None c = count_none _ _ c.in-None.ensures

@@ -1,16 +1,12 @@
--- `wear::put_count` meets its contract: a small block apart, any other by its row and place. Assumes nothing.
-use borrow.Author.Tests.{lt-ltb, le-ltb}
-use Rattle.wear.specs.Counts.{row_of, place_in, put_at, with_count}
+-- `wear::put_count` meets its contract, by where the count stands. Assumes nothing.
+use Rattle.wear.proofs.Places.{put_small, put_main, put_none}
 use Rattle.wear.proofs.put_count.Goals as goal
 
-pub returns-then-block-lt4 : goal.returns-then-block-lt4
-unfolding with_count
-returns-then-block-lt4 c = rw (lt-ltb _ 4 c.if-block-lt4.true)
+pub returns-in-Some-Small : goal.returns-in-Some-Small
+returns-in-Some-Small c = put_small _ _ _ (rw c.in-Some-Small.field-0-is at c.in-Some-Small.ensures) _
 
-pub returns-then-block-lt259 : goal.returns-then-block-lt259
-unfolding with_count put_at row_of place_in
-returns-then-block-lt259 c = rw (le-ltb _ 4 c.if-block-lt4.false, lt-ltb _ 259 c.if-block-lt259.true)
+pub returns-in-Some-Main : goal.returns-in-Some-Main
+returns-in-Some-Main c = put_main _ _ _ _ (rw c.in-Some-Main.field-0-is at c.in-Some-Main.ensures) _
 
-pub returns-else-block-lt259 : goal.returns-else-block-lt259
-unfolding with_count
-returns-else-block-lt259 c = rw (le-ltb _ 4 c.if-block-lt4.false, le-ltb _ 259 c.if-block-lt259.false)
+pub returns-in-None : goal.returns-in-None
+returns-in-None c = put_none _ _ c.in-None.ensures _
