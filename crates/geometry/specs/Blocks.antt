@@ -2,11 +2,14 @@
 -- Everything is said once over a Geometry. The document's unit u is `unit`; its rules are the case of 4 small blocks that share the first of
 -- 256 main-size places, 16 of which make a bank.
 -- Assumes nothing.
-use Rattle.std.specs.Prelude.{ℕ, ◌+◌, ◌-◌, ◌*◌, ◌/◌, ◌%◌, ◌<◌, ◌≤◌, true, false, cond, ◌≡◌, ltb, leb, eqb}
+use Rattle.std.specs.Prelude.{ℕ, ◌+◌, ◌-◌, ◌*◌, ◌/◌, ◌%◌, ◌<◌, ◌≤◌, true, false, cond, ◌≡◌, ltb, leb, eqb, Result, Ok, Err}
 use Rattle.geometry.specs.declared.Part.{Part}
 use Rattle.geometry.specs.declared.Part.TheVariants.{FullBottom, FullTop, BenchBottom, BenchTop}
 use Rattle.geometry.specs.declared.Geometry.{Geometry}
-use Rattle.geometry.specs.declared.Lookup.{Lookup}
+use Rattle.geometry.specs.declared.Located.{Located}
+use Rattle.refusal.specs.declared.Refusal.{Refusal}
+use Rattle.refusal.specs.declared.Refusal.TheVariants.{Address, NoPart}
+use Rattle.refusal.specs.Numbers.{number}
 
 -- "The full parts have u = 65,536. Two bench parts (H), top and bottom, have u = 64, so that a program can hold one."
 abbrev pub geometry_of : Part → Geometry
@@ -105,16 +108,29 @@ pub record Sound (g : Geometry) : Type 0 where
 abbrev pub part_numbered : ℕ → Part
 part_numbered n = cond (eqb n 0) FullBottom (cond (eqb n 1) FullTop (cond (eqb n 2) BenchBottom BenchTop))
 
--- "A refusal gives its number beside the answer 0"
-abbrev pub refused : ℕ → Lookup
-refused n = record { refusal = n; block = 0; bank = 0 }
+-- the same, where "part number above 3" is refused
+abbrev pub part_named : ℕ → Result Part Refusal
+part_named n = cond (ltb 3 n) (Err NoPart) (Ok (part_numbered n))
 
-abbrev pub found : Geometry → ℕ → Lookup
-found g l = record { refusal = 0; block = block_of g l; bank = bank_of g l }
+abbrev pub found : Geometry → ℕ → Located
+found g l = record { block = block_of g l; bank = bank_of g l }
 
 -- "lookup of an address refuses 3 and 7 only"; "The lowest number is given"
-unfoldable pub lookup_of : ℕ → ℕ → Lookup
+unfoldable pub lookup_of : ℕ → ℕ → Result Located Refusal
 lookup_of part address =
-    cond (leb 16777216 address) (refused 3)
-    (cond (ltb 3 part) (refused 7)
-    (found (geometry_of (part_numbered part)) (location (geometry_of (part_numbered part)) address)))
+    cond (leb 16777216 address) (Err Address)
+    (cond (ltb 3 part) (Err NoPart)
+    (Ok (found (geometry_of (part_numbered part)) (location (geometry_of (part_numbered part)) address))))
+
+-- "A refusal gives its number beside the answer 0": the three numbers of an answer, for a caller that wants numbers
+abbrev pub number_in : Result Located Refusal → ℕ
+number_in (Ok f) = 0
+number_in (Err e) = number e
+
+abbrev pub block_in : Result Located Refusal → ℕ
+block_in (Ok f) = f.block
+block_in (Err e) = 0
+
+abbrev pub bank_in : Result Located Refusal → ℕ
+bank_in (Ok f) = f.bank
+bank_in (Err e) = 0

@@ -3,7 +3,7 @@
 -- Assumes nothing.
 use Rattle.std.specs.Prelude.{ℕ, Bool, true, false, not, ◌&&◌, List, [], ◌∷◌, T, eqb}
 use Rattle.geometry.specs.declared.Geometry.{Geometry}
-use Rattle.geometry.specs.Blocks.{geometry_of, mirror, block_from, block_of, bank_of, size_of, start_from, start_of, part_numbered, lookup_of}
+use Rattle.geometry.specs.Blocks.{geometry_of, mirror, block_from, block_of, bank_of, size_of, start_from, start_of, part_numbered, lookup_of, number_in, block_in, bank_in}
 use Rattle.geometry.specs.Table.{begins, tied, not_above, scale}
 
 -- six blocks: four of 4 words, then two of 16
@@ -31,8 +31,8 @@ pub data Case : Type 0 where
   reaches : List ℕ → ℕ → ℕ → Case
 
 abbrev pub holds : Case → Bool
-holds (lies p a b k) = eqb (lookup_of p a).refusal 0 && (eqb (lookup_of p a).block b && eqb (lookup_of p a).bank k)
-holds (refuses p a n) = eqb (lookup_of p a).refusal n && (eqb (lookup_of p a).block 0 && eqb (lookup_of p a).bank 0)
+holds (lies p a b k) = eqb (number_in (lookup_of p a)) 0 && (eqb (block_in (lookup_of p a)) b && eqb (bank_in (lookup_of p a)) k)
+holds (refuses p a n) = eqb (number_in (lookup_of p a)) n && (eqb (block_in (lookup_of p a)) 0 && eqb (bank_in (lookup_of p a)) 0)
 holds (spans p b n) = eqb (size_of (geometry_of (part_numbered p)) b) n
 holds (starts p b l) = eqb (start_of (geometry_of (part_numbered p)) b) l
 holds (stands p k) = eqb (scale (geometry_of (part_numbered p))) k

@@ -2,10 +2,12 @@
 // Each public function takes every number: one that is no block, bank or location has the answer that its definition gives it.
 #![tactic(auto)]
 
-ghost use Rattle.std.specs.Prelude.{◌≡◌, true, cond, ◌+◌, ◌-◌, ◌<◌, ◌≤◌};
-ghost use Rattle.geometry.specs.Blocks.{geometry_of, words, blocks, location, mirror, block_from, block_of, bank_of, size_of, start_of, bank_start, block_offset, bank_offset, bank_of_block, Sound, part_numbered, lookup_of};
+ghost use Rattle.std.specs.Prelude.{◌≡◌, true, cond, ◌+◌, ◌-◌, ◌<◌, ◌≤◌, ◌⊎◌, IfOk, IfErr};
+ghost use Rattle.geometry.specs.Blocks.{geometry_of, words, blocks, location, mirror, block_from, block_of, bank_of, size_of, start_of, bank_start, block_offset, bank_offset, bank_of_block, Sound, part_numbered, part_named, lookup_of};
 ghost use Rattle.geometry.specs.Bits.{unit_bits, small_bits, bank_bits, turned};
 ghost use Rattle.geometry.specs.Table.{tied, not_above, Rises, scale};
+
+use refusal::Refusal;
 
 // The four parts: full or bench size, with the small blocks at the bottom or at the top.
 #[derive(Clone, Copy)]
@@ -31,12 +33,18 @@ pub struct Geometry {
     pub top: bool,
 }
 
-// The answer of a lookup: a refusal's number or 0, and beside it the block and the bank, each 0 where it is refused.
+// Where an address lies.
 #[derive(Clone, Copy)]
-pub struct Lookup {
-    pub refusal: u32,
+pub struct Located {
     pub block: u32,
     pub bank: u32,
+}
+
+// Whether the small blocks are at the top. A test of the geometry's own `top` would be compiled to a jump by a table.
+fn is_top(part: Part) -> bool
+    ensures { result ≡ (geometry_of part).top }
+{
+    matches!(part, Part::FullTop | Part::BenchTop)
 }
 
 // The geometry of a part.
@@ -44,35 +52,15 @@ pub fn geometry_of(part: Part) -> Geometry
     ensures value { result ≡ geometry_of part }
     ensures sound { Sound result }
 {
-    match part {
-        Part::FullBottom => Geometry {
-            unit: 65536,
-            smalls: 4,
-            places: 256,
-            group: 16,
-            top: false,
+    Geometry {
+        unit: match part {
+            Part::FullBottom | Part::FullTop => 65536,
+            Part::BenchBottom | Part::BenchTop => 64,
         },
-        Part::FullTop => Geometry {
-            unit: 65536,
-            smalls: 4,
-            places: 256,
-            group: 16,
-            top: true,
-        },
-        Part::BenchBottom => Geometry {
-            unit: 64,
-            smalls: 4,
-            places: 256,
-            group: 16,
-            top: false,
-        },
-        Part::BenchTop => Geometry {
-            unit: 64,
-            smalls: 4,
-            places: 256,
-            group: 16,
-            top: true,
-        },
+        smalls: 4,
+        places: 256,
+        group: 16,
+        top: is_top(part),
     }
 }
 
@@ -101,20 +89,7 @@ pub fn location_of(part: Part, address: u32) -> u32
     ensures inside { result < words (geometry_of part) }
     ensures limit { result < 16777216 }
 {
-    let n = length_of(part);
-    address % n
-}
-
-// Whether the small blocks are at the top.
-fn is_top(part: Part) -> bool
-    ensures { result ≡ (geometry_of part).top }
-{
-    match part {
-        Part::FullBottom => false,
-        Part::FullTop => true,
-        Part::BenchBottom => false,
-        Part::BenchTop => true,
-    }
+    address % length_of(part)
 }
 
 // The location counted from the end that has the small blocks.
@@ -122,47 +97,38 @@ fn mirror_of(part: Part, location: u32) -> u32
     ensures { result ≡ mirror (geometry_of part) location }
 {
     if is_top(part) {
-        let last = length_of(part) - 1;
-        if location <= last { last - location } else { 0 }
+        (length_of(part) - 1).saturating_sub(location)
     } else {
         location
     }
 }
 
-// A place in a main block, in a small block and in a bank as bits of a location: a quotient by bits is a shift, whatever the part, and takes no jump.
-fn unit_bits(part: Part) -> u32
-    ensures value { result ≡ unit_bits part }
-    ensures limit { result < 32 }
-{
-    match part {
-        Part::FullBottom => 16,
-        Part::FullTop => 16,
-        Part::BenchBottom => 6,
-        Part::BenchTop => 6,
-    }
+// A place in a main block, in a small block and in a bank as bits of a location.
+#[derive(Clone, Copy)]
+struct Shifts {
+    unit: u32,
+    small: u32,
+    bank: u32,
 }
 
-fn small_bits(part: Part) -> u32
-    ensures value { result ≡ small_bits part }
-    ensures limit { result < 32 }
+// A quotient by bits is a shift, whatever the part, and takes no jump; by a number of the geometry it would be a division.
+fn shifts_of(part: Part) -> Shifts
+    ensures unit { result.unit ≡ unit_bits part }
+    ensures small { result.small ≡ small_bits part }
+    ensures bank { result.bank ≡ bank_bits part }
+    ensures limits { (result.unit < 32) × (result.small < 32) × (result.bank < 32) }
 {
     match part {
-        Part::FullBottom => 14,
-        Part::FullTop => 14,
-        Part::BenchBottom => 4,
-        Part::BenchTop => 4,
-    }
-}
-
-fn bank_bits(part: Part) -> u32
-    ensures value { result ≡ bank_bits part }
-    ensures limit { result < 32 }
-{
-    match part {
-        Part::FullBottom => 20,
-        Part::FullTop => 20,
-        Part::BenchBottom => 10,
-        Part::BenchTop => 10,
+        Part::FullBottom | Part::FullTop => Shifts {
+            unit: 16,
+            small: 14,
+            bank: 20,
+        },
+        Part::BenchBottom | Part::BenchTop => Shifts {
+            unit: 6,
+            small: 4,
+            bank: 10,
+        },
     }
 }
 
@@ -170,12 +136,12 @@ fn bank_bits(part: Part) -> u32
 fn block_from(part: Part, m: u32) -> u32
     ensures { result ≡ block_from (geometry_of part) m }
 {
-    let g = geometry_of(part);
-    let place = m >> unit_bits(part);
+    let shifts = shifts_of(part);
+    let place = m >> shifts.unit;
     if place == 0 {
-        m >> small_bits(part)
+        m >> shifts.small
     } else {
-        place + (g.smalls - 1)
+        place + (geometry_of(part).smalls - 1)
     }
 }
 
@@ -192,16 +158,16 @@ pub fn bank_of(part: Part, location: u32) -> u32
     ensures value { result ≡ bank_of (geometry_of part) location }
     ensures inside { location < words (geometry_of part) → result < 16 }
 {
-    let m = mirror_of(part, location);
-    m >> bank_bits(part)
+    mirror_of(part, location) >> shifts_of(part).bank
 }
 
 // The bits of an address that are turned round where the small blocks are at the top: those of a location.
 fn turned_bits(part: Part) -> u32
     ensures { result ≡ turned (geometry_of part) }
 {
-    let words = length_of(part);
-    if is_top(part) { words - 1 } else { 0 }
+    // Before the test, so that a step takes no jump.
+    let last = length_of(part) - 1;
+    if is_top(part) { last } else { 0 }
 }
 
 // The mirror of the location that an address selects. A length is a power of two, so the last location less another is
@@ -209,9 +175,7 @@ fn turned_bits(part: Part) -> u32
 fn mirror_at(part: Part, address: u32) -> u32
     ensures { result ≡ mirror (geometry_of part) (location (geometry_of part) address) }
 {
-    let words = length_of(part);
-    let x = address ^ turned_bits(part);
-    x % words
+    (address ^ turned_bits(part)) % length_of(part)
 }
 
 // The block of the location that an address selects.
@@ -227,7 +191,7 @@ pub fn bank_at(part: Part, address: u32) -> u32
     ensures value { result ≡ bank_of (geometry_of part) (location (geometry_of part) address) }
     ensures inside { result < 16 }
 {
-    mirror_at(part, address) >> bank_bits(part)
+    mirror_at(part, address) >> shifts_of(part).bank
 }
 
 // The words of a block.
@@ -236,30 +200,22 @@ pub fn block_size(part: Part, block: u32) -> u32
     ensures limit { result ≤ 16777216 }
 {
     let g = geometry_of(part);
-    let n = g.smalls;
-    if block < n {
-        return g.unit / n;
+    if block < g.smalls {
+        g.unit / g.smalls
+    } else if block < block_count(part) {
+        g.unit
+    } else {
+        0
     }
-    if block < block_count(part) {
-        return g.unit;
-    }
-    0
 }
 
 // The lowest location of a run of `size` words that begins at `from`, counted from the end that has the small blocks.
 fn run_start(part: Part, from: u32, size: u32) -> u32
+    requires { from + size ≤ words (geometry_of part) }
     ensures { result ≡ cond (geometry_of part).top (words (geometry_of part) - (from + size)) from }
 {
-    let g = geometry_of(part);
-    if g.top {
-        let n = g.places * g.unit;
-        if from <= n {
-            let left = n - from;
-            if size <= left {
-                return left - size;
-            }
-        }
-        0
+    if is_top(part) {
+        length_of(part) - (from + size)
     } else {
         from
     }
@@ -272,15 +228,14 @@ pub fn block_start(part: Part, block: u32) -> u32
     ensures limit { result < 16777216 }
 {
     let g = geometry_of(part);
-    let s = g.smalls;
     if block >= block_count(part) {
-        return 0;
+        0
+    } else if block < g.smalls {
+        let size = g.unit / g.smalls;
+        run_start(part, block * size, size)
+    } else {
+        run_start(part, (block - (g.smalls - 1)) * g.unit, g.unit)
     }
-    if block < s {
-        let size = g.unit / s;
-        return run_start(part, block * size, size);
-    }
-    run_start(part, (block - (s - 1)) * g.unit, g.unit)
 }
 
 // The lowest location of a bank.
@@ -292,25 +247,24 @@ pub fn bank_start(part: Part, bank: u32) -> u32
     let g = geometry_of(part);
     let size = g.group * g.unit;
     if bank < g.places / g.group {
-        return run_start(part, bank * size, size);
+        run_start(part, bank * size, size)
+    } else {
+        0
     }
-    0
 }
 
 // The location's distance from the lowest location of its block.
 pub fn block_offset(part: Part, location: u32) -> u32
     ensures { result ≡ block_offset (geometry_of part) location }
 {
-    let start = block_start(part, block_of(part, location));
-    location - start
+    location - block_start(part, block_of(part, location))
 }
 
 // The location's distance from the lowest location of its bank.
 pub fn bank_offset(part: Part, location: u32) -> u32
     ensures { result ≡ bank_offset (geometry_of part) location }
 {
-    let first = bank_start(part, bank_of(part, location));
-    location - first
+    location - bank_start(part, bank_of(part, location))
 }
 
 // The bank that a block lies in.
@@ -318,14 +272,13 @@ pub fn bank_of_block(part: Part, block: u32) -> u32
     ensures value { result ≡ bank_of_block (geometry_of part) block }
     ensures limit { result < 16 }
 {
-    let start = block_start(part, block);
-    bank_of(part, start)
+    bank_of(part, block_start(part, block))
 }
 
 // ---- the table of block starts: document 02, item 7
 
 // The start locations of the blocks of the full bottom part, from block 0 on: the starts, not the ends, in the sheet's Tables 32 to 34.
-const STARTS: [u32; 259] = [
+static STARTS: [u32; 259] = [
     0x000000, 0x004000, 0x008000, 0x00C000, 0x010000, 0x020000, 0x030000, 0x040000, 0x050000,
     0x060000, 0x070000, 0x080000, 0x090000, 0x0A0000, 0x0B0000, 0x0C0000, 0x0D0000, 0x0E0000,
     0x0F0000, 0x100000, 0x110000, 0x120000, 0x130000, 0x140000, 0x150000, 0x160000, 0x170000,
@@ -358,29 +311,18 @@ const STARTS: [u32; 259] = [
 ];
 
 // The table. Its contract is the one computed test over all 259 entries.
-fn block_starts() -> [u32; 259]
-    ensures { tied (geometry_of Part.FullBottom) 0 0 result ≡ true }
+fn block_starts() -> &'static [u32; 259]
+    ensures { tied (geometry_of Part.FullBottom) 0 0 result.now ≡ true }
 {
-    STARTS
+    &STARTS
 }
 
-// How many entries of a rising table are not above a location, in as many looks as its length can be halved. What is left is the same on both branches, so that a look
-// takes no jump.
+// How many entries of a rising table are not above a location, by halving, where a look takes no jump.
 fn not_above(table: &[u32], location: u32) -> usize
     requires { Rises table.now }
     ensures { result ≡ not_above table.now location }
 {
-    let mut low: usize = 0;
-    let mut left = table.len();
-    while left > 0 {
-        let rest = left / 2;
-        let half = left - rest;
-        if table[low + half - 1] <= location {
-            low = low + half;
-        }
-        left = rest;
-    }
-    low
+    table.partition_point(|start| *start <= location)
 }
 
 // How many words of the full bottom part a word of the part stands for.
@@ -388,8 +330,7 @@ fn scale_of(part: Part) -> u32
     ensures value { result ≡ scale (geometry_of part) }
     ensures positive { 0 < result }
 {
-    let g = geometry_of(part);
-    65536 / g.unit
+    65536 / geometry_of(part).unit
 }
 
 // The block that a location lies in, through the table: by mirror and scale, and then the last entry that is not above.
@@ -398,11 +339,8 @@ fn block_by_table(part: Part, location: u32) -> u32
     ensures value { result ≡ block_of (geometry_of part) location }
     ensures inside { result < 259 }
 {
-    let m = mirror_of(part, location);
-    let s = scale_of(part);
-    let table = block_starts();
-    let n = not_above(&table, m * s);
-    (n - 1) as u32
+    let m = mirror_of(part, location) * scale_of(part);
+    (not_above(block_starts(), m) - 1) as u32
 }
 
 // The lowest location of a block, through the table; 0 for a number that is no block.
@@ -410,62 +348,54 @@ pub fn start_by_table(part: Part, block: u32) -> u32
     ensures value { result ≡ start_of (geometry_of part) block }
     ensures limit { result < 16777216 }
 {
-    if block >= block_count(part) {
-        return 0;
+    if block < block_count(part) {
+        let from = block_starts()[block as usize] / scale_of(part);
+        run_start(part, from, block_size(part, block))
+    } else {
+        0
     }
-    let table = block_starts();
-    let s = scale_of(part);
-    let from = table[block as usize] / s;
-    let size = block_size(part, block);
-    run_start(part, from, size)
 }
 
 // ---- the lookup of the host bench
 
-// The part that a number names: 0 full bottom, 1 full top, 2 bench bottom, any other bench top.
+// The part that a number names: 0 full bottom, 1 full top, 2 bench bottom, 3 bench top.
+impl TryFrom<u32> for Part {
+    type Error = Refusal;
+
+    ghost try_from_gives = { λ n r. r ≡ part_named n };
+
+    fn try_from(n: u32) -> Result<Part, Refusal> {
+        match n {
+            0 => Ok(Part::FullBottom),
+            1 => Ok(Part::FullTop),
+            2 => Ok(Part::BenchBottom),
+            3 => Ok(Part::BenchTop),
+            _ => Err(Refusal::NoPart),
+        }
+    }
+}
+
+// The same, and bench top for any other number.
 pub fn part_numbered(n: u32) -> Part
     ensures { result ≡ part_numbered n }
 {
-    if n == 0 {
-        return Part::FullBottom;
-    }
-    if n == 1 {
-        return Part::FullTop;
-    }
-    if n == 2 {
-        return Part::BenchBottom;
-    }
-    Part::BenchTop
+    Part::try_from(n).unwrap_or(Part::BenchTop)
 }
 
-// The lookup of the host bench: the block and the bank of an address, refusing 3 for the address before 7 for the part.
-pub fn look_up(part: u32, address: u32) -> Lookup
+// The lookup of the host bench: the block and the bank of an address. The address is refused before the part, of which the number is higher.
+pub fn look_up(part: u32, address: u32) -> Result<Located, Refusal>
     ensures value { result ≡ lookup_of part address }
-    ensures refusals { result.refusal ≤ 7 }
-    ensures blocks { result.block < 259 }
-    ensures banks { result.bank < 16 }
+    ensures refusals { IfErr result (λ e. (e ≡ Refusal.Address) ⊎ (e ≡ Refusal.NoPart)) }
+    ensures blocks { IfOk result (λ f. f.block < 259) }
+    ensures banks { IfOk result (λ f. f.bank < 16) }
 {
     if address >= 16777216 {
-        return Lookup {
-            refusal: 3,
-            block: 0,
-            bank: 0,
-        };
+        return Err(Refusal::Address);
     }
-    if part > 3 {
-        return Lookup {
-            refusal: 7,
-            block: 0,
-            bank: 0,
-        };
-    }
-    let p = part_numbered(part);
+    let p = Part::try_from(part)?;
     let l = location_of(p, address);
-    let block = block_by_table(p, l);
-    let bank = bank_of(p, l);
-    Lookup {
-        refusal: 0,
-        block: block,
-        bank: bank,
-    }
+    Ok(Located {
+        block: block_by_table(p, l),
+        bank: bank_of(p, l),
+    })
 }

@@ -4,8 +4,6 @@ use mathlib.Core.Path.{ap, ◌∙◌}
 use Rattle.geometry.specs.Blocks.{geometry_of, bank_of, bank_of_block}
 use Rattle.geometry.proofs.bank_of_block.Goals as goal
 
-pub returns : goal.returns
+pub returns-clause-value : goal.returns-clause-value
 unfolding bank_of_block
-returns c =
-    let g = geometry_of c.args.part in
-    record { value = c.bank_of.ensures.value ∙ ap (bank_of g) c.block_start-start.ensures.value; limit = c.bank_of.ensures.inside c.block_start-start.ensures.inside }
+returns-clause-value c = c.bank_of.ensures.value ∙ ap (bank_of (geometry_of c.args.part)) c.block_start.ensures.value

@@ -11,9 +11,9 @@ pub overflow_sub-result : goal.overflow_sub-result
 overflow_sub-result c =
     let p : Part = c.args.part in
     let l : ℕ = c.args.location in
-    let h : c.bank_start-first.result ≤ l = rw (c.bank_start-first.ensures.value, c.bank_of.ensures.value) (laws.bank_start_le (geometry_of p) (laws.sound p) l) in
+    let h : c.bank_start.result ≤ l = rw (c.bank_start.ensures.value, c.bank_of.ensures.value) (laws.bank_start_le (geometry_of p) (laws.sound p) l) in
     omega arith
 
 pub returns : goal.returns
 unfolding bank_offset
-returns c = rw (c.bank_start-first.ensures.value, c.bank_of.ensures.value)
+returns c = rw (c.bank_start.ensures.value, c.bank_of.ensures.value)

@@ -10,21 +10,21 @@ use Rattle.geometry.specs.declared.Part.TheVariants.{FullBottom}
 use Rattle.geometry.proofs.block_by_table.Goals as goal
 
 -- the location of the full bottom part that is looked up
-stands : (c : goal.After-table-1) → c.mirror_of-m.result * c.scale_of-s.result < words (geometry_of FullBottom)
+stands : (c : goal.After-scale_of) → c.mirror_of.result * c.scale_of.result < words (geometry_of FullBottom)
 stands c =
     let p : Part = c.args.part in
-    rw (c.mirror_of-m.ensures, c.scale_of-s.ensures.value)
+    rw (c.mirror_of.ensures, c.scale_of.ensures.value)
     (scaled_lt p _ (mirror_lt (geometry_of p) (sound p) _ c.requires))
 
 -- the last entry that is not above it is the block's
-found : (c : goal.After-not_above-n) → c.not_above-n.result ≡ suc (block_of (geometry_of c.args.part) c.args.location)
+found : (c : goal.After-not_above) → c.not_above.result ≡ suc (block_of (geometry_of c.args.part) c.args.location)
 found c =
     let a = c in
-    rw (c.not_above-n.ensures, c.mirror_of-m.ensures, c.scale_of-s.ensures.value)
-    (table_is_formula c.block_starts-table.result c.block_starts-table.ensures a.args.part a.args.location a.requires)
+    rw (c.not_above.ensures, c.mirror_of.ensures, c.scale_of.ensures.value)
+    (table_is_formula c.block_starts.result.now c.block_starts.ensures a.args.part a.args.location a.requires)
 
 -- and it is a block's number
-number : (c : goal.After-not_above-n) → c.not_above-n.result - 1 < 259
+number : (c : goal.After-not_above) → c.not_above.result - 1 < 259
 number c =
     let a = c in
     omega (arith, found c, part_block_lt a.args.part a.args.location a.requires)
@@ -32,8 +32,8 @@ number c =
 pub overflow_mul-m : goal.overflow_mul-m
 overflow_mul-m c = omega (arith, stands c)
 
-pub not_above-n-requires : goal.not_above-n-requires
-not_above-n-requires c = rises (geometry_of FullBottom) (sound FullBottom) c.block_starts-table.result c.block_starts-table.ensures
+pub not_above-requires : goal.not_above-requires
+not_above-requires c = rises (geometry_of FullBottom) (sound FullBottom) c.block_starts.result.now c.block_starts.ensures
 
 pub overflow_sub-result : goal.overflow_sub-result
 overflow_sub-result c = omega (arith, found c)

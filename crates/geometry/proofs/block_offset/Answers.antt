@@ -11,9 +11,9 @@ pub overflow_sub-result : goal.overflow_sub-result
 overflow_sub-result c =
     let p : Part = c.args.part in
     let l : ℕ = c.args.location in
-    let h : c.block_start-start.result ≤ l = rw (c.block_start-start.ensures.value, c.block_of.ensures.value) (laws.start_le (geometry_of p) (laws.sound p) l) in
+    let h : c.block_start.result ≤ l = rw (c.block_start.ensures.value, c.block_of.ensures.value) (laws.start_le (geometry_of p) (laws.sound p) l) in
     omega arith
 
 pub returns : goal.returns
 unfolding block_offset
-returns c = rw (c.block_start-start.ensures.value, c.block_of.ensures.value)
+returns c = rw (c.block_start.ensures.value, c.block_of.ensures.value)

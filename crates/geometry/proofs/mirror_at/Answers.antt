@@ -6,4 +6,4 @@ use Rattle.geometry.proofs.mirror_at.Goals as goal
 pub returns : goal.returns
 returns c =
     let a = c.args in
-    rw (c.turned_bits.ensures, c.length_of-words.ensures.value) (mirror_turned a.part a.address)
+    rw (c.turned_bits.ensures, c.length_of.ensures.value) (mirror_turned a.part a.address)
