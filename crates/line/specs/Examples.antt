@@ -4,6 +4,7 @@
 use Rattle.std.specs.Prelude.{ℕ, Bool, true, false, ◌&&◌, List, [], ◌∷◌, ◌≡◌, refl, T, set, Option, Some, None}
 use Prim.Native.Char.{code}
 use Prim.Native.String.{String, [] as none, ◌∷◌ as first}
+use Rattle.semantics.specs.declared.Step.{Step}
 use Rattle.semantics.specs.declared.Step.TheVariants.{Read, Write, Work, Supply, Reset}
 use Rattle.semantics.specs.Exactly.{exactly}
 use Rattle.line.specs.Forms.{hex_value, digits, number, begins, is_read, is_write, is_work, is_supply, is_reset}

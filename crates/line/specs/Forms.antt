@@ -3,6 +3,7 @@
 -- A place past the end of the line reads 0, which stands in no form. Definitions only; the laws are in Laws.
 -- Assumes nothing.
 use Rattle.std.specs.Prelude.{ℕ, zero, suc, ◌+◌, ◌-◌, ◌*◌, Bool, true, not, cond, ◌&&◌, ◌||◌, List, eqb, ltb, leb, length, get_or, Option, Some, None}
+use Rattle.semantics.specs.declared.Step.{Step}
 use Rattle.semantics.specs.declared.Step.TheVariants.{Read, Write, Work, Supply, Reset}
 
 -- ---- digits

@@ -1,8 +1,8 @@
-// Where the lines of a text begin and end. Each function takes every text and place.
+// Where the lines of a text begin and end, at every text and place.
 #![tactic(auto)]
 
-ghost use Rattle.std.specs.Prelude.{◌≡◌};
-ghost use Rattle.lines.specs.Lines.{line_end, taken_at};
+ghost use Rattle.std.specs.Prelude.{◌≡◌, ◌==◌, position};
+ghost use Rattle.lines.specs.Lines.{taken_at};
 
 // Where a line begins and ends, and where the next one begins.
 #[derive(Clone, Copy)]
@@ -12,35 +12,29 @@ pub struct Taken {
     pub next: usize,
 }
 
-// Where the line that begins at a place ends: at the first LF from there on, or at the text's end.
-fn line_end(text: &[u8], at: usize) -> usize
-    ensures { result ≡ line_end text.now at }
+// Where the first LF of a text stands.
+fn first_lf(text: &[u8]) -> Option<usize>
+    ensures { result ≡ position (λ b. b == 10) text.now }
 {
-    let mut i = at;
-    while i < text.len() {
-        if text[i] == b'\n' {
-            return i;
-        }
-        i += 1;
-    }
-    i
+    text.iter().position(|b| *b == b'\n')
 }
 
-// The line that begins at a place. The next one begins past its LF, if it has one.
+// The line that begins at a place. It ends at the first LF from there on, and the next one begins past that; or both at
+// the text's end, where there is none.
 pub fn taken_at(text: &[u8], at: usize) -> Taken
     ensures { result ≡ taken_at text.now at }
 {
-    let to = line_end(text, at);
-    if to < text.len() {
-        return Taken {
+    let rest = text.get(at..).unwrap_or_default();
+    match first_lf(rest) {
+        Some(n) => Taken {
             from: at,
-            to,
-            next: to + 1,
-        };
-    }
-    Taken {
-        from: at,
-        to,
-        next: to,
+            to: at + n,
+            next: at + n + 1,
+        },
+        None => Taken {
+            from: at,
+            to: at + rest.len(),
+            next: at + rest.len(),
+        },
     }
 }
