@@ -1,7 +1,7 @@
 -- The theorem of the Intel HEX files: reading back what was written gives the same words, for every part and every array, onto any array of the part's length.
 -- Assumes nothing.
 use Prim.Native.Nat.{ℕ, zero, suc, ◌+◌, ◌-◌, ◌*◌, ◌/◌, ◌%◌, ◌<◌, ◌≤◌}
-use Rattle.std.specs.Prelude.{Bool, true, false, cond, ◌≡◌, eqb, length, get_or, take, drop}
+use Rattle.std.specs.Prelude.{Bool, true, false, cond, ◌≡◌, eqb, length, get_or, take, drop, Ok, IsOk}
 use mathlib.Core.List.{List, [], ◌++◌}
 use Rattle.std.proofs.Math.Path.{refl}
 use Rattle.std.proofs.Common.{sym, ◌∙◌, zero-add, arith, length-drop, take-add, take_all, length-take-le, eq-eqb}
@@ -133,7 +133,7 @@ words_back ws before e = sym (tabulate_is (length before) (word_after (named_fro
 
 -- the verdict on what was written: it is accepted, and the last line, the end record's, decided
 pub written_accepted : (part : Part) (ws before : List ℕ) → length ws ≡ words (geometry_of part) → length before ≡ words (geometry_of part)
-    → ((i : ℕ) → get_or ws i 0 < 65536) → verdict part (text_of part ws) before ≡ record { refusal = 0; line = text_lines part }
+    → ((i : ℕ) → get_or ws i 0 < 65536) → verdict part (text_of part ws) before ≡ Ok (text_lines part)
 unfolding verdict
 written_accepted part ws before long fits small =
     let whole : Whole (size before) (text_of part ws) (text_lines part) (named_from 0 (bytes_of ws)) = text_whole part ws (size before) long (omega arith) small in
@@ -141,15 +141,15 @@ written_accepted part ws before long fits small =
 
 -- "such that reading it back gives the same words"
 pub written_read_back : (part : Part) (ws before : List ℕ) → length ws ≡ words (geometry_of part) → length before ≡ words (geometry_of part)
-    → ((i : ℕ) → get_or ws i 0 < 65536) → ((verdict part (text_of part ws) before).refusal ≡ 0) × (array_read part (text_of part ws) before ≡ ws)
+    → ((i : ℕ) → get_or ws i 0 < 65536) → IsOk (verdict part (text_of part ws) before) × (array_read part (text_of part ws) before ≡ ws)
 unfolding array_read
 written_read_back part ws before long fits small =
-    let good : (verdict part (text_of part ws) before).refusal ≡ 0 = rw (written_accepted part ws before long fits small) in
+    let good : IsOk (verdict part (text_of part ws) before) = rw (written_accepted part ws before long fits small) in
     (good, rw (good, (text_whole part ws (size before) long (omega arith) small).names) (words_back ws before (long ∙ sym fits)))
 
 -- the same of what a writing leaves in a lent room, up to the length that it gives
-pub room_read_back : (part : Part) (ws before room : List ℕ) → (written part ws room).refusal ≡ 0 → length before ≡ words (geometry_of part)
-    → ((i : ℕ) → get_or ws i 0 < 65536) → let text : List ℕ = take (written part ws room).length (room_after part ws room) in
-    ((verdict part text before).refusal ≡ 0) × (array_read part text before ≡ ws)
-room_read_back part ws before room good fits small =
-    rw (room_text part ws room good) (written_read_back part ws before (written_good part ws room good).0 fits small)
+pub room_read_back : (part : Part) (ws before room : List ℕ) (size : ℕ) → written part ws room ≡ Ok size → length before ≡ words (geometry_of part)
+    → ((i : ℕ) → get_or ws i 0 < 65536) → let text : List ℕ = take size (room_after part ws room) in
+    IsOk (verdict part text before) × (array_read part text before ≡ ws)
+room_read_back part ws before room size good fits small =
+    rw (room_text part ws room size good) (written_read_back part ws before (written_good part ws room size good).0 fits small)

@@ -1,10 +1,12 @@
 -- Laws that document 02 states in words: what a byte is after the bytes that a text names, what a refused text leaves, and what a writing leaves in a lent room.
 -- Assumes nothing.
-use Rattle.std.specs.Prelude.{ℕ, ◌<◌, ◌≤◌, Bool, true, false, cond, ◌≡◌, eqb, ltb, length, take, drop}
+use Rattle.std.specs.Prelude.{ℕ, ◌<◌, ◌≤◌, Bool, true, false, cond, ◌≡◌, eqb, ltb, length, take, drop, Result, Ok, Err, is_ok}
 use mathlib.Core.List.{List, [], ◌∷◌, ◌++◌, Memᴰ}
 use Rattle.std.proofs.Math.Path.{refl}
-use Rattle.std.proofs.Common.{◌∙◌, arith, eq-eqb, ne_eqb, eqb-true, ltb-false, lt-ltb, le-ltb}
+use Rattle.std.proofs.Common.{◌∙◌, eq-eqb, ne_eqb, eqb-true, ltb-false, lt-ltb, le-ltb}
 use Rattle.std.proofs.Math.Seq.{take-append_seam}
+use Rattle.refusal.specs.declared.Refusal.{Refusal}
+use Rattle.refusal.specs.declared.Refusal.TheVariants.{ArrayLength, RoomLength}
 use Rattle.geometry.specs.declared.Part.{Part}
 use Rattle.geometry.specs.Blocks.{geometry_of, words}
 use Rattle.printing.specs.Room.{advanced, put_whole}
@@ -12,7 +14,7 @@ use Rattle.semantics.specs.Tabulate.{length_tabulate}
 use Rattle.intelhex.specs.Records.{Named, byte_after, word_after, words_after, named, record_lines, verdict, array_read}
 use Rattle.intelhex.specs.Text.{text_of, written, room_after}
 use Rattle.intelhex.specs.Sizes.{text_length, length_text_of}
-use Rattle.intelhex.specs.declared.Written.{Written}
+use Rattle.intelhex.specs.declared.BadRecord.{BadRecord}
 use Rattle.intelhex.specs.Laws.{Unnamed}
 
 -- ---- the bytes that a text names
@@ -45,14 +47,14 @@ later_wins l x m a old e h = byte_append l (x ∷ m) a old ∙ byte_here x m a (
 -- ---- the array
 
 -- "A refused file leaves the array as it was."
-pub refused_stays : (part : Part) (text ws : List ℕ) → ((verdict part text ws).refusal ≡ 0 → ⊥) → array_read part text ws ≡ ws
+pub refused_stays : (part : Part) (text ws : List ℕ) → (bad : BadRecord) → verdict part text ws ≡ Err bad → array_read part text ws ≡ ws
 unfolding array_read
-refused_stays part text ws h = rw (ne_eqb (verdict part text ws).refusal 0 h)
+refused_stays part text ws bad e = rw e
 
 -- a reading leaves the array as long as it was
 pub array_read_length : (part : Part) (text ws : List ℕ) → length (array_read part text ws) ≡ length ws
 unfolding array_read words_after
-array_read_length part text ws = go (eqb (verdict part text ws).refusal 0)
+array_read_length part text ws = go (is_ok (verdict part text ws))
   where
     go : (t : Bool) → length (cond t (words_after (named 0 (record_lines text)) ws) ws) ≡ length ws
     go true = length_tabulate (length ws) (word_after (named 0 (record_lines text)) ws)
@@ -63,8 +65,8 @@ array_read_length part text ws = go (eqb (verdict part text ws).refusal 0)
 -- "17 text too short", at its edges: a full part's text has 92,282,892 bytes, a bench part's 90,140. A room that is shorter, by one byte too, is refused and stays;
 -- one of just so many bytes, or of more, is not refused
 pub room_edges : (part : Part) (ws room : List ℕ) → length ws ≡ words (geometry_of part)
-    → (length room < text_length part → (written part ws room ≡ record { refusal = 17; length = 0 }) × (room_after part ws room ≡ room))
-    × (text_length part ≤ length room → written part ws room ≡ record { refusal = 0; length = text_length part })
+    → (length room < text_length part → (written part ws room ≡ Err RoomLength) × (room_after part ws room ≡ room))
+    × (text_length part ≤ length room → written part ws room ≡ Ok (text_length part))
 unfolding written room_after
 room_edges part ws room e = (
   λ h. let short : ltb (length room) (text_length part) ≡ true = lt-ltb (length room) (text_length part) h in (rw (same, long, short), rw (same, long, short)),
@@ -78,32 +80,30 @@ room_edges part ws room e = (
     long = length_text_of part ws e
 
 -- what is written is an array of the part's length, fits the room, and comes with its length
-pub written_good : (part : Part) (ws room : List ℕ) → (written part ws room).refusal ≡ 0
-    → (length ws ≡ words (geometry_of part)) × (length (text_of part ws) ≤ length room) × ((written part ws room).length ≡ length (text_of part ws))
+pub written_good : (part : Part) (ws room : List ℕ) (size : ℕ) → written part ws room ≡ Ok size
+    → (length ws ≡ words (geometry_of part)) × (length (text_of part ws) ≤ length room) × (size ≡ length (text_of part ws))
 unfolding written
-written_good part ws room = go (eqb (length ws) (words (geometry_of part))) refl (ltb (length room) (length (text_of part ws))) refl
+written_good part ws room size = go (eqb (length ws) (words (geometry_of part))) refl (ltb (length room) (length (text_of part ws))) refl
   where
     n : ℕ
     n = length (text_of part ws)
 
-    answer : Bool → Bool → Written
-    answer s t = cond s (cond t (record { refusal = 17; length = 0 }) (record { refusal = 0; length = n })) (record { refusal = 1; length = 0 })
+    go : (s : Bool) → eqb (length ws) (words (geometry_of part)) ≡ s → (t : Bool) → ltb (length room) n ≡ t
+        → ◌≡◌ {A = Result ℕ Refusal} (cond s (cond t (Err RoomLength) (Ok n)) (Err ArrayLength)) (Ok size)
+        → (length ws ≡ words (geometry_of part)) × (n ≤ length room) × (size ≡ n)
+    go true p true q e = cc
+    go true p false q e = (eqb-true (length ws) (words (geometry_of part)) p, ltb-false (length room) n q, cc)
+    go false p true q e = cc
+    go false p false q e = cc
 
-    go : (s : Bool) → eqb (length ws) (words (geometry_of part)) ≡ s → (t : Bool) → ltb (length room) n ≡ t → (answer s t).refusal ≡ 0
-        → (length ws ≡ words (geometry_of part)) × (n ≤ length room) × ((answer s t).length ≡ n)
-    go true p true q e = absurd (omega arith)
-    go true p false q e = (eqb-true (length ws) (words (geometry_of part)) p, ltb-false (length room) n q, refl)
-    go false p true q e = absurd (omega arith)
-    go false p false q e = absurd (omega arith)
-
-module _ (part : Part) (ws room : List ℕ) (good : (written part ws room).refusal ≡ 0) where
+module _ (part : Part) (ws room : List ℕ) (size : ℕ) (good : written part ws room ≡ Ok size) where
   -- "and places past it stay"
   pub room_whole : room_after part ws room ≡ text_of part ws ++ drop (length (text_of part ws)) room
   unfolding room_after
   room_whole =
       rw good
-      (put_whole {next = advanced (length room) 0 (length (text_of part ws))} (record { room = refl; place = refl }) (written_good part ws room good).1)
+      (put_whole {next = advanced (length room) 0 (length (text_of part ws))} (record { room = refl; place = refl }) (written_good part ws room size good).1)
 
   -- "What is written into lent room comes with its length"
-  pub room_text : take (written part ws room).length (room_after part ws room) ≡ text_of part ws
-  room_text = rw (room_whole, (written_good part ws room good).2) (take-append_seam (text_of part ws) (drop (length (text_of part ws)) room))
+  pub room_text : take size (room_after part ws room) ≡ text_of part ws
+  room_text = rw (room_whole, (written_good part ws room size good).2) (take-append_seam (text_of part ws) (drop (length (text_of part ws)) room))

@@ -1,7 +1,7 @@
 -- Reading a written record: its line, its bytes, that it is not refused, and what it names. Then a text of such records, whatever follows it.
 -- Assumes nothing.
 use Prim.Native.Nat.{ℕ, ◌+◌, ◌*◌, ◌/◌, ◌%◌, ◌<◌, ◌≤◌}
-use Rattle.std.specs.Prelude.{true, false, cond, not, ◌≡◌, refl, eqb, length}
+use Rattle.std.specs.Prelude.{true, false, cond, not, ◌≡◌, refl, eqb, length, None}
 use mathlib.Core.List.{List, [], ◌∷◌, ◌++◌, append_assoc, append-nil}
 use Rattle.std.proofs.Common.{ap, ◌∙◌, arith}
 use Rattle.std.proofs.Math.ListN.{length-append}
@@ -66,7 +66,7 @@ module _ (c o p t : ℕ) (d : List ℕ) (small : Small (c ∷ o ∷ p ∷ t ∷ 
 
   -- it is good if its shape, its type and its addresses are
   line_good : (n upper : ℕ) → shaped t (o * 256 + p) c ≡ true → other_type t ≡ false → o * 256 + p + c ≤ 65536
-      → outside n (cond (eqb t 0) (named_from (upper * 65536 + (o * 256 + p)) d) []) ≡ false → record_refusal n upper (line_of (c ∷ o ∷ p ∷ t ∷ d)) ≡ 0
+      → outside n (cond (eqb t 0) (named_from (upper * 65536 + (o * 256 + p)) d) []) ≡ false → record_refusal n upper (line_of (c ∷ o ∷ p ∷ t ∷ d)) ≡ None
   unfolding record_refusal
   line_good n upper e f h g =
       rw (line_malformed, e, line_sum (c ∷ o ∷ p ∷ t ∷ d) small, line_names upper, g, line_bytes (c ∷ o ∷ p ∷ t ∷ d) small, f, le-ltb 65536 (o * 256 + p + c) h)
@@ -91,7 +91,7 @@ read_then {n} {u} {v} {w} {x} {y} {j} {k} {l} {m} p q = record {
 }
 
 -- one record that is good and no end
-read_record : (bs : List ℕ) {n u v : ℕ} {l : List Named} → record_refusal n u (line_of bs) ≡ 0 → is_end (line_of bs) ≡ false → named_by u (line_of bs) ≡ l
+read_record : (bs : List ℕ) {n u v : ℕ} {l : List Named} → record_refusal n u (line_of bs) ≡ None → is_end (line_of bs) ≡ false → named_by u (line_of bs) ≡ l
     → upper_after u (line_of bs) ≡ v → Read n u (record_text bs) 1 l v
 unfolding refusal_from lines_from named
 read_record bs good on names next = record {

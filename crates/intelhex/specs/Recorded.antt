@@ -1,7 +1,7 @@
 -- The line of a record that is written, and what the reading of such records comes to. The laws are in proofs/Recorded.
 -- Assumes nothing.
 use Prim.Native.Nat.{ℕ, ◌+◌}
-use Rattle.std.specs.Prelude.{◌≡◌}
+use Rattle.std.specs.Prelude.{◌≡◌, None}
 use mathlib.Core.List.{List, [], ◌∷◌, ◌++◌}
 use Rattle.intelhex.specs.Records.{record_lines, Named, refusal_from, lines_from, named}
 use Rattle.intelhex.specs.Text.{digits_of, check_of}
@@ -22,6 +22,6 @@ pub record Read (n upper : ℕ) (text : List ℕ) (k : ℕ) (l : List Named) (ne
 
 -- A whole text of k lines: it is not refused on an array of n bytes, its last line decides, and it names l.
 pub record Whole (n : ℕ) (text : List ℕ) (k : ℕ) (l : List Named) : Type 0 where
-  pub refusal : refusal_from n 0 (record_lines text) ≡ 0
+  pub refusal : refusal_from n 0 (record_lines text) ≡ None
   pub line : lines_from n 0 (record_lines text) ≡ k
   pub names : named 0 (record_lines text) ≡ l

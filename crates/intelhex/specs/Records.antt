@@ -2,12 +2,17 @@
 -- A text, a line and a record are lists of bytes, the array is the list of its words. Definitions only.
 -- Assumes nothing.
 use Rattle.std.specs.Prelude.{ℕ, suc, ◌+◌, ◌-◌, ◌*◌, ◌/◌, ◌%◌, Bool, true, false, not, cond, ◌&&◌, ◌||◌, List, [], ◌∷◌, ◌++◌, eqb, ltb, leb, length, get_or, take, drop}
+use Rattle.std.specs.Prelude.{Option, Some, None, Result, Ok, Err, is_some, is_ok}
+use Rattle.std.specs.Option.{option_or}
+use Rattle.refusal.specs.declared.Refusal.{Refusal}
+use Rattle.refusal.specs.declared.Refusal.TheVariants.{ArrayLength, RecordForm, RecordSum, RecordType, OutsideArray, NoEndRecord}
+use Rattle.refusal.specs.Numbers.{number}
 use Rattle.geometry.specs.declared.Part.{Part}
 use Rattle.geometry.specs.Blocks.{geometry_of, words}
 use Rattle.lines.specs.Lines.{front}
 use Rattle.semantics.specs.Numbers.{within}
 use Rattle.semantics.specs.Tabulate.{tabulate}
-use Rattle.intelhex.specs.declared.Verdict.{Verdict}
+use Rattle.intelhex.specs.declared.BadRecord.{BadRecord}
 
 -- ---- lines
 
@@ -104,11 +109,12 @@ outside n (x ∷ l) = leb n x.address || outside n l
 abbrev pub passes : List ℕ → Bool
 passes line = ltb 65536 (offset line + count line)
 
--- "the lowest number within it": 10, 11, 12, "13 byte outside the array or offset passed", and 0 for a good record
-unfoldable pub record_refusal : ℕ → ℕ → List ℕ → ℕ
+-- "the lowest number within it": 10, 11, 12, "13 byte outside the array or offset passed", and none for a good record
+unfoldable pub record_refusal : ℕ → ℕ → List ℕ → Option Refusal
 record_refusal n upper line =
-    cond (malformed line) 10
-    (cond (sum_wrong line) 11 (cond (other_type (kind line)) 12 (cond (outside n (named_by upper line) || passes line) 13 0)))
+    cond (malformed line) (Some RecordForm)
+    (cond (sum_wrong line) (Some RecordSum)
+    (cond (other_type (kind line)) (Some RecordType) (cond (outside n (named_by upper line) || passes line) (Some OutsideArray) None)))
 
 -- ---- a text
 
@@ -117,14 +123,14 @@ abbrev pub upper_after : ℕ → List ℕ → ℕ
 upper_after upper line = cond (eqb (kind line) 4) (get_or (bytes line) 4 0 * 256 + get_or (bytes line) 5 0) upper
 
 -- "the first bad record deciding"; "14 no end record"
-unfoldable pub refusal_from : ℕ → ℕ → List (List ℕ) → ℕ
-refusal_from n upper [] = 14
-refusal_from n upper (l ∷ ls) = cond (eqb (record_refusal n upper l) 0) (cond (is_end l) 0 (refusal_from n (upper_after upper l) ls)) (record_refusal n upper l)
+unfoldable pub refusal_from : ℕ → ℕ → List (List ℕ) → Option Refusal
+refusal_from n upper [] = Some NoEndRecord
+refusal_from n upper (l ∷ ls) = option_or (record_refusal n upper l) (cond (is_end l) None (refusal_from n (upper_after upper l) ls))
 
 -- how many lines are looked at: the last of them is the bad one, the end record or, where there is neither, the text's last
 unfoldable pub lines_from : ℕ → ℕ → List (List ℕ) → ℕ
 lines_from n upper [] = 0
-lines_from n upper (l ∷ ls) = suc (cond (eqb (record_refusal n upper l) 0) (cond (is_end l) 0 (lines_from n (upper_after upper l) ls)) 0)
+lines_from n upper (l ∷ ls) = suc (cond (is_some (record_refusal n upper l) || is_end l) 0 (lines_from n (upper_after upper l) ls))
 
 -- the bytes that lines name, in order, up to the end record
 unfoldable pub named : ℕ → List (List ℕ) → List Named
@@ -151,13 +157,27 @@ words_after l ws = tabulate (length ws) (word_after l ws)
 abbrev pub size : List ℕ → ℕ
 size ws = 2 * length ws
 
--- 1 "array length is not 256u": "Refusals 1 to 3 come before an added part's own." The line is told beside the refusal
-unfoldable pub verdict : Part → List ℕ → List ℕ → Verdict
+-- how many lines were looked at, told of an accepted text and beside a refusal
+abbrev pub with_line : Option Refusal → ℕ → Result ℕ BadRecord
+with_line None line = Ok line
+with_line (Some r) line = Err (record { refusal = r; line = line })
+
+-- 1 "array length is not 256u": "Refusals 1 to 3 come before an added part's own." There no line is looked at
+unfoldable pub verdict : Part → List ℕ → List ℕ → Result ℕ BadRecord
 verdict part text ws =
     cond (eqb (length ws) (words (geometry_of part)))
-    (record { refusal = refusal_from (size ws) 0 (record_lines text); line = lines_from (size ws) 0 (record_lines text) })
-    (record { refusal = 1; line = 0 })
+    (with_line (refusal_from (size ws) 0 (record_lines text)) (lines_from (size ws) 0 (record_lines text)))
+    (Err (record { refusal = ArrayLength; line = 0 }))
+
+-- the refusal's number, or 0, and the line
+abbrev pub verdict_number : Result ℕ BadRecord → ℕ
+verdict_number (Ok line) = 0
+verdict_number (Err bad) = number bad.refusal
+
+abbrev pub verdict_line : Result ℕ BadRecord → ℕ
+verdict_line (Ok line) = line
+verdict_line (Err bad) = bad.line
 
 -- "A refused file leaves the array as it was."
 unfoldable pub array_read : Part → List ℕ → List ℕ → List ℕ
-array_read part text ws = cond (eqb (verdict part text ws).refusal 0) (words_after (named 0 (record_lines text)) ws) ws
+array_read part text ws = cond (is_ok (verdict part text ws)) (words_after (named 0 (record_lines text)) ws) ws

@@ -1,13 +1,15 @@
 -- Writing Intel HEX: document 02, item 3. What text an array is written as, and what a writing answers. Definitions only.
 -- Assumes nothing.
-use Rattle.std.specs.Prelude.{ℕ, zero, suc, ◌-◌, ◌*◌, ◌/◌, ◌%◌, cond, List, [], ◌∷◌, ◌++◌, eqb, ltb, length, take, drop}
+use Rattle.std.specs.Prelude.{ℕ, zero, suc, ◌-◌, ◌*◌, ◌/◌, ◌%◌, cond, List, [], ◌∷◌, ◌++◌, eqb, ltb, length, take, drop, Result, Ok, Err, is_ok}
+use Rattle.refusal.specs.declared.Refusal.{Refusal}
+use Rattle.refusal.specs.declared.Refusal.TheVariants.{ArrayLength, RoomLength}
+use Rattle.refusal.specs.Numbers.{number}
 use Rattle.geometry.specs.declared.Part.{Part}
 use Rattle.geometry.specs.declared.Part.TheVariants.{FullBottom, FullTop, BenchBottom, BenchTop}
 use Rattle.geometry.specs.Blocks.{geometry_of, words}
 use Rattle.printing.specs.Text.{digit_of}
 use Rattle.printing.specs.Room.{placed}
 use Rattle.intelhex.specs.Records.{total}
-use Rattle.intelhex.specs.declared.Written.{Written}
 
 -- ---- a record
 
@@ -66,12 +68,21 @@ text_of part ws = sixteens (span part) (bytes_of ws) (length ws / 8) ++ end_reco
 -- ---- a writing
 
 -- 1 "array length is not 256u", which comes "before an added part's own", and "17 text too short"; "What is written into lent room comes with its length"
-unfoldable pub written : Part → List ℕ → List ℕ → Written
+unfoldable pub written : Part → List ℕ → List ℕ → Result ℕ Refusal
 written part ws room =
     cond (eqb (length ws) (words (geometry_of part)))
-    (cond (ltb (length room) (length (text_of part ws))) (record { refusal = 17; length = 0 }) (record { refusal = 0; length = length (text_of part ws) }))
-    (record { refusal = 1; length = 0 })
+    (cond (ltb (length room) (length (text_of part ws))) (Err RoomLength) (Ok (length (text_of part ws))))
+    (Err ArrayLength)
 
 -- "and places past it stay"; a refusal "leaves all lent memory"
 unfoldable pub room_after : Part → List ℕ → List ℕ → List ℕ
-room_after part ws room = cond (eqb (written part ws room).refusal 0) (placed room 0 (text_of part ws)) room
+room_after part ws room = cond (is_ok (written part ws room)) (placed room 0 (text_of part ws)) room
+
+-- the refusal's number, or 0, and the length, or 0
+abbrev pub written_number : Result ℕ Refusal → ℕ
+written_number (Ok size) = 0
+written_number (Err refusal) = number refusal
+
+abbrev pub written_length : Result ℕ Refusal → ℕ
+written_length (Ok size) = size
+written_length (Err refusal) = 0
