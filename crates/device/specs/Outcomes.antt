@@ -1,6 +1,7 @@
 -- A device holds a state of the crate semantics and nothing else: what the definitions there say of a state is said here of the device that holds it.
 -- Assumes nothing.
 use Rattle.std.specs.Prelude.{List, ℕ}
+use Rattle.refusal.specs.declared.Refusal.{Refusal}
 use Rattle.semantics.specs.declared.State.{State}
 use Rattle.semantics.specs.declared.Step.{Step}
 use Rattle.semantics.specs.declared.Next.{Next}
@@ -17,7 +18,7 @@ abbrev pub outcome_of : Next → Outcome
 outcome_of n = record { device = holding n.state; answer = n.answer }
 
 -- that of a refused step
-abbrev pub refused : Device → ℕ → Outcome
+abbrev pub refused : Device → Refusal → Outcome
 refused d e = record { device = d; answer = Refused e }
 
 -- the outcome of a step of a device with its counts, and the array and the counts after it

@@ -1,8 +1,8 @@
 -- A step by the refusal that the code found for it: none, and it is accepted; or one, and nothing changes. Laws for the proofs of the methods.
 -- Assumes nothing.
-use Rattle.std.specs.Prelude.{ℕ, List, ◌≡◌, length}
+use Rattle.std.specs.Prelude.{ℕ, List, ◌≡◌, length, Option, Some, None}
 use Rattle.std.proofs.Common.{◌∙◌}
-use borrow.Author.Tests.{eq-eqb, ne_eqb}
+use Rattle.refusal.specs.declared.Refusal.{Refusal}
 use Rattle.semantics.specs.declared.Step.{Step}
 use Rattle.semantics.specs.declared.Step.TheVariants.{Reset}
 use Rattle.semantics.specs.State.{geometry}
@@ -14,30 +14,30 @@ use Rattle.wear.proofs.Refused.{refusal_first}
 use Rattle.device.specs.declared.Device.{Device}
 use Rattle.device.specs.Outcomes.{refused, outcome_of, outcome, array_out, counts_out}
 
-module _ (d : Device) (k : Counts) (xs : List ℕ) (x : Step) (e a b : ℕ) (device : a ≡ refusal_with d.state k (length xs) Reset) (own : b ≡ step_refusal (geometry d.state) x) (found : e ≡ first_refusal a b) where
+module _ (d : Device) (k : Counts) (xs : List ℕ) (x : Step) (e a b : Option Refusal) (device : a ≡ refusal_with d.state k (length xs) Reset) (own : b ≡ step_refusal (geometry d.state) x) (found : e ≡ first_refusal a b) where
   refusal_is : refusal_with d.state k (length xs) x ≡ e
   refusal_is = refusal_first d.state k (length xs) x ∙ rw (← device, ← own, ← found)
 
-  pub outcome_accepted : e ≡ 0 → outcome_of (accepted d.state xs x) ≡ outcome d k xs x
+  pub outcome_accepted : e ≡ None → outcome_of (accepted d.state xs x) ≡ outcome d k xs x
   unfolding step_with
-  outcome_accepted h = rw (refusal_is, eq-eqb e 0 h)
+  outcome_accepted h = rw (refusal_is, h)
 
-  pub outcome_refused : (e ≡ 0 → ⊥) → refused d e ≡ outcome d k xs x
+  pub outcome_refused : (e ≡ None → ⊥) → refused d e ≡ outcome d k xs x
   unfolding step_with
-  outcome_refused h = rw (refusal_is, ne_eqb e 0 h)
+  outcome_refused r h = rw (refusal_is, h)
 
-  pub array_accepted : e ≡ 0 → accepted_array d.state xs x ≡ array_out d k xs x
+  pub array_accepted : e ≡ None → accepted_array d.state xs x ≡ array_out d k xs x
   unfolding array_with
-  array_accepted h = rw (refusal_is, eq-eqb e 0 h)
+  array_accepted h = rw (refusal_is, h)
 
-  pub array_refused : (e ≡ 0 → ⊥) → xs ≡ array_out d k xs x
+  pub array_refused : (e ≡ None → ⊥) → xs ≡ array_out d k xs x
   unfolding array_with
-  array_refused h = rw (refusal_is, ne_eqb e 0 h)
+  array_refused r h = rw (refusal_is, h)
 
-  pub counts_accepted : e ≡ 0 → accepted_counts d.state k x ≡ counts_out d k xs x
+  pub counts_accepted : e ≡ None → accepted_counts d.state k x ≡ counts_out d k xs x
   unfolding counts_with
-  counts_accepted h = rw (refusal_is, eq-eqb e 0 h)
+  counts_accepted h = rw (refusal_is, h)
 
-  pub counts_refused : (e ≡ 0 → ⊥) → k ≡ counts_out d k xs x
+  pub counts_refused : (e ≡ None → ⊥) → k ≡ counts_out d k xs x
   unfolding counts_with
-  counts_refused h = rw (refusal_is, ne_eqb e 0 h)
+  counts_refused r h = rw (refusal_is, h)

@@ -3,14 +3,16 @@
 // counts left.
 #![tactic(auto)]
 
-ghost use Rattle.std.specs.Prelude.{List, ◌≡◌, ℕ};
+ghost use Rattle.std.specs.Prelude.{List, ◌≡◌, ℕ, cond};
 ghost use Rattle.semantics.specs.State.{power_up};
 ghost use Rattle.wear.specs.Counts.{lent, no_counts};
 ghost use Rattle.wear.specs.Steps.{formed_with, refusal_with, reported_with, most_worn_with, erase_count_with};
 ghost use Rattle.device.specs.Outcomes.{holding, refused, outcome, array_out, counts_out};
 
 use geometry::Part;
-use semantics::{Answer, Reported, State, Step};
+use protection::Report;
+use refusal::Refusal;
+use semantics::{Answer, State, Step};
 use wear::Worn;
 
 // All that a device holds is its state. (Methods stand in the crate of their struct; the definitions of the state stand in a crate without code.)
@@ -33,17 +35,26 @@ fn formed_with(s: State, main: &[[u16; 16]; 16]) -> bool
     state::well_formed(s) & wear::shared_zero(main)
 }
 
-// What every step on them is refused for, and a reset for nothing else, beside an array of n words, 0 where for
-// nothing: 1, then 2.
-pub fn refusal_of(s: State, main: &[[u16; 16]; 16], n: usize) -> u32
+// Refused where they are not well formed.
+fn test_formed(s: State, main: &[[u16; 16]; 16]) -> Result<(), Refusal>
+    ensures { (small : List ℕ) → result ≡ cond (formed_with s (lent main.now small)) (Ok tt) (Err Refusal.Malformed) }
+{
+    if formed_with(s, main) {
+        Ok(())
+    } else {
+        Err(Refusal::Malformed)
+    }
+}
+
+// What every step on them is refused for, and a reset for nothing else, beside an array of n words: its length, then the state.
+pub fn refusal_of(s: State, main: &[[u16; 16]; 16], n: usize) -> Option<Refusal>
     ensures { (small : List ℕ) → result ≡ refusal_with s (lent main.now small) n Step.Reset }
 {
-    let part = s.part;
-    state::refusal_beside(part, formed_with(s, main), n)
+    state::refusal_beside(s.part, formed_with(s, main), n)
 }
 
 // A step that is refused: nothing changes.
-fn refused(d: Device, e: u32) -> Outcome
+fn refused(d: Device, e: Refusal) -> Outcome
     ensures { result ≡ refused d e }
 {
     Outcome {
@@ -75,19 +86,14 @@ impl Device {
         ensures { result ≡ outcome self (lent main.now small.now) array.now (Step.Read address) }
     {
         let s = self.state;
-        let part = s.part;
-        let e = state::first_refusal(
-            refusal_of(s, main, array.len()),
-            state::address_refusal(part, address),
-        );
-        if e == 0 {
-            let word = reading::read_word(s, array, address);
-            return Outcome {
-                device: self,
-                answer: Answer::Word(word),
-            };
+        let refusal = refusal_of(s, main, array.len()).or(state::address_refusal(s.part, address));
+        if let Some(e) = refusal {
+            return refused(self, e);
         }
-        refused(self, e)
+        Outcome {
+            device: self,
+            answer: Answer::Word(reading::read_word(s, array, address)),
+        }
     }
 
     // A write of a word to an address: a cycle of a command.
@@ -102,19 +108,16 @@ impl Device {
         ensures { result ≡ outcome self (lent main.now small.now) array.now (Step.Write address word) }
     {
         let s = self.state;
-        let part = s.part;
-        let e = state::first_refusal(
-            refusal_of(s, main, array.len()),
-            state::address_refusal(part, address),
-        );
-        if e == 0 {
-            let next = writing::written(s, address, word);
-            return Outcome {
-                device: Device { state: next },
-                answer: Answer::Done,
-            };
+        let refusal = refusal_of(s, main, array.len()).or(state::address_refusal(s.part, address));
+        if let Some(e) = refusal {
+            return refused(self, e);
         }
-        refused(self, e)
+        Outcome {
+            device: Device {
+                state: writing::written(s, address, word),
+            },
+            answer: Answer::Done,
+        }
     }
 
     // Up to so many units of work.
@@ -130,28 +133,20 @@ impl Device {
         ensures counts { lent main.new small.new ≡ counts_out self (lent main.old small.old) array.old (Step.Work count) }
     {
         let s = self.state;
-        let part = s.part;
-        let c = s.control;
-        let e = state::first_refusal(
-            refusal_of(s, main, array.len()),
-            state::count_refusal(count),
-        );
-        if e == 0 {
-            let mut next = s;
-            let o = working::work(part, c, &mut next.buffer, array, count);
-            let after = o.control;
-            next.control = after;
-            let a = c.activity;
-            let b = after.activity;
-            let was = a.running;
-            let left = b.running;
-            wear::count_finished(main, small, was, left);
-            return Outcome {
-                device: Device { state: next },
-                answer: Answer::Units(o.units),
-            };
+        let refusal = refusal_of(s, main, array.len()).or(state::count_refusal(count));
+        if let Some(e) = refusal {
+            return refused(self, e);
         }
-        refused(self, e)
+        let mut next = s;
+        let worked = working::work(s.part, s.control, &mut next.buffer, array, count);
+        next.control = worked.control;
+        let was = s.control.activity.running;
+        let left = worked.control.activity.running;
+        wear::count_finished(main, small, was, left);
+        Outcome {
+            device: Device { state: next },
+            answer: Answer::Units(worked.units),
+        }
     }
 
     // The supply (VPP) switched on or off: off ends what runs.
@@ -164,35 +159,30 @@ impl Device {
     ) -> Outcome
         ensures { result ≡ outcome self (lent main.now small.now) array.now (Step.Supply on) }
     {
-        let s = self.state;
-        let e = state::first_refusal(refusal_of(s, main, array.len()), 0);
-        if e == 0 {
-            let c = s.control;
-            let mut next = s;
-            let after = state::switch_supply(c, on, &mut next.buffer);
-            next.control = after;
-            return Outcome {
-                device: Device { state: next },
-                answer: Answer::Done,
-            };
+        if let Some(e) = refusal_of(self.state, main, array.len()) {
+            return refused(self, e);
         }
-        refused(self, e)
+        let mut next = self.state;
+        next.control = state::switch_supply(next.control, on, &mut next.buffer);
+        Outcome {
+            device: Device { state: next },
+            answer: Answer::Done,
+        }
     }
 
     // Reset: the power-up state, but for the supply.
     pub fn reset(self, main: &[[u16; 16]; 16], small: &[u16; 4], array: &[u16]) -> Outcome
         ensures { result ≡ outcome self (lent main.now small.now) array.now Step.Reset }
     {
-        let s = self.state;
-        let e = state::first_refusal(refusal_of(s, main, array.len()), 0);
-        if e == 0 {
-            let next = state::reset(s);
-            return Outcome {
-                device: Device { state: next },
-                answer: Answer::Done,
-            };
+        if let Some(e) = refusal_of(self.state, main, array.len()) {
+            return refused(self, e);
         }
-        refused(self, e)
+        Outcome {
+            device: Device {
+                state: state::reset(self.state),
+            },
+            answer: Answer::Done,
+        }
     }
 
     // Any of the five.
@@ -216,65 +206,35 @@ impl Device {
         }
     }
 
-    // How many blocks are unprotected, and the lowest of them, or 259; refused 2 where the state or the counts are not well formed.
-    pub fn report(self, main: &[[u16; 16]; 16], small: &[u16; 4]) -> Reported
+    // How many blocks are unprotected, and the lowest of them, or 259; refused where the state or the counts are not well formed.
+    pub fn report(self, main: &[[u16; 16]; 16], small: &[u16; 4]) -> Result<Report, Refusal>
         ensures { result ≡ reported_with self.state (lent main.now small.now) }
     {
-        let s = self.state;
-        if formed_with(s, main) {
-            let words = s.unprotected;
-            let found = protection::report_of(words);
-            return Reported {
-                refusal: 0,
-                count: found.count,
-                lowest: found.lowest,
-            };
-        }
-        Reported {
-            refusal: 2,
-            count: 0,
-            lowest: 0,
-        }
+        test_formed(self.state, main)?;
+        Ok(protection::report_of(self.state.unprotected))
     }
 
-    // The most worn block, the lowest of them on a tie, and its count; refused 2 as the report above.
-    pub fn most_worn(self, main: &[[u16; 16]; 16], small: &[u16; 4]) -> Worn
+    // The most worn block, the lowest of them on a tie, and its count; refused as the report above.
+    pub fn most_worn(self, main: &[[u16; 16]; 16], small: &[u16; 4]) -> Result<Worn, Refusal>
         ensures { result ≡ most_worn_with self.state (lent main.now small.now) }
     {
-        let s = self.state;
-        if formed_with(s, main) {
-            let block = wear::most_worn(main, small);
-            let count = wear::count_of(main, small, block);
-            return Worn {
-                refusal: 0,
-                block,
-                count: count as u32,
-            };
-        }
-        Worn {
-            refusal: 2,
-            block: 0,
-            count: 0,
-        }
+        test_formed(self.state, main)?;
+        let block = wear::most_worn(main, small);
+        let count = wear::count_of(main, small, block).into();
+        Ok(Worn { block, count })
     }
 
-    // The count of a block, 0 of a number that is no block; refused 2 as the reports above.
-    pub fn erase_count(self, main: &[[u16; 16]; 16], small: &[u16; 4], block: u32) -> Worn
+    // The count of a block, 0 of a number that is no block; refused as the reports above.
+    pub fn erase_count(
+        self,
+        main: &[[u16; 16]; 16],
+        small: &[u16; 4],
+        block: u32,
+    ) -> Result<Worn, Refusal>
         ensures { result ≡ erase_count_with self.state (lent main.now small.now) block }
     {
-        let s = self.state;
-        if formed_with(s, main) {
-            let count = wear::count_of(main, small, block);
-            return Worn {
-                refusal: 0,
-                block,
-                count: count as u32,
-            };
-        }
-        Worn {
-            refusal: 2,
-            block: 0,
-            count: 0,
-        }
+        test_formed(self.state, main)?;
+        let count = wear::count_of(main, small, block).into();
+        Ok(Worn { block, count })
     }
 }

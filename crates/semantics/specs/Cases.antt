@@ -6,7 +6,7 @@ use Rattle.refusal.specs.declared.Refusal.{Refusal}
 use Rattle.refusal.specs.Numbers.{number}
 use Rattle.geometry.specs.declared.Part.{Part}
 use Rattle.geometry.specs.declared.Part.TheVariants.{BenchBottom}
-use Rattle.geometry.specs.Blocks.{mirror, block_from, block_of, bank_of, size_of, start_from, start_of, bank_start, block_offset, bank_offset, bank_of_block, lookup_of}
+use Rattle.geometry.specs.Blocks.{mirror, block_from, block_of, bank_of, size_of, start_from, start_of, bank_start, block_offset, bank_offset, bank_of_block, lookup_of, number_in, block_in, bank_in}
 use Rattle.protection.specs.Words.{bit, bit_at, is_unprotected, with_unprotected, spare_zero, all_protected}
 use Rattle.semantics.specs.declared.Step.{Step}
 use Rattle.semantics.specs.declared.Step.TheVariants.{Read, Write, Work, Supply, Reset}
@@ -66,7 +66,7 @@ abbrev pub refused_report : Refusal → State → Bool
 refused_report d s = elim (reported_of s) [ Ok r ↦ false | Err e ↦ eqb (number e) (number d) ]
 
 abbrev pub holds : Case → Bool
-holds (lies p a b k) = eqb (lookup_of p a).refusal 0 && (eqb (lookup_of p a).block b && eqb (lookup_of p a).bank k)
+holds (lies p a b k) = eqb (number_in (lookup_of p a)) 0 && (eqb (block_in (lookup_of p a)) b && eqb (bank_in (lookup_of p a)) k)
 holds (plays p m l) = plays_out (fresh p (array_in m)) l (λ s. true)
 holds (starts s m l) = plays_out (record { state = s; array = array_in m }) l (λ s. true)
 holds (reports p m l n b) = plays_out (fresh p (array_in m)) l (reported n b)
