@@ -3,7 +3,7 @@
 // counts left.
 #![tactic(auto)]
 
-ghost use Rattle.std.specs.Prelude.{List, ◌≡◌, ℕ, cond};
+ghost use Rattle.std.specs.Prelude.{List, ◌≡◌, ℕ};
 ghost use Rattle.semantics.specs.State.{power_up};
 ghost use Rattle.wear.specs.Counts.{lent, no_counts};
 ghost use Rattle.wear.specs.Steps.{formed_with, refusal_with, reported_with, most_worn_with, erase_count_with};
@@ -33,17 +33,6 @@ fn formed_with(s: State, main: &[[u16; 16]; 16]) -> bool
     ensures { (small : List ℕ) → result ≡ formed_with s (lent main.now small) }
 {
     state::well_formed(s) & wear::shared_zero(main)
-}
-
-// Refused where they are not well formed.
-fn test_formed(s: State, main: &[[u16; 16]; 16]) -> Result<(), Refusal>
-    ensures { (small : List ℕ) → result ≡ cond (formed_with s (lent main.now small)) (Ok tt) (Err Refusal.Malformed) }
-{
-    if formed_with(s, main) {
-        Ok(())
-    } else {
-        Err(Refusal::Malformed)
-    }
 }
 
 // What every step on them is refused for, and a reset for nothing else, beside an array of n words: its length, then the state.
@@ -210,18 +199,18 @@ impl Device {
     pub fn report(self, main: &[[u16; 16]; 16], small: &[u16; 4]) -> Result<Report, Refusal>
         ensures { result ≡ reported_with self.state (lent main.now small.now) }
     {
-        test_formed(self.state, main)?;
-        Ok(protection::report_of(self.state.unprotected))
+        if formed_with(self.state, main) {
+            Ok(protection::report_of(self.state.unprotected))
+        } else {
+            Err(Refusal::Malformed)
+        }
     }
 
     // The most worn block, the lowest of them on a tie, and its count; refused as the report above.
     pub fn most_worn(self, main: &[[u16; 16]; 16], small: &[u16; 4]) -> Result<Worn, Refusal>
         ensures { result ≡ most_worn_with self.state (lent main.now small.now) }
     {
-        test_formed(self.state, main)?;
-        let block = wear::most_worn(main, small);
-        let count = wear::count_of(main, small, block).into();
-        Ok(Worn { block, count })
+        self.erase_count(main, small, wear::most_worn(main, small))
     }
 
     // The count of a block, 0 of a number that is no block; refused as the reports above.
@@ -233,8 +222,11 @@ impl Device {
     ) -> Result<Worn, Refusal>
         ensures { result ≡ erase_count_with self.state (lent main.now small.now) block }
     {
-        test_formed(self.state, main)?;
-        let count = wear::count_of(main, small, block).into();
-        Ok(Worn { block, count })
+        if formed_with(self.state, main) {
+            let count = wear::count_of(main, small, block).into();
+            Ok(Worn { block, count })
+        } else {
+            Err(Refusal::Malformed)
+        }
     }
 }
