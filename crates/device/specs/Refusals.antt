@@ -19,6 +19,11 @@ pub none_left : (o : Option Refusal) → ((e : Refusal) → o ≡ Some e → ⊥
 none_left None h = refl
 none_left (Some e) h = absurd (h e refl)
 
+-- a step without numbers of its own is refused for what every step is
+pub none_own : (o : Option Refusal) → o ≡ first_refusal o None
+none_own None = refl
+none_own (Some e) = refl
+
 module _ (d : Device) (k : Counts) (xs : List ℕ) (x : Step) (e a b : Option Refusal) (device : a ≡ refusal_with d.state k (length xs) Reset) (own : b ≡ step_refusal (geometry d.state) x) (found : e ≡ first_refusal a b) where
   refusal_is : refusal_with d.state k (length xs) x ≡ e
   refusal_is = refusal_first d.state k (length xs) x ∙ rw (← device, ← own, ← found)

@@ -1,0 +1,16 @@
+-- `Device::write` meets its contract: the step by the refusal that was found. Assumes nothing.
+use Rattle.std.proofs.Common.{◌∙◌, sym, refl}
+use Rattle.semantics.specs.declared.Step.TheVariants.{Write}
+use Rattle.semantics.specs.Card.{given, card}
+use Rattle.semantics.specs.Split.{step_refusal}
+use Rattle.semantics.specs.Steps.{accepted}
+use Rattle.device.specs.Refusals.{none_left, outcome_accepted, outcome_refused}
+use Rattle.device.proofs.Device.write.Goals as goal
+
+pub returns : goal.returns
+unfolding accepted card step_refusal
+returns c = rw c.written.ensures (outcome_accepted _ _ _ (Write _ _) _ _ _ (c.refusal_of.ensures _) c.address_refusal.ensures c.or-refusal.ensures (none_left _ c.in_default.not-Some))
+
+pub returns-in-Some : goal.returns-in-Some
+unfolding card step_refusal
+returns-in-Some c = c.refused.ensures ∙ outcome_refused _ _ _ (Write _ _) _ _ _ (c.refusal_of.ensures _) c.address_refusal.ensures c.or-refusal.ensures _ c.in-Some.is
