@@ -1,8 +1,9 @@
 -- Laws of playing a list step by step. Assumes nothing.
 use Rattle.std.specs.Prelude.{ℕ, zero, suc, ◌+◌, ◌≤◌, ◌<◌, List, [], ◌∷◌, ◌++◌, ◌≡◌, Bool, length, get_or, take, set, Option, Some, None}
 use Rattle.std.proofs.Math.Path.{refl}
-use Rattle.std.proofs.Common.{sym, ap, ◌∙◌, subst, arith, add-one, length-set, ne_eqb}
+use Rattle.std.proofs.Common.{sym, ap, ◌∙◌, subst, arith, add-one, length-set}
 use Rattle.std.proofs.Math.Seq.{take-length}
+use Rattle.refusal.specs.declared.Refusal.{Refusal}
 use Rattle.geometry.specs.declared.Part.{Part}
 use Rattle.geometry.specs.declared.Geometry.{Geometry}
 use Rattle.geometry.specs.Blocks.{geometry_of}
@@ -182,13 +183,13 @@ played_as d k codes room xs i i' s s' l l' a a' y y' e f g h j p = rw (e, f, g, 
 
 -- ---- the loop, with the one test of the state, its counts and the array
 
-pub record Going (c : ℕ) (s₀ : State) (k₀ : Counts) (codes room xs : List ℕ) (i : ℕ) (s : State) (k : Counts) (answers array : List ℕ) : Type 0 where
+pub record Going (c : Option Refusal) (s₀ : State) (k₀ : Counts) (codes room xs : List ℕ) (i : ℕ) (s : State) (k : Counts) (answers array : List ℕ) : Type 0 where
   pub sofar : Sofar (holding s₀) k₀ codes room xs i (holding s) k answers array
   pub held : Held c s k array
   pub room_long : length answers ≡ length room
   pub array_long : length array ≡ length xs
 
-pub going_none : (c : ℕ) (s : State) (k : Counts) (codes room xs : List ℕ) → Held c s k xs → Going c s k codes room xs 0 s k room xs
+pub going_none : (c : Option Refusal) (s : State) (k : Counts) (codes room xs : List ℕ) → Held c s k xs → Going c s k codes room xs 0 s k room xs
 going_none c s k codes room xs r = record { sofar = sofar_none (holding s) k codes room xs; held = r; room_long = refl; array_long = refl }
 
 -- ---- a turn: the number at hand is played, by the task that it asks
@@ -198,7 +199,7 @@ abbrev pub Plays : State → Counts → List ℕ → ℕ → State → Answer �
 Plays s k xs code t a ys l = (x : Step) × ((decode code ≡ Some x) × Does s k xs x t a ys l)
 
 -- one number more
-pub going_on : (c : ℕ) (s₀ : State) (k₀ : Counts) (codes room xs : List ℕ) (i : ℕ) (s : State) (k : Counts) (answers array : List ℕ) (t : State) (a : Answer) (ys : List ℕ) (l : Counts)
+pub going_on : (c : Option Refusal) (s₀ : State) (k₀ : Counts) (codes room xs : List ℕ) (i : ℕ) (s : State) (k : Counts) (answers array : List ℕ) (t : State) (a : Answer) (ys : List ℕ) (l : Counts)
     → Going c s₀ k₀ codes room xs i s k answers array → i < length codes → i < length room → Plays s k array (get_or codes i 0) t a ys l → Going c s₀ k₀ codes room xs (suc i) t l (set answers i (answer_code a)) ys
 going_on c s₀ k₀ codes room xs i s k answers array t a ys l g p q f =
     let x : Step = f.0 in
@@ -211,14 +212,13 @@ going_on c s₀ k₀ codes room xs i s k answers array t a ys l g p q f =
     }
 
 -- as the code says it: the next place is one more, and the number r that is written is the answer's
-pub going_turn : (c : ℕ) (s₀ : State) (k₀ : Counts) (codes room xs : List ℕ) (i : ℕ) (s : State) (k : Counts) (answers array : List ℕ) (t : State) (a : Answer) (ys : List ℕ) (l : Counts) (r : ℕ)
+pub going_turn : (c : Option Refusal) (s₀ : State) (k₀ : Counts) (codes room xs : List ℕ) (i : ℕ) (s : State) (k : Counts) (answers array : List ℕ) (t : State) (a : Answer) (ys : List ℕ) (l : Counts) (r : ℕ)
     → r ≡ answer_code a → Going c s₀ k₀ codes room xs i s k answers array → i < length codes → i < length room → Plays s k array (get_or codes i 0) t a ys l → Going c s₀ k₀ codes room xs (i + 1) t l (set answers i r) ys
 going_turn c s₀ k₀ codes room xs i s k answers array t a ys l r e g p q f = rw (add-one, e) (going_on c s₀ k₀ codes room xs i s k answers array t a ys l g p q f)
 
 -- a number that encodes a step, on a device that is refused whatever the step is
-pub all_refused : (c : ℕ) (g : Geometry) (code : ℕ) (x : Step) → decode code ≡ Some x → (c ≡ 0 → ⊥) → Means c g code (task.Refused c)
-unfolding first_refusal
-all_refused c g code x e h = (x, (e, rw (ne_eqb c 0 h), h))
+pub all_refused : (c : Refusal) (g : Geometry) (code : ℕ) (x : Step) → decode code ≡ Some x → Means (Some c) g code (task.Refused c)
+all_refused c g code x e = (x, (e, refl))
 
 -- a reset, piece by piece: the part stays
 pub reset_pieces : (q : Part) (z : State) (on : Bool) → z ≡ with_supply (power_up q) on
@@ -227,12 +227,12 @@ unfolding power_up
 reset_pieces q z on e = λ j. record { part = q; banks = (e j).banks; unprotected = (e j).unprotected; control = (e j).control; buffer = (e j).buffer }
 
 -- a write names a bank of the part
-pub write_bank : (c : ℕ) (q : Part) (code : ℕ) (p : Place) (w : ℕ) → Means c (geometry_of q) code (task.Write p w) → p.bank < 16
+pub write_bank : (c : Option Refusal) (q : Part) (code : ℕ) (p : Place) (w : ℕ) → Means c (geometry_of q) code (task.Write p w) → p.bank < 16
 write_bank c q code p w m = rw m.1.0 (part_bank_lt q _ (location_lt (geometry_of q) (sound q) m.0))
 
-module _ (c : ℕ) (s : State) (k : Counts) (xs : List ℕ) (r : Held c s k xs) (code : ℕ) (t : State) (a : Answer) (ys : List ℕ) (w : Counts) where
-  pub plays_refused : (e : ℕ) → Means c (geometry s) code (task.Refused e) → t ≡ s → a ≡ Refused e → ys ≡ xs → w ≡ k → Plays s k xs code t a ys w
-  plays_refused e m i j h z = (m.0, (m.1.0, does_refused c s k xs r m.0 _ e refl (sym m.1.1) t a ys w m.1.2 i j h z))
+module _ (c : Option Refusal) (s : State) (k : Counts) (xs : List ℕ) (r : Held c s k xs) (code : ℕ) (t : State) (a : Answer) (ys : List ℕ) (w : Counts) where
+  pub plays_refused : (e : Refusal) → Means c (geometry s) code (task.Refused e) → t ≡ s → a ≡ Refused e → ys ≡ xs → w ≡ k → Plays s k xs code t a ys w
+  plays_refused e m i j h z = (m.0, (m.1.0, does_refused c s k xs r m.0 _ _ refl refl t a ys w e m.1.1 i j h z))
 
   pub plays_read : (b v : ℕ) → Means c (geometry s) code (task.Read b) → v ≡ read_word s xs b → t ≡ s → a ≡ Word v → ys ≡ xs → w ≡ k → Plays s k xs code t a ys w
   plays_read b v m i j h l z = (Read b, (m.0, does_read c s k xs r (Read b) _ _ refl refl t a ys w b v m.1 refl i j h l z))

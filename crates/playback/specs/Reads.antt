@@ -1,6 +1,8 @@
 -- Short lists of reads, and that they change nothing. Assumes nothing.
-use Rattle.std.specs.Prelude.{ℕ, zero, suc, ◌<◌, ◌/◌, ◌%◌, Bool, true, false, cond, ◌&&◌, List, [], ◌∷◌, ◌≡◌, refl, eqb, ltb, leb, length, get_or, drop, Some}
+use Rattle.std.specs.Prelude.{ℕ, zero, suc, ◌<◌, ◌/◌, ◌%◌, Bool, true, false, cond, ◌&&◌, List, [], ◌∷◌, ◌≡◌, refl, eqb, ltb, leb, length, get_or, drop, Option, Some, None}
 use Rattle.std.proofs.Common.{ap, ◌∙◌, arith, drop-cons, ltb-true}
+use Rattle.std.specs.Option.{option_map_or}
+use Rattle.refusal.specs.declared.Refusal.{Refusal}
 use Rattle.semantics.specs.declared.State.{State}
 use Rattle.semantics.specs.declared.Step.TheVariants.{Read}
 use Rattle.semantics.specs.declared.Answer.TheVariants.{Refused}
@@ -38,7 +40,7 @@ decode_read c h =
 -- a read leaves the device, its counts and the array, refused or not
 read_leaves : (m : Counted) (a : ℕ) → after_with m (Read a) ≡ m
 unfolding step_with array_with counts_with accepted accepted_array accepted_counts
-read_leaves m a = go (eqb (refusal_with m.machine.state m.counts (length m.machine.array) (Read a)) 0)
+read_leaves m a = go (refusal_with m.machine.state m.counts (length m.machine.array) (Read a))
   where
     s : State
     s = m.machine.state
@@ -46,11 +48,11 @@ read_leaves m a = go (eqb (refusal_with m.machine.state m.counts (length m.machi
     xs : List ℕ
     xs = m.machine.array
 
-    go : (b : Bool)
-        → beside (cond b (accepted s xs (Read a)) (next s (Refused (refusal_with s m.counts (length xs) (Read a))))).state
-        (cond b (accepted_array s xs (Read a)) xs) (cond b (accepted_counts s m.counts (Read a)) m.counts) ≡ m
-    go true = refl
-    go false = refl
+    go : (o : Option Refusal)
+        → beside (option_map_or (λ e. next s (Refused e)) o (accepted s xs (Read a))).state
+        (option_map_or (λ e. xs) o (accepted_array s xs (Read a))) (option_map_or (λ e. m.counts) o (accepted_counts s m.counts (Read a))) ≡ m
+    go None = refl
+    go (Some e) = refl
 
 -- and so do those of a list
 pub reads_leave : (codes : List ℕ) (n : ℕ) (m : Counted) → all_reads codes ≡ true → after_all_with m (playable codes n) ≡ m

@@ -1,10 +1,9 @@
 -- What a number asks of a list, and what that comes to: the step that the number encodes, and whether it is refused. Assumes nothing.
-use Rattle.std.specs.Prelude.{ℕ, Bool, cond, ◌≡◌, Option, Some, None}
-use Rattle.std.proofs.Math.Bool.{true, false}
+use Rattle.std.specs.Prelude.{ℕ, Bool, ◌≡◌, Option, Some, None}
+use Rattle.std.specs.Option.{option_map_or}
 use Rattle.std.proofs.Math.Path.{refl}
 use Rattle.std.proofs.Common.{sym, subst}
-use Rattle.std.proofs.Math.Dec.{eqb}
-use borrow.Author.Tests.{eqb-true, eqb-false}
+use Rattle.refusal.specs.declared.Refusal.{Refusal}
 use Rattle.geometry.specs.declared.Geometry.{Geometry}
 use Rattle.semantics.specs.declared.Step.{Step}
 use Rattle.semantics.specs.declared.Step.TheVariants.{Read, Write, Work, Supply, Reset}
@@ -23,23 +22,23 @@ allowed g (Supply on) = task.Supply on
 allowed g Reset = task.Reset
 
 -- by what the number encodes, where c is what the state, its counts and the array are refused for
-abbrev pub task_by : ℕ → Geometry → Option Step → Task
-task_by c g (Some x) = cond (eqb c 0) (cond (eqb (step_refusal g x) 0) (allowed g x) (task.Refused (step_refusal g x))) (task.Refused c)
+abbrev pub task_by : Option Refusal → Geometry → Option Step → Task
+task_by c g (Some x) = option_map_or task.Refused (first_refusal c (step_refusal g x)) (allowed g x)
 task_by c g None = task.End
 
-abbrev pub task_of : ℕ → Geometry → ℕ → Task
+abbrev pub task_of : Option Refusal → Geometry → ℕ → Task
 task_of c g code = task_by c g (decode code)
 
 -- ---- what a task comes to
 
-module _ (c : ℕ) (g : Geometry) (code : ℕ) where
+module _ (c : Option Refusal) (g : Geometry) (code : ℕ) where
   -- the number encodes the step x, and it is not refused
   abbrev pub Asks : Step → Type 0
-  Asks x = (decode code ≡ Some x) × (first_refusal c (step_refusal g x) ≡ 0)
+  Asks x = (decode code ≡ Some x) × (first_refusal c (step_refusal g x) ≡ None)
 
   abbrev pub Means : Task → Type 0
   Means task.End = decode code ≡ None
-  Means (task.Refused e) = (x : Step) × ((decode code ≡ Some x) × (first_refusal c (step_refusal g x) ≡ e) × (e ≡ 0 → ⊥))
+  Means (task.Refused e) = (x : Step) × ((decode code ≡ Some x) × (first_refusal c (step_refusal g x) ≡ Some e))
   Means (task.Read a) = Asks (Read a)
   Means (task.Write p w) = (a : ℕ) × ((p ≡ place_of g a) × Asks (Write a w))
   Means (task.Work n) = Asks (Work n)
@@ -54,13 +53,11 @@ module _ (c : ℕ) (g : Geometry) (code : ℕ) where
   allowed_means Reset h = h
 
   valid_means : (x : Step) → decode code ≡ Some x → Means (task_by c g (Some x))
-  unfolding first_refusal
-  valid_means x q = go (eqb c 0) (eqb (step_refusal g x) 0) refl refl
+  valid_means x q = go (first_refusal c (step_refusal g x)) refl
     where
-      go : (s t : Bool) → eqb c 0 ≡ s → eqb (step_refusal g x) 0 ≡ t → Means (cond s (cond t (allowed g x) (task.Refused (step_refusal g x))) (task.Refused c))
-      go true true e f = allowed_means x (q, rw e (eqb-true (step_refusal g x) 0 f))
-      go true false e f = (x, (q, rw e, eqb-false (step_refusal g x) 0 f))
-      go false t e f = (x, (q, rw e, eqb-false c 0 e))
+      go : (o : Option Refusal) → first_refusal c (step_refusal g x) ≡ o → Means (option_map_or task.Refused o (allowed g x))
+      go None e = allowed_means x (q, e)
+      go (Some d) e = (x, (q, e))
 
   pub task_means : (t : Task) → t ≡ task_of c g code → Means t
   task_means t e = subst Means (sym e) (go (decode code) refl)

@@ -16,6 +16,7 @@ ghost use Rattle.playback.specs.Reads.{few_reads};
 
 use device::Device;
 use geometry::Part;
+use refusal::Refusal;
 use semantics::{Activity, Answer, Bank, Control, Mode, Place, Running, Setup, State, Step, View};
 use working::Progress;
 use writing::Change;
@@ -31,7 +32,7 @@ pub struct RunEnd {
 #[derive(Clone, Copy)]
 pub enum Task {
     End,
-    Refused(u32),
+    Refused(Refusal),
     Read(u32),
     Write(Place, u16),
     Work(u32),
@@ -67,7 +68,7 @@ pub fn answer_code(a: Answer) -> u64
         Answer::Word(w) => w as u64,
         Answer::Units(n) => n as u64,
         Answer::Done => 0,
-        Answer::Refused(n) => (n as u64) * 4294967296,
+        Answer::Refused(e) => u64::from(u32::from(e)) * 4294967296,
     }
 }
 
@@ -84,21 +85,17 @@ fn allowed(part: Part, x: Step) -> Task
     }
 }
 
-// What a number asks, where `refused` is what the state, its counts and the array are refused for.
-fn task_of(refused: u32, part: Part, code: u64) -> Task
-    ensures { result ≡ task_of refused (geometry_of part) code }
+// What a number asks of a state that is well formed, with its counts, beside an array of the part's length.
+fn task_of(part: Part, code: u64) -> Task
+    ensures { result ≡ task_of None (geometry_of part) code }
 {
     let Some(x) = decoded(code) else {
         return Task::End;
     };
-    if refused != 0 {
-        return Task::Refused(refused);
+    match state::step_refusal(part, x) {
+        Some(e) => Task::Refused(e),
+        None => allowed(part, x),
     }
-    let e = state::step_refusal(part, x);
-    if e == 0 {
-        return allowed(part, x);
-    }
-    Task::Refused(e)
 }
 
 // ---- the pieces of a state
@@ -128,8 +125,8 @@ pub fn few_reads(steps: &[u64]) -> bool
 }
 
 // A list on a device that is refused whatever the step is: each number that encodes a step is answered by that refusal, up to the first that encodes none. How many there are.
-fn refuse(refused: u32, steps: &[u64], answers: &mut [u64]) -> usize
-    ensures { (s : State) (k : Counts) (xs : List ℕ) → Held refused s k xs → (refused ≡ 0 → ⊥) → Played (holding s) k steps.now answers.old xs (record { played = result; device = holding s }) k answers.new xs }
+fn refuse(refused: Refusal, steps: &[u64], answers: &mut [u64]) -> usize
+    ensures { (s : State) (k : Counts) (xs : List ℕ) → Held (Some refused) s k xs → Played (holding s) k steps.now answers.old xs (record { played = result; device = holding s }) k answers.new xs }
 {
     let n = steps.len().min(answers.len());
     for i in 0..n {
@@ -164,11 +161,11 @@ pub fn run(
     let formed = state::formed_of(part, control, unprotected, buffer) & wear::shared_zero(main);
     let refused = state::refusal_beside(part, formed, array.len());
     let mut played = steps.len().min(answers.len());
-    if refused != 0 {
-        played = refuse(refused, steps, answers);
+    if let Some(e) = refused {
+        played = refuse(e, steps, answers);
     } else {
         for i in 0..played {
-            let task = task_of(0, part, steps[i]);
+            let task = task_of(part, steps[i]);
             let mut answer = Answer::Done;
             match task {
                 Task::End => {
