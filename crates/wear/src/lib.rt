@@ -101,6 +101,7 @@ pub fn clear(main: &mut [[u16; 16]; 16], small: &mut [u16; 4])
 pub fn most_worn(main: &[[u16; 16]; 16], small: &[u16; 4]) -> u32
     ensures { result ≡ most_worn (lent main.now small.now) }
 {
+    // By a loop: `max_by_key` gives the highest number on a tie.
     let mut block = 0;
     let mut most = count_of(main, small, 0);
     for b in 1..259 {

@@ -1,11 +1,8 @@
 -- `wear::most_worn` meets its contract. The invariant: of the blocks looked at, the one held is the first of the greatest counts. Assumes nothing.
 use mathlib.Core.Path.{◌≡◌}
 use native.Mathlib.Omega.{arith}
-use Rattle.wear.specs.Most.{first_one, most_first}
+use Rattle.wear.specs.Most.{most_first}
 use Rattle.wear.proofs.most_worn.Goals as goal
-
-pub loop-b-init : goal.loop-b-init
-loop-b-init c = (first_one _, c.count_of-most.ensures, omega arith)
 
 pub returns : goal.returns
 returns c =

@@ -1,5 +1,5 @@
 -- `wear::most_worn` meets its contract. The invariant: of the blocks looked at, the one held is the first of the greatest counts. Assumes nothing.
-use Prim.Native.Nat.{◌-◌, ◌≤◌}
+use Prim.Native.Nat.{◌≤◌}
 use mathlib.Core.Path.{◌≡◌}
 use Rattle.wear.specs.Counts.{lent, count_of}
 use Rattle.wear.specs.Most.{First}
@@ -7,6 +7,3 @@ use Rattle.wear.proofs.most_worn.Given as goal
 
 abbrev pub invariant-loop-b : goal.invariant-loop-b
 invariant-loop-b l = First (count_of (lent l.main l.small)) l.b l.block × (l.most ≡ count_of (lent l.main l.small) l.block) × (l.b ≤ 259)
-
-abbrev pub decreases-loop-b : goal.decreases-loop-b
-decreases-loop-b l = 259 - l.b
