@@ -23,7 +23,8 @@ pub fn is_unprotected(words: &[u64; 5], block: u32) -> bool
     block < BLOCKS && (words[(block / 64) as usize] >> (block % 64)) % 2 == 1
 }
 
-// Unprotects a block, or protects it; one that is so already is left, and where the compiler sees that it is, there is nothing to do.
+// Unprotects a block, or protects it; one that is so already is left, and where the compiler sees that it is, there is
+// nothing to do.
 pub fn set_block(words: &mut [u64; 5], block: u32, value: bool)
     ensures { words.new ≡ with_unprotected words.old block value }
 {
