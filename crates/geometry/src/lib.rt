@@ -1,5 +1,6 @@
 // The words, blocks and banks of a part: document 01, "Words, blocks, banks".
-// Each public function takes every number: one that is no block, bank or location has the answer that its definition gives it.
+// Each public function takes every number: one that is no block, bank or location has the answer that its definition
+// gives it.
 #![tactic(auto)]
 
 ghost use Rattle.std.specs.Prelude.{◌≡◌, true, cond, ◌+◌, ◌-◌, ◌<◌, ◌≤◌, ◌⊎◌, IfOk, IfErr};
@@ -111,7 +112,8 @@ struct Shifts {
     bank: u32,
 }
 
-// A quotient by bits is a shift, whatever the part, and takes no jump; by a number of the geometry it would be a division.
+// A quotient by bits is a shift, whatever the part, and takes no jump; by a number of the geometry it would be a
+// division.
 fn shifts_of(part: Part) -> Shifts
     ensures unit { result.unit ≡ unit_bits part }
     ensures small { result.small ≡ small_bits part }
@@ -277,7 +279,8 @@ pub fn bank_of_block(part: Part, block: u32) -> u32
 
 // ---- the table of block starts: document 02, item 7
 
-// The start locations of the blocks of the full bottom part, from block 0 on: the starts, not the ends, in the sheet's Tables 32 to 34.
+// The start locations of the blocks of the full bottom part, from block 0 on: the starts, not the ends, in the sheet's
+// Tables 32 to 34. They are searched where they lie.
 static STARTS: [u32; 259] = [
     0x000000, 0x004000, 0x008000, 0x00C000, 0x010000, 0x020000, 0x030000, 0x040000, 0x050000,
     0x060000, 0x070000, 0x080000, 0x090000, 0x0A0000, 0x0B0000, 0x0C0000, 0x0D0000, 0x0E0000,
@@ -382,7 +385,7 @@ pub fn part_numbered(n: u32) -> Part
     Part::try_from(n).unwrap_or(Part::BenchTop)
 }
 
-// The lookup of the host bench: the block and the bank of an address. The address is refused before the part, of which the number is higher.
+// The lookup of the host bench: the block and the bank of an address, which is refused before the part.
 pub fn look_up(part: u32, address: u32) -> Result<Located, Refusal>
     ensures value { result ≡ lookup_of part address }
     ensures refusals { IfErr result (λ e. (e ≡ Refusal.Address) ⊎ (e ≡ Refusal.NoPart)) }

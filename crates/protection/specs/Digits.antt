@@ -262,3 +262,22 @@ with_own w k v h = digits_same (w + suc k) (with_bit w k v) w (with_lt (w + suc 
         go : (i ≡ k) ⊎ (i ≢ k) → bit (with_bit w k v) i ≡ bit w i
         go (inl e) = rw e (with_same w k v ∙ sym h)
         go (inr e) = with_other w k i v e
+
+-- ---- a digit that is given what it has not: it is turned round, and no other
+
+pub turned : (w k : ℕ) (v : Bool) → bit w k ≡ cond v 0 1 → with_bit w k v ≡ bit_xor w (2 ^ k)
+turned w k false h = ap (λ (x : ℕ). bit_xor x (2 ^ k)) (with_own w k true h)
+turned w k true h = digits_same (w + suc k) (bit_or w (2 ^ k)) (bit_xor w (2 ^ k)) (with_lt (w + suc k) w k true l (omega arith)) (xor_lt (w + suc k) w (2 ^ k) l (pow-lt m)) each
+  where
+    m : k < w + suc k
+    m = omega arith
+
+    l : w < 2 ^ (w + suc k)
+    l = let n : w < w + suc k = omega arith in omega (arith, lt_pow w, pow-lt n)
+
+    each : (i : ℕ) → bit (bit_or w (2 ^ k)) i ≡ bit (bit_xor w (2 ^ k)) i
+    each i = go (same i k)
+      where
+        go : (i ≡ k) ⊎ (i ≢ k) → bit (bit_or w (2 ^ k)) i ≡ bit (bit_xor w (2 ^ k)) i
+        go (inl e) = rw e (or_same w k ∙ ap (λ (x : ℕ). max x 1) h ∙ sym (bit_xor_lem w (2 ^ k) k ∙ ap₂ differ h (bit_pow_same k)))
+        go (inr e) = or_other w k i e ∙ sym (bit_xor_lem w (2 ^ k) i ∙ ap (differ (bit w i)) (bit_pow_other k i e) ∙ differ_zero (bit w i))

@@ -20,68 +20,38 @@ pub struct Report {
 pub fn is_unprotected(words: &[u64; 5], block: u32) -> bool
     ensures { result ≡ is_unprotected words.now block }
 {
-    if block >= BLOCKS {
-        return false;
-    }
-    let w = words[(block / 64) as usize];
-    (w >> (block % 64)) % 2 == 1
+    block < BLOCKS && (words[(block / 64) as usize] >> (block % 64)) % 2 == 1
 }
 
-// Unprotects a block, or protects it; one that is so already is left, and where the compiler sees that it is, there is nothing to do.
+// Unprotects a block, or protects it; one that is so already is left, and where the compiler sees that it is, there is
+// nothing to do.
 pub fn set_block(words: &mut [u64; 5], block: u32, value: bool)
     ensures { words.new ≡ with_unprotected words.old block value }
 {
-    if block >= BLOCKS {
-        return;
-    }
-    let on = is_unprotected(words, block);
-    let i = (block / 64) as usize;
-    let m: u64 = 1 << (block % 64);
-    let w = words[i] | m;
-    if value {
-        if on {
-            return;
-        }
-        words[i] = w;
-    } else {
-        if on {
-            words[i] = w ^ m;
-        }
+    if block < BLOCKS && is_unprotected(words, block) != value {
+        words[(block / 64) as usize] ^= 1 << (block % 64);
     }
 }
 
 // The words with the spare bits at zero: the last word has three blocks.
-fn without_spare(words: [u64; 5]) -> [u64; 5]
+fn without_spare(mut words: [u64; 5]) -> [u64; 5]
     ensures { result ≡ without_spare words }
 {
-    let mut kept = words;
-    kept[4] = kept[4] % 8;
-    kept
+    words[4] %= 8;
+    words
 }
 
-// The report of unprotected blocks. The lowest stays at 64 * i as long as no block of the first i words is unprotected.
+// The report of unprotected blocks: the ones of each word, and the trailing zeros of the first word that has a one.
 pub fn report_of(words: [u64; 5]) -> Report
     ensures { result ≡ report_of words }
 {
     let kept = without_spare(words);
-    let mut count: u32 = 0;
-    let mut lowest: u32 = 0;
-    let mut i: u32 = 0;
-    while i < 5 {
-        let w = kept[i as usize];
-        count += u64::count_ones(w);
-        if lowest == 64 * i {
-            lowest += u64::trailing_zeros(w);
-        }
-        i += 1;
-    }
-    if lowest < BLOCKS {
-        return Report { count, lowest };
-    }
-    Report {
-        count,
-        lowest: BLOCKS,
-    }
+    let count = kept.iter().map(|w| w.count_ones()).sum();
+    let lowest = match kept.iter().position(|w| *w != 0) {
+        Some(i) => 64 * i as u32 + kept[i].trailing_zeros(),
+        None => BLOCKS,
+    };
+    Report { count, lowest }
 }
 
 // Whether the spare bits are zero.

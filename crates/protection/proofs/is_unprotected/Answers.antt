@@ -3,10 +3,10 @@ use borrow.Author.Tests.{lt-ltb, le-ltb}
 use Rattle.protection.specs.Words.{bit, bit_at, is_unprotected}
 use Rattle.protection.proofs.is_unprotected.Goals as goal
 
-pub returns-then-block-ge-BLOCKS : goal.returns-then-block-ge-BLOCKS
-unfolding is_unprotected
-returns-then-block-ge-BLOCKS c = rw (le-ltb _ _ c.if-block-ge-BLOCKS.true)
-
-pub returns : goal.returns
+pub returns-then-block-lt-BLOCKS : goal.returns-then-block-lt-BLOCKS
 unfolding is_unprotected bit_at bit
-returns c = rw (lt-ltb _ _ c.if-block-ge-BLOCKS.false)
+returns-then-block-lt-BLOCKS c = rw (lt-ltb _ _ c.if-block-lt-BLOCKS.true)
+
+pub returns-else-block-lt-BLOCKS : goal.returns-else-block-lt-BLOCKS
+unfolding is_unprotected
+returns-else-block-lt-BLOCKS c = rw (le-ltb _ _ c.if-block-lt-BLOCKS.false)
