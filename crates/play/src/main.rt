@@ -5,64 +5,39 @@
 // could not be written whole is said to be cut. A line that begins `play: warning: ` says what the transcript does not, and changes no status.
 #![tactic(auto)]
 
-ghost use Rattle.std.specs.Prelude.{◌≡◌, ◌+◌, ◌<◌, ◌≤◌, ◌↔◌, length, take, slice_index, SomeIndex, IsNone, IsTrue, OnOk};
+ghost use Rattle.std.specs.Prelude.{◌≡◌, ◌+◌, ◌<◌, ◌≤◌, ◌↔◌, length, take, slice_index, SomeIndex, IsTrue, OnOk, IfOk, IfErr, ℕ};
 ghost use Rattle.std.specs.Io.KnownBytes.{Appends, Consumes, IsAtEnd};
 
 use std::io::{Read, Write};
 use std::process::ExitCode;
 use std::{io, str};
 
-// How many bytes of the input there are, and the error of a read that failed.
-#[derive(Drop)]
-struct Input {
-    count: usize,
-    failed: Option<io::Error>,
-}
-
-// Reads until the text is full, the input ends or a read fails. A read that gives fewer bytes than there is room for is not the end.
-fn read_text<R: Read>(input: &mut R, text: &mut [u8]) -> Input
-    ensures count { result.count ≤ length text.new }
+// Reads until the text is full or the input ends, and gives the number of bytes. A read that gives fewer bytes than
+// there is room for is not the end.
+fn read_text<R: Read>(input: &mut R, text: &mut [u8]) -> io::Result<usize>
+    ensures count { IfOk result (λ n. n ≤ length text.new) }
     // where the bytes that the reader has left are known: the text begins with those that it gave
-    ensures bytes { Consumes (R.remaining input.old) (R.remaining input.new) (take result.count text.new) }
-    // and where no read failed and there is room left, none are left
-    ensures whole { IsNone result.failed → result.count < length text.new → IsAtEnd (R.remaining input.new) }
+    ensures bytes { IfOk result (λ n. Consumes (R.remaining input.old) (R.remaining input.new) (take n text.new)) }
+    // and where there is room left, none are left
+    ensures whole { IfOk result (λ n. n < length text.new → IsAtEnd (R.remaining input.new)) }
+    // and where a read failed, too, the text begins with those that it gave
+    ensures failed { IfErr result (λ _. (n : ℕ) × (n ≤ length text.new) × Consumes (R.remaining input.old) (R.remaining input.new) (take n text.new)) }
 {
     let mut count = 0;
     while count < text.len() {
-        match input.read(&mut text[count..]) {
-            Ok(0) => {
-                return Input {
-                    count,
-                    failed: None,
-                };
-            }
-            Ok(more) => count += more,
-            Err(error) => {
-                return Input {
-                    count,
-                    failed: Some(error),
-                };
-            }
+        match input.read(&mut text[count..])? {
+            0 => return Ok(count),
+            more => count += more,
         }
     }
-    Input {
-        count,
-        failed: None,
-    }
+    Ok(count)
 }
 
 // Whether some line ends in CR LF.
 fn has_cr_lf(text: &[u8]) -> bool
     ensures { IsTrue result ↔ SomeIndex text.now (λ i. (i + 1 < length text.now) × (slice_index text.now i ≡ 13) × (slice_index text.now (i + 1) ≡ 10)) }
 {
-    let mut i = 1;
-    while i < text.len() {
-        if text[i] == b'\n' && text[i - 1] == b'\r' {
-            return true;
-        }
-        i += 1;
-    }
-    false
+    text.windows(2).any(|pair| matches!(pair, [b'\r', b'\n']))
 }
 
 // Warns of a script that is played otherwise than its author may think. A warning that cannot be written is lost, and the script is played.
@@ -95,10 +70,12 @@ fn fail(rt: &impl Eprint, what: &str, error: io::Error) -> ExitCode {
     let _ = write!(room, "{error}");
     let n = 256usize.saturating_sub(room.len());
     let _ = match str::from_utf8(&text[..n]) {
-        Ok(said) => match said.split_once(" (os error ") {
-            Some((reason, _)) => eprintln!(rt; "{what}: {reason}"),
-            None => eprintln!(rt; "{what}: {said}"),
-        },
+        Ok(said) => {
+            let reason = said
+                .split_once(" (os error ")
+                .map_or(said, |(reason, _)| reason);
+            eprintln!(rt; "{what}: {reason}")
+        }
         Err(_) => eprintln!(rt; "{what}: {error}"),
     };
     ExitCode::FAILURE
@@ -107,16 +84,17 @@ fn fail(rt: &impl Eprint, what: &str, error: io::Error) -> ExitCode {
 fn main(rt: HostRuntime) -> ExitCode {
     // Only the first 16,384 bytes are the script, however they arrive. One more is read, to tell an input that is longer.
     let mut text = [0u8; 16385];
-    let input = read_text(&mut rt.stdin(), &mut text);
-    if let Some(error) = input.failed {
-        return fail(
-            &rt,
-            "play: the script cannot be read: standard input",
-            error,
-        );
-    }
-    let n = input.count;
-    warn(&rt, &text[..n]);
+    let read = match read_text(&mut rt.stdin(), &mut text) {
+        Ok(count) => &text[..count],
+        Err(error) => {
+            return fail(
+                &rt,
+                "play: the script cannot be read: standard input",
+                error,
+            );
+        }
+    };
+    warn(&rt, read);
     // The bench part's words, all FFFFh at the start.
     let mut array = [0xffffu16; 16384];
     // The erase counts, which power-up sets to 0. No line of a script asks for them.
@@ -124,7 +102,7 @@ fn main(rt: HostRuntime) -> ExitCode {
     let mut small = [0u16; 4];
     // Room for every transcript, as its type asks.
     let mut room = [0u8; 262154];
-    let end = script::play_text(&text[..n], &mut main, &mut small, &mut array, &mut room);
+    let end = script::play_text(read, &mut main, &mut small, &mut array, &mut room);
     match print(&mut rt.stdout(), &room, end) {
         Ok(()) => ExitCode::SUCCESS,
         Err(error) => fail(

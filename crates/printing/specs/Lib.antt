@@ -1,4 +1,5 @@
 -- The modules of the specification.
 pub mod Text
 pub mod Room
+pub mod Printing
 pub mod Cases

@@ -17,10 +17,7 @@ use semantics::Answer;
 pub fn script_of(text: &[u8]) -> &[u8]
     ensures { result.now ≡ script_of text.now }
 {
-    if text.len() < 16384 {
-        return text;
-    }
-    &text[..16384]
+    text.get(..16384).unwrap_or(text)
 }
 
 // ---- a line
@@ -54,25 +51,19 @@ fn play_line(
 ) -> Played
     ensures { LinePlayed line.now device number (lent main.old small.old) array.old room.old place result (lent main.new small.new) array.new room.new }
 {
-    let found = line::step_of_line(line);
-    match found {
-        Some(x) => {
-            let o = device.step(main, small, array, x);
-            let answer = o.answer;
-            let next = o.device;
-            let after = printing::put_line(room, place, number, answer);
+    match line::step_of_line(line) {
+        Some(step) => {
+            let o = device.step(main, small, array, step);
             Played {
-                device: next,
-                place: after,
+                device: o.device,
+                place: printing::put_line(room, place, number, o.answer),
             }
         }
         None => {
-            let s = device.state;
-            let e = state::first_refusal(device::refusal_of(s, main, array.len()), 6);
-            let after = printing::put_line(room, place, number, Answer::Refused(e));
+            let refusal = state::first_refusal(device::refusal_of(device.state, main, array.len()), 6);
             Played {
                 device,
-                place: after,
+                place: printing::put_line(room, place, number, Answer::Refused(refusal)),
             }
         }
     }
@@ -92,13 +83,10 @@ fn play_at(
     ensures { PlayedAt script.now at p (lent main.old small.old) array.old room.old result (lent main.new small.new) array.new room.new }
 {
     let taken = lines::taken_at(script, at);
-    let from = taken.from;
-    let to = taken.to;
-    let device = p.device;
     let count = p.count + 1;
     let played = play_line(
-        &script[from..to],
-        device,
+        &script[taken.from..taken.to],
+        p.device,
         count,
         main,
         small,
@@ -106,9 +94,8 @@ fn play_at(
         room,
         p.place,
     );
-    let after = played.device;
     Progress {
-        device: after,
+        device: played.device,
         count,
         place: played.place,
         next: taken.next,
@@ -158,14 +145,12 @@ pub fn play_text(
 ) -> usize
     ensures { Transcribed text.now array.old room.old result (lent main.new small.new) array.new room.new }
 {
-    let script = script_of(text);
-    let device = Device::power_up(Part::BenchBottom, main, small);
     let begun = Progress {
-        device,
+        device: Device::power_up(Part::BenchBottom, main, small),
         count: 0,
         place: 0,
         next: 0,
     };
-    let p = play_lines(script, begun, main, small, array, room);
+    let p = play_lines(script_of(text), begun, main, small, array, room);
     printing::put_end(room, p.place, p.count)
 }

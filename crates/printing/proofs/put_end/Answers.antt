@@ -1,12 +1,9 @@
--- `printing::put_end` meets its contract: its three parts, one after the other. Assumes nothing.
+-- `printing::put_end`: its three parts, one after the other.
 use Rattle.printing.specs.Text.{end_text}
-use Rattle.printing.specs.Room.{put_then}
+use Rattle.std.proofs.Common.{rules}
+use Rattle.printing.specs.Printing.{printed_then, put_left}
 use Rattle.printing.proofs.put_end.Goals as goal
 
 pub returns : goal.returns
 unfolding end_text
-returns c =
-    let end = c in
-    let count = end in
-    let word = count in
-    put_then (put_then word.put_bytes-digits.ensures count.put_decimal-last.ensures) end.put_byte.ensures
+returns c = put_left (printed_then (printed_then c.text.ensures c.decimal.ensures) c.byte.ensures) (search rules)

@@ -1,13 +1,9 @@
--- `printing::put_line` meets its contract: its four parts, one after the other. Assumes nothing.
+-- `printing::put_line`: its four parts, one after the other.
 use Rattle.printing.specs.Text.{line_text}
-use Rattle.printing.specs.Room.{put_then}
+use Rattle.std.proofs.Common.{rules}
+use Rattle.printing.specs.Printing.{printed_then, put_left}
 use Rattle.printing.proofs.put_line.Goals as goal
 
 pub returns : goal.returns
 unfolding line_text
-returns c =
-    let end = c in
-    let answer = end in
-    let space = answer in
-    let number = space in
-    put_then (put_then (put_then number.put_decimal-space.ensures space.put_byte-text.ensures) answer.put_answer-end.ensures) end.put_byte.ensures
+returns c = put_left (printed_then (printed_then (printed_then c.decimal.ensures c.byte.ensures) c.answer.ensures) c.byte-2.ensures) (search rules)

@@ -5,9 +5,9 @@ use Rattle.script.proofs.Laws.{line_made, line_refused}
 use Rattle.script.proofs.play_line.Goals as goal
 
 pub returns-in-Some : goal.returns-in-Some
-returns-in-Some c = line_made _ _ _ _ _ _ _ _ _ _ _ _ _ (sym c.step_of_line-found.ensures ∙ c.in-Some.is) c.step-o.ensures.outcome c.step-o.ensures.array c.step-o.ensures.counts c.put_line-after.ensures
+returns-in-Some c = line_made _ _ _ _ _ _ _ _ _ _ _ _ _ (sym c.step_of_line.ensures ∙ c.in-Some.is) c.step-o.ensures.outcome c.step-o.ensures.array c.step-o.ensures.counts c.put_line.ensures
 
 pub returns-in-None : goal.returns-in-None
 returns-in-None c =
-    line_refused _ _ _ _ _ _ _ _ _ _ (sym c.step_of_line-found.ensures ∙ c.in-None.is)
-    (c.first_refusal-e.ensures ∙ ap (λ (n : ℕ). first_refusal n 6) (c.refusal_of.ensures _)) c.put_line-after-in-None.ensures
+    line_refused _ _ _ _ _ _ _ _ _ _ (sym c.step_of_line.ensures ∙ c.in-None.is)
+    (c.first_refusal-refusal.ensures ∙ ap (λ (n : ℕ). first_refusal n 6) (c.refusal_of.ensures _)) c.put_line-in-None.ensures

@@ -10,12 +10,12 @@ use Rattle.script.proofs.play_text.Goals as goal
 
 pub play_lines-p-requires : goal.play_lines-p-requires
 play_lines-p-requires c = record {
-  few = omega (arith, script_short c.args.text.now, ap length c.script_of-script.ensures);
-  from = ap (λ (d : Device). record { device = d; count = 0; place = 0; next = 0 }) c.power_up-device.ensures.device;
-  unworn = c.power_up-device.ensures.counts;
+  few = omega (arith, script_short c.args.text.now, ap length c.script_of.ensures);
+  from = ap (λ (d : Device). record { device = d; count = 0; place = 0; next = 0 }) c.power_up.ensures.device;
+  unworn = c.power_up.ensures.counts;
 }
 
 pub returns : goal.returns
 returns c =
     let lines = c in
-    transcribed _ _ _ _ _ _ _ _ _ _ (search rules) lines.script_of-script.ensures lines.play_lines-p.ensures c.put_end.ensures
+    transcribed _ _ _ _ _ _ _ _ _ _ (search rules) lines.script_of.ensures lines.play_lines-p.ensures c.put_end.ensures

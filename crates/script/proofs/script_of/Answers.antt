@@ -1,18 +1,10 @@
--- `script::script_of` meets its contract. Assumes nothing.
-use mathlib.Core.Path.{refl, sym}
-use native.Mathlib.Omega.{arith}
-use lib.ListN.{length-take}
+-- `script::script_of`: a shorter text is taken whole.
+use Rattle.std.proofs.Common.{arith}
+use Rattle.std.proofs.lemmas.Grind.{common_steps}
 use lib.Seq.{take_all}
 use Rattle.script.specs.Script.{script_of}
 use Rattle.script.proofs.script_of.Goals as goal
 
-pub returns-then-text-lt16384 : goal.returns-then-text-lt16384
-unfolding script_of
-returns-then-text-lt16384 c = sym (take_all 16384 _ (omega arith))
-
-pub slice_bounds-result-end : goal.slice_bounds-result-end
-slice_bounds-result-end c = simp length-take (omega arith)
-
 pub returns : goal.returns
 unfolding script_of
-returns c = refl
+returns c = let t = c.args.text.now in let h = c.unwrap_or.ensures in let i = c.get.ensures.lookup in grind (arith, common_steps, take_all 16384 t)
