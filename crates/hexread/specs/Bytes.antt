@@ -1,11 +1,10 @@
 -- The bytes of a record by their places in its line. Assumes nothing.
-use Rattle.std.specs.Prelude.{◌≡◌, ℕ, zero, suc, ◌+◌, ◌-◌, ◌*◌, ◌/◌, ◌%◌, ◌<◌, ◌≤◌, Bool, true, false, cond, not, ◌&&◌, ◌||◌, List, [], ◌∷◌, ◌++◌, length, take, drop, ◌==◌, nat_lt, slice_index, slice_range, Option, Some, None, Result, Ok, Err}
+use Rattle.std.specs.Prelude.{◌≡◌, ℕ, zero, suc, ◌+◌, ◌-◌, ◌*◌, ◌/◌, ◌%◌, ◌<◌, Bool, true, false, cond, not, ◌&&◌, ◌||◌, List, [], ◌∷◌, ◌++◌, length, take, drop, ◌==◌, nat_lt, slice_index, Option, Some, None, Result, Ok, Err}
 use Rattle.std.proofs.Math.Path.{refl}
-use Rattle.std.proofs.Common.{sym, ap, ◌∙◌, drop-drop, ltb-true, eqb-true}
+use Rattle.std.proofs.Common.{sym, ap, ◌∙◌, drop-drop, eqb-true}
 use native.Mathlib.Omega.{arith}
-use Rattle.std.proofs.Math.ListN.{length-drop, drop_of_length-le}
-use Rattle.std.proofs.Math.Seq.{drop-cons, get_or-drop}
-use Rattle.std.proofs.Math.Numerals.{add-one}
+use Rattle.std.proofs.Math.ListN.{length-drop}
+use Rattle.std.proofs.Math.Seq.{get_or-drop}
 use Rattle.semantics.specs.Tests.{and_true_l, and_true_r, or_false_l, or_false_r}
 use Rattle.semantics.specs.Numbers.{within, within_true}
 use Rattle.refusal.specs.declared.Refusal.{Refusal}

@@ -2,15 +2,13 @@
 use Rattle.std.specs.Prelude.{◌≡◌, ℕ, suc, ◌+◌, ◌-◌, ◌*◌, ◌/◌, ◌<◌, ◌≤◌, Bool, true, false, cond, not, ◌&&◌, ◌||◌, ltb, List, [], ◌∷◌, ◌++◌, length, drop, ◌==◌, ◌≢◌, nat_lt, slice_index, slice_range, slice_set, take, refl, Option, Some, None}
 use Rattle.std.proofs.Common.{sym, ap, ◌∙◌, drop-drop, length-set, length-drop, length-take-le, eq-eqb, ne_eqb, eqb-true, ltb-true, ltb-false}
 use native.Mathlib.Omega.{arith}
-use Rattle.std.proofs.Math.ListN.{drop_of_length-le}
-use Rattle.std.proofs.lemmas.Bool.{not-false}
 use Rattle.std.specs.Option.{option_or}
 use Rattle.refusal.specs.declared.Refusal.{Refusal}
 use Rattle.refusal.specs.declared.Refusal.TheVariants.{NoEndRecord}
 use Rattle.semantics.specs.Tests.{or_false_l, and_true_l, and_true_r}
 use Rattle.semantics.specs.Tabulate.{length_tabulate}
 use Rattle.intelhex.specs.Records.{digit, all_digits, pairs, bytes, count, offset, kind, data_of, is_end, other_type, upper_after}
-use Rattle.intelhex.specs.Records.{word_after, record_lines, record_refusal, refusal_from, Named, named_from, named_by, named}
+use Rattle.intelhex.specs.Records.{word_after, record_refusal, refusal_from, Named, named_from, named_by, named}
 use Rattle.intelhex.specs.Records.{words_after, size}
 use Rattle.intelhex.specs.Bytes.{Small}
 use Rattle.intelhex.proofs.Bytes.{small_none, small_cons, small_take, small_drop}

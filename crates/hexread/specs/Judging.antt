@@ -1,20 +1,18 @@
 -- The loop that judges a text, record by record.
 -- Assumes nothing.
-use Rattle.std.specs.Prelude.{◌≡◌, ℕ, suc, ◌+◌, ◌≤◌, true, false, cond, ◌||◌, ◌*◌, ◌==◌, ◌≢◌, Bool, List, [], ◌∷◌, length, slice_index, Option, Some, None, is_some, Ok, Err}
+use Rattle.std.specs.Prelude.{◌≡◌, ℕ, suc, ◌+◌, ◌≤◌, true, false, cond, ◌*◌, ◌==◌, ◌≢◌, Bool, List, [], ◌∷◌, length, slice_index, Option, Some, None, Ok, Err}
 use Rattle.std.proofs.Math.Path.{refl}
-use Rattle.std.proofs.Common.{sym, ap, ◌∙◌, eqb-true, ne_eqb}
+use Rattle.std.proofs.Common.{eqb-true, ne_eqb}
 use Rattle.std.proofs.lemmas.Bool.{eqb-false}
 use native.Mathlib.Omega.{arith}
-use Rattle.std.specs.Option.{option_or}
 use Rattle.refusal.specs.declared.Refusal.{Refusal}
 use Rattle.refusal.specs.declared.Refusal.TheVariants.{NoEndRecord}
 use Rattle.intelhex.specs.Records.{bytes, count, offset, kind, is_end, upper_after, record_lines, record_refusal, refusal_from, lines_from, with_line}
 use Rattle.hexread.specs.Ends.{records_few}
-use Rattle.hexread.specs.declared.Kind.{Kind}
 use Rattle.hexread.specs.declared.Kind.TheVariants.{Data, End, Upper, Other}
 use Rattle.hexread.specs.declared.Record.{Record}
 use Rattle.hexread.specs.declared.Record.TheVariants.{Names, Ends, Moves}
-use Rattle.hexread.specs.Bytes.{kind_of, record_by, record_of, unless, looked, judged}
+use Rattle.hexread.specs.Bytes.{record_by, record_of, unless, looked, judged}
 
 -- the records that are left, and the number of lines before them, decide the text
 pub record Judging (text : List ℕ) (n : ℕ) (rest : List (List ℕ)) (upper line : ℕ) : Type 0 where

@@ -1,5 +1,5 @@
 -- The loop that writes the data of a record, a byte a round. Assumes nothing.
-use Rattle.std.specs.Prelude.{◌≡◌, ℕ, suc, ◌+◌, ◌*◌, ◌/◌, ◌%◌, ◌<◌, ◌≤◌, true, ◌&&◌, nat_lt, List, [], ◌∷◌, ◌++◌, length, slice_index, slice_set, refl}
+use Rattle.std.specs.Prelude.{◌≡◌, ℕ, ◌+◌, ◌*◌, ◌/◌, ◌%◌, ◌<◌, ◌≤◌, true, ◌&&◌, nat_lt, List, [], ◌∷◌, ◌++◌, length, slice_index, slice_set, refl}
 use Rattle.std.proofs.Common.{sym, ap, ◌∙◌, arith, length-set, length-append, ltb-true}
 use Rattle.semantics.specs.Tests.{and_true_l, and_true_r}
 use Rattle.intelhex.specs.Records.{digit, all_digits, pairs, named_from, words_after}

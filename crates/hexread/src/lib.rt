@@ -65,7 +65,11 @@ fn digit(b: u8) -> u8
     let decimal = (48 <= b) & (b < 58);
     let upper = (65 <= b) & (b < 71);
     let lower = (97 <= b) & (b < 103);
-    if decimal | (upper | lower) { b % 16 + b / 64 * 9 } else { 16 }
+    if decimal | (upper | lower) {
+        b % 16 + b / 64 * 9
+    } else {
+        16
+    }
 }
 
 // The byte whose two digits begin at a place.
@@ -124,7 +128,9 @@ impl Header {
     {
         let end = u64::from(self.offset) + u64::from(self.count);
         end > 65536
-            || matches!(self.kind, Kind::Data) && self.count != 0 && u64::from(upper) * 65536 + end > size
+            || matches!(self.kind, Kind::Data)
+                && self.count != 0
+                && u64::from(upper) * 65536 + end > size
     }
 
     // Refuses what is left of a record of the right length that has digits only.
@@ -155,8 +161,13 @@ impl Record {
         let h = Header::of(line);
         match h.kind {
             Kind::End => Record::Ends,
-            Kind::Upper => Record::Moves(u32::from(byte_at(line, 9)) * 256 + u32::from(byte_at(line, 11))),
-            Kind::Data | Kind::Other => Record::Names { offset: h.offset, count: h.count },
+            Kind::Upper => Record::Moves(
+                u32::from(byte_at(line, 9)) * 256 + u32::from(byte_at(line, 11)),
+            ),
+            Kind::Data | Kind::Other => Record::Names {
+                offset: h.offset,
+                count: h.count,
+            },
         }
     }
 }
@@ -184,7 +195,11 @@ fn record_end(text: &[u8], to: usize) -> usize
     requires { to ≤ length text.now }
     ensures { result ≡ record_end text.now to }
 {
-    if to < text.len() && 0 < to && text[to - 1] == b'\r' { to - 1 } else { to }
+    if to < text.len() && 0 < to && text[to - 1] == b'\r' {
+        to - 1
+    } else {
+        to
+    }
 }
 
 // The records of the lines of a text, one after the other.
@@ -239,7 +254,11 @@ fn with_byte(word: u16, address: usize, byte: u16) -> u16
     requires { byte < 256 }
     ensures { result ≡ with_byte word address byte }
 {
-    if address % 2 == 0 { word / 256 * 256 + byte } else { byte * 256 + word % 256 }
+    if address % 2 == 0 {
+        word / 256 * 256 + byte
+    } else {
+        byte * 256 + word % 256
+    }
 }
 
 // Writes the bytes of digits from an address on.

@@ -1,12 +1,11 @@
 -- `hexread::look` meets its contract. Assumes nothing.
-use Rattle.std.proofs.Common.{◌≡◌, true, List, ℕ, drop, Some, None, sym, ap, ◌∙◌, arith}
+use Rattle.std.proofs.Common.{◌≡◌, drop, Some, None, sym, ap, ◌∙◌, arith}
 use Rattle.std.proofs.lemmas.List.{take_rest}
 use Rattle.std.proofs.lemmas.Result.{err_from_is_err_and}
-use Rattle.refusal.specs.declared.Refusal.TheVariants.{RecordForm}
-use Rattle.intelhex.specs.Records.{all_digits, count, record_refusal}
+use Rattle.intelhex.specs.Records.{count}
 use Rattle.hexread.specs.declared.Header.{Header}
-use Rattle.hexread.specs.Bytes.{scanned, refusal_by}
-use Rattle.hexread.specs.Refusals.{no_colon, no_digits, other_size, by_parts, look_bad, look_good, sum_refused, sum_given, scanned_none, scanned_some, good_if, long_enough, long_upper}
+use Rattle.hexread.specs.Bytes.{scanned}
+use Rattle.hexread.specs.Refusals.{no_colon, no_digits, other_size, by_parts, look_bad, look_good, sum_refused, sum_given, scanned_none, scanned_some}
 use Rattle.hexread.proofs.look.Goals.{then-line-h-via-then-line-h, then-line-h-via-else-line-h+then-line-ne58}
 use Rattle.hexread.proofs.look.Goals as goal
 

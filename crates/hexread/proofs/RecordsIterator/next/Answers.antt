@@ -1,5 +1,5 @@
 -- The records of a text, one after the other. Assumes nothing.
-use Rattle.std.proofs.Common.{◌<◌, length, sym, ap, ◌∙◌, arith, rules}
+use Rattle.std.proofs.Common.{◌<◌, length, ap, arith, rules}
 use Rattle.hexread.specs.Ends.{no_records, taken_end, taken_next, record_length, records_step}
 use Rattle.hexread.proofs.RecordsIterator.next.Goals as goal
 
