@@ -1,134 +1,121 @@
--- The loops that go over a text line by line: the first judges it, the second writes what it names.
+-- The loop that judges a text, record by record.
 -- Assumes nothing.
-use Rattle.std.specs.Prelude.{◌≡◌, ℕ, suc, ◌+◌, ◌-◌, ◌<◌, ◌≤◌, true, false, List, [], ◌∷◌, length, take, drop, ◌≢◌, refl}
-use Rattle.std.proofs.Common.{sym, ap, subst, ◌∙◌, eq-eqb, ne_eqb}
+use Rattle.std.specs.Prelude.{◌≡◌, ℕ, suc, ◌+◌, ◌≤◌, true, false, cond, ◌*◌, ◌==◌, ◌≢◌, Bool, List, [], ◌∷◌, length, slice_index, Option, Some, None, Ok, Err}
+use Rattle.std.proofs.Math.Path.{refl}
+use Rattle.std.proofs.Common.{eqb-true, ne_eqb}
+use Rattle.std.proofs.lemmas.Bool.{eqb-false}
 use native.Mathlib.Omega.{arith}
-use Rattle.std.proofs.Math.ListN.{drop_of_length-le}
-use Rattle.lines.specs.declared.Taken.{Taken}
-use Rattle.lines.specs.Lines.{line_end, line_next, taken_at, end_from, end_within, next_later}
-use Rattle.intelhex.specs.Records.{record_lines, is_end, upper_after, record_refusal, refusal_from, lines_from}
-use Rattle.hexread.specs.Ends.{record_end, end_inside, records_next}
-use Rattle.hexread.specs.declared.LineSeen.{LineSeen}
-use Rattle.hexread.specs.Bytes.{Looked, judged}
+use Rattle.refusal.specs.declared.Refusal.{Refusal}
+use Rattle.refusal.specs.declared.Refusal.TheVariants.{NoEndRecord}
+use Rattle.intelhex.specs.Records.{bytes, count, offset, kind, is_end, upper_after, record_lines, record_refusal, refusal_from, lines_from, with_line}
+use Rattle.hexread.specs.Ends.{records_few}
+use Rattle.hexread.specs.declared.Kind.TheVariants.{Data, End, Upper, Other}
+use Rattle.hexread.specs.declared.Record.{Record}
+use Rattle.hexread.specs.declared.Record.TheVariants.{Names, Ends, Moves}
+use Rattle.hexread.specs.Bytes.{record_by, record_of, unless, looked, judged}
 
--- ---- the line at a place
+-- the records that are left, and the number of lines before them, decide the text
+pub record Judging (text : List ℕ) (n : ℕ) (rest : List (List ℕ)) (upper line : ℕ) : Type 0 where
+  pub few : line + length rest ≤ length text
+  pub left : with_line (refusal_from n upper rest) (line + lines_from n upper rest) ≡ judged n text
 
--- its record
-abbrev pub record_at : List ℕ → ℕ → List ℕ
-record_at text at = take (record_end text at (line_end text at) - at) (drop at text)
+pub judge_start : (text : List ℕ) (n : ℕ) → Judging text n (record_lines text) 0 0
+judge_start text n =
+    let e : 0 + lines_from n 0 (record_lines text) ≡ lines_from n 0 (record_lines text) = omega arith in
+    record { few = omega (arith, records_few text); left = rw e }
 
--- the records from a place on
-abbrev pub records_from : List ℕ → ℕ → List (List ℕ)
-records_from text at = record_lines (drop at text)
+pub judge_none : (text : List ℕ) (n upper line : ℕ) → Judging text n [] upper line → Err (record { refusal = NoEndRecord; line = line }) ≡ judged n text
+unfolding refusal_from lines_from
+judge_none text n upper line inv = let e : line + 0 ≡ line = omega arith in rw e at inv.left
 
--- where a line was taken, its record lies within the text, and the next line begins further on
-pub record Placed (text : List ℕ) (at : ℕ) (t : Taken) (to : ℕ) : Type 0 where
-  pub end : to ≡ record_end text at (line_end text at)
-  pub from : at ≤ to
-  pub inside : to ≤ length text
-  pub next : t.next ≡ line_next text at
-  pub later : at < t.next
-  pub last : t.next ≤ length text
+-- ---- a record, by what it does
 
-pub taken_ends : (text : List ℕ) (at : ℕ) (t : Taken) → at < length text → t ≡ taken_at text at → (at ≤ t.to) × (t.to ≤ length text)
-taken_ends text at t h e = rw e (end_from text at, end_within text at (omega arith))
+module _ (l : List ℕ) where
+  pub ends_is : Ends ≡ record_of l → kind l ≡ 1
+  ends_is = go (kind l == 0) (kind l == 1) refl (kind l == 4)
+    where
+      go : (a b : Bool) → (kind l == 1) ≡ b → (c : Bool) → Ends ≡ record_by (cond a Data (cond b End (cond c Upper Other))) l → kind l ≡ 1
+      go true b q c e = cc
+      go false true q c e = eqb-true (kind l) 1 q
+      go false false q true e = cc
+      go false false q false e = cc
 
-pub placed_line : (text : List ℕ) (at : ℕ) (t : Taken) (to : ℕ) → at < length text → t ≡ taken_at text at → to ≡ record_end text at t.to → Placed text at t to
-placed_line text at t to h e f = record {
-  end = end;
-  from = omega (arith, end, within.0);
-  inside = omega (arith, end, within.1, end_within text at (omega arith));
-  next = next;
-  later = omega (arith, next, (next_later text at h).0);
-  last = omega (arith, next, (next_later text at h).1);
-}
-  where
-    end : to ≡ record_end text at (line_end text at)
-    end = f ∙ ap (λ (t : Taken). record_end text at t.to) e
+  pub moves_is : {u : ℕ} → Moves u ≡ record_of l → (kind l ≡ 4) × (u ≡ slice_index (bytes l) 4 * 256 + slice_index (bytes l) 5)
+  moves_is {u} = go (kind l == 0) (kind l == 1) (kind l == 4) refl
+    where
+      go : (a b c : Bool) → (kind l == 4) ≡ c → Moves u ≡ record_by (cond a Data (cond b End (cond c Upper Other))) l
+          → (kind l ≡ 4) × (u ≡ slice_index (bytes l) 4 * 256 + slice_index (bytes l) 5)
+      go true b c q e = cc
+      go false true c q e = cc
+      go false false true q e = (eqb-true (kind l) 4 q, cc)
+      go false false false q e = cc
 
-    within : (at ≤ record_end text at (line_end text at)) × (record_end text at (line_end text at) ≤ line_end text at)
-    within = end_inside text at (line_end text at) (end_from text at)
+  pub names_is : {o n : ℕ} → Names o n ≡ record_of l → (kind l ≢ 1) × (kind l ≢ 4) × (o ≡ offset l) × (n ≡ count l)
+  names_is {o} {n} = go (kind l == 0) refl (kind l == 1) refl (kind l == 4) refl
+    where
+      go : (a : Bool) → (kind l == 0) ≡ a → (b : Bool) → (kind l == 1) ≡ b → (c : Bool) → (kind l == 4) ≡ c
+          → Names o n ≡ record_by (cond a Data (cond b End (cond c Upper Other))) l → (kind l ≢ 1) × (kind l ≢ 4) × (o ≡ offset l) × (n ≡ count l)
+      go true p b q c r e = let z : kind l ≡ 0 = eqb-true (kind l) 0 p in (λ y. omega arith, λ y. omega arith, cc, cc)
+      go false p true q c r e = cc
+      go false p false q true r e = cc
+      go false p false q false r e = (eqb-false (kind l) 1 q, eqb-false (kind l) 4 r, cc, cc)
 
-    next : t.next ≡ line_next text at
-    next = ap (λ (t : Taken). t.next) e
+  -- which address holds after it
+  pub on_by : (upper : ℕ) → (kind l ≢ 1) → (kind l ≢ 4) → (is_end l ≡ false) × (upper_after upper l ≡ upper)
+  on_by upper h k = (ne_eqb (kind l) 1 h, rw (ne_eqb (kind l) 4 k))
 
--- ---- judging
+  pub on_four : (upper : ℕ) → kind l ≡ 4 → (is_end l ≡ false) × (upper_after upper l ≡ slice_index (bytes l) 4 * 256 + slice_index (bytes l) 5)
+  on_four upper e = (rw e, rw e)
 
-module _ (n upper : ℕ) (l : List ℕ) (ls : List (List ℕ)) where
-  refused_here : (record_refusal n upper l ≢ 0) → (refusal_from n upper (l ∷ ls) ≡ record_refusal n upper l) × (lines_from n upper (l ∷ ls) ≡ 1)
+-- ---- a record, by what is seen of it
+
+module _ (n upper : ℕ) (l : List ℕ) where
+  looked_bad : {r : Refusal} → Err r ≡ looked n upper l → record_refusal n upper l ≡ Some r
+  unfolding looked
+  looked_bad {r} = go (record_refusal n upper l)
+    where
+      go : (o : Option Refusal) → Err r ≡ unless o (record_of l) → o ≡ Some r
+      go None e = cc
+      go (Some x) e = cc
+
+  looked_good : {r : Record} → Ok r ≡ looked n upper l → (record_refusal n upper l ≡ None) × (r ≡ record_of l)
+  unfolding looked
+  looked_good {r} = go (record_refusal n upper l)
+    where
+      go : (o : Option Refusal) → Ok r ≡ unless o (record_of l) → (o ≡ None) × (r ≡ record_of l)
+      go None e = (refl, cc)
+      go (Some x) e = cc
+
+module _ (text : List ℕ) (n upper line : ℕ) (l : List ℕ) (ls : List (List ℕ)) (inv : Judging text n (l ∷ ls) upper line) where
+  pub judge_bad : {r : Refusal} → Err r ≡ looked n upper l → Err (record { refusal = r; line = line + 1 }) ≡ judged n text
   unfolding refusal_from lines_from
-  refused_here h = rw (ne_eqb (record_refusal n upper l) 0 h) (refl, refl)
+  judge_bad e = rw (looked_bad n upper l e) at inv.left
 
-  ended_here : record_refusal n upper l ≡ 0 → is_end l ≡ true → (refusal_from n upper (l ∷ ls) ≡ 0) × (lines_from n upper (l ∷ ls) ≡ 1)
+  pub judge_end : Ok Ends ≡ looked n upper l → Ok (line + 1) ≡ judged n text
   unfolding refusal_from lines_from
-  ended_here h e = rw (eq-eqb (record_refusal n upper l) 0 h, e) (refl, refl)
+  judge_end e =
+      let good = looked_good n upper l e in
+      rw (good.0, ends_is l good.1) at inv.left
 
-  passed_here : record_refusal n upper l ≡ 0 → is_end l ≡ false
-      → (refusal_from n upper (l ∷ ls) ≡ refusal_from n (upper_after upper l) ls) × (lines_from n upper (l ∷ ls) ≡ suc (lines_from n (upper_after upper l) ls))
+  judge_on : record_refusal n upper l ≡ None → is_end l ≡ false → Judging text n ls (upper_after upper l) (line + 1)
   unfolding refusal_from lines_from
-  passed_here h e = rw (eq-eqb (record_refusal n upper l) 0 h, e) (refl, refl)
+  judge_on e f = record {
+    few = omega (arith, inv.few);
+    left =
+        let s : line + 1 + lines_from n (upper_after upper l) ls ≡ line + suc (lines_from n (upper_after upper l) ls) = omega arith in
+        rw s (rw (e, f) at inv.left);
+  }
 
--- at a place: the records from there on, and the number of lines before it, decide the text
-pub record Judging (text : List ℕ) (n at upper number : ℕ) : Type 0 where
-  pub within : at ≤ length text
-  pub few : number ≤ at
-  pub refusal : refusal_from n upper (records_from text at) ≡ refusal_from n 0 (record_lines text)
-  pub line : number + lines_from n upper (records_from text at) ≡ lines_from n 0 (record_lines text)
+  pub judge_names : {o k : ℕ} → Ok (Names o k) ≡ looked n upper l → Judging text n ls upper (line + 1)
+  judge_names e =
+      let good = looked_good n upper l e in
+      let is = names_is l good.1 in
+      let on = on_by l upper is.0 is.1 in
+      rw on.1 at (judge_on good.0 on.0)
 
-pub judge_start : (text : List ℕ) (n : ℕ) → Judging text n 0 0 0
-judge_start text n = record { within = omega arith; few = omega arith; refusal = refl; line = omega arith }
-
-module _ (text : List ℕ) (n at upper number : ℕ) (inv : Judging text n at upper number) where
-  pub judge_none : length text ≤ at → record { refusal = 14; line = number } ≡ judged n text
-  unfolding refusal_from lines_from record_lines
-  judge_none h =
-      let none : drop at text ≡ [] = drop_of_length-le text {i = at} h in
-      let r : 14 ≡ refusal_from n 0 (record_lines text) = rw none at inv.refusal in
-      let k : number + 0 ≡ lines_from n 0 (record_lines text) = rw none at inv.line in
-      let m : number ≡ lines_from n 0 (record_lines text) = omega arith in
-      rw (← r, ← m)
-
-  module _ (h : at < length text) where
-    here : records_from text at ≡ record_at text at ∷ records_from text (line_next text at)
-    here = records_next text at h
-
-    pub judge_bad : (record_refusal n upper (record_at text at) ≢ 0) → record { refusal = record_refusal n upper (record_at text at); line = number + 1 } ≡ judged n text
-    judge_bad e =
-        let both : (refusal_from n upper (records_from text at) ≡ record_refusal n upper (record_at text at)) × (lines_from n upper (records_from text at) ≡ 1) =
-        rw here (refused_here n upper (record_at text at) (records_from text (line_next text at)) e) in
-        let k : number + 1 ≡ lines_from n 0 (record_lines text) = rw both.1 at inv.line in
-        rw (← inv.refusal, both.0, k)
-
-    pub judge_end : record_refusal n upper (record_at text at) ≡ 0 → is_end (record_at text at) ≡ true → record { refusal = 0; line = number + 1 } ≡ judged n text
-    judge_end e f =
-        let both : (refusal_from n upper (records_from text at) ≡ 0) × (lines_from n upper (records_from text at) ≡ 1) =
-        rw here (ended_here n upper (record_at text at) (records_from text (line_next text at)) e f) in
-        let k : number + 1 ≡ lines_from n 0 (record_lines text) = rw both.1 at inv.line in
-        rw (← inv.refusal, both.0, k)
-
-    pub judge_on : record_refusal n upper (record_at text at) ≡ 0 → is_end (record_at text at) ≡ false → Judging text n (line_next text at) (upper_after upper (record_at text at)) (number + 1)
-    judge_on e f =
-        let next : List (List ℕ) = records_from text (line_next text at) in
-        let then : ℕ = upper_after upper (record_at text at) in
-        let both : (refusal_from n upper (records_from text at) ≡ refusal_from n then next) × (lines_from n upper (records_from text at) ≡ suc (lines_from n then next)) =
-        rw here (passed_here n upper (record_at text at) next e f) in
-        record {
-          within = (next_later text at h).1;
-          few = omega (arith, inv.few, (next_later text at h).0);
-          refusal = sym both.0 ∙ inv.refusal;
-          line = omega (arith, both.1, inv.line);
-        }
-
-    -- the same by what the code has of the line
-    module _ (t : Taken) (to : ℕ) (place : Placed text at t to) (seen : LineSeen) (looked : Looked (take (to - at) (drop at text)) upper n seen) where
-      at_line : Looked (record_at text at) upper n seen
-      at_line = subst (λ (k : ℕ). Looked (take (k - at) (drop at text)) upper n seen) place.end looked
-
-      pub step_bad : (seen.refusal ≢ 0) → record { refusal = seen.refusal; line = number + 1 } ≡ judged n text
-      step_bad e = rw at_line.refusal (judge_bad (λ z. e (at_line.refusal ∙ z)))
-
-      pub step_end : seen.refusal ≡ 0 → seen.ends ≡ true → record { refusal = 0; line = number + 1 } ≡ judged n text
-      step_end e f = judge_end (sym at_line.refusal ∙ e) (sym (at_line.ends e) ∙ f)
-
-      pub step_on : seen.refusal ≡ 0 → seen.ends ≡ false → Judging text n t.next seen.upper (number + 1)
-      step_on e f = rw (place.next, at_line.upper_then e) (judge_on (sym at_line.refusal ∙ e) (sym (at_line.ends e) ∙ f))
+  pub judge_moves : {u : ℕ} → Ok (Moves u) ≡ looked n upper l → Judging text n ls u (line + 1)
+  judge_moves e =
+      let good = looked_good n upper l e in
+      let is = moves_is l good.1 in
+      let on = on_four l upper is.0 in
+      rw (on.1, ← is.1) at (judge_on good.0 on.0)

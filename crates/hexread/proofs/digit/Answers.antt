@@ -5,5 +5,5 @@ use Rattle.hexread.proofs.digit.Goals as goal
 pub returns-then-decimal-upper : goal.returns-then-decimal-upper
 returns-then-decimal-upper c = digit_value c.args.b c.if-decimal-upper.true
 
-pub returns : goal.returns
-returns c = digit_none c.args.b c.if-decimal-upper.false
+pub returns-else-decimal-upper : goal.returns-else-decimal-upper
+returns-else-decimal-upper c = digit_none c.args.b c.if-decimal-upper.false

@@ -1,87 +1,48 @@
 -- `hexread::fill` meets its contract. Assumes nothing.
-use Rattle.std.proofs.Common.{ℕ, ◌*◌, sym, ap, ◌∙◌, arith}
-use Rattle.hexread.specs.declared.Header.{Header}
-use Rattle.hexread.specs.Refusals.{long_enough, long_upper}
-use Rattle.hexread.specs.Judging.{placed_line, taken_ends}
-use Rattle.hexread.specs.Filling.{storable, fill_start, fill_none, good_line, fill_end, fill_data}
-use Rattle.hexread.specs.Filling.{fill_upper, is_upper}
+use Rattle.std.proofs.Common.{◌+◌, ◌*◌, ◌≤◌, length, sym, ◌∙◌, rules}
+use Rattle.hexread.specs.Ends.{records_more, records_end}
+use Rattle.hexread.specs.Filling.{fill_start, fill_none, fill_end, fill_storable, fill_within, fill_data, fill_moves, line_long, line_upper}
 use Rattle.hexread.proofs.fill.Goals as goal
 
-pub loop-at-init : goal.loop-at-init
-loop-at-init c = fill_start _ _ c.requires
+pub loop-line-init : goal.loop-line-init
+loop-line-init c = rw c.into_iter-line-iterator.ensures.into_iter_gives (fill_start _ _ c.requires)
 
-pub record_end-to-requires : goal.record_end-to-requires
-record_end-to-requires c = taken_ends _ _ _ c.loop-at-test.true c.taken_at-taken.ensures
+pub of-requires-clause-header : goal.of-requires-clause-header
+of-requires-clause-header c =
+    let more = records_more c.loop-line.line-iterator c.next.new.self _ c.next.ensures.steps _ c.in-Some.is in
+    line_long _ _ _ _ _ _ (rw more at c.loop-line.invariant)
 
-pub slice_bounds-line-count : goal.slice_bounds-line-count
-slice_bounds-line-count c = (placed_line _ _ _ _ c.loop-at-test.true c.taken_at-taken.ensures c.record_end-to.ensures).from
+pub of-requires-clause-upper : goal.of-requires-clause-upper
+of-requires-clause-upper c =
+    let more = records_more c.loop-line.line-iterator c.next.new.self _ c.next.ensures.steps _ c.in-Some.is in
+    line_upper _ _ _ _ _ _ (rw more at c.loop-line.invariant)
 
-pub slice_bounds-line-start : goal.slice_bounds-line-start
-slice_bounds-line-start c = (placed_line _ _ _ _ c.loop-at-test.true c.taken_at-taken.ensures c.record_end-to.ensures).from
-
-pub slice_bounds-line-end : goal.slice_bounds-line-end
-slice_bounds-line-end c = (placed_line _ _ _ _ c.loop-at-test.true c.taken_at-taken.ensures c.record_end-to.ensures).inside
-
-pub header_of-h-requires : goal.header_of-h-requires
-header_of-h-requires c =
-    let h = c.loop-at-test.true in
-    let place = placed_line _ _ _ _ h c.taken_at-taken.ensures c.record_end-to.ensures in
-    long_enough _ (good_line _ _ _ _ _ c.loop-at.invariant h _ _ place).formed
-
-pub shape_of-array-then-h-eq1 : goal.shape_of-array-then-h-eq1
-shape_of-array-then-h-eq1 c = c.loop-at.invariant.same
-
-pub returns-then-h-eq1 : goal.returns-then-h-eq1
-returns-then-h-eq1 c =
-    let h = c.loop-at-test.true in
-    let place = placed_line _ _ _ _ h c.taken_at-taken.ensures c.record_end-to.ensures in
-    let kind = ap (λ (h : Header). h.kind) c.header_of-h.ensures in
-    fill_end _ _ _ _ _ c.loop-at.invariant h _ _ place (sym kind ∙ c.if-h-eq1.true)
+pub slice_bounds-store-end : goal.slice_bounds-store-end
+slice_bounds-store-end c =
+    let more = records_more c.loop-line.line-iterator c.next.new.self _ c.next.ensures.steps _ c.in-Some.is in
+    let h : 9 + 2 * c.in-Names.count ≤ length c.in-Some.line.now =
+    fill_within _ _ _ _ _ _ (rw more at c.loop-line.invariant) (sym c.in-Names.is ∙ c.of.ensures) in
+    search rules
 
 pub store-requires : goal.store-requires
 store-requires c =
-    let h = c.loop-at-test.true in
-    let place = placed_line _ _ _ _ h c.taken_at-taken.ensures c.record_end-to.ensures in
-    let kind = ap (λ (h : Header). h.kind) c.header_of-h.ensures in
-    let same = ap (λ (k : ℕ). 2 * k) (sym c.loop-at.invariant.same) in
-    rw c.header_of-h.ensures (storable _ _ _ _ (good_line _ _ _ _ _ c.loop-at.invariant h _ _ place) same (sym kind ∙ c.if-h-eq0.true))
+    let more = records_more c.loop-line.line-iterator c.next.new.self _ c.next.ensures.steps _ c.in-Some.is in
+    fill_storable _ _ _ _ _ _ (rw more at c.loop-line.invariant) (sym c.in-Names.is ∙ c.of.ensures)
 
-pub upper_of-upper-requires : goal.upper_of-upper-requires
-upper_of-upper-requires c =
-    let h = c.loop-at-test.true in
-    let place = placed_line _ _ _ _ h c.taken_at-taken.ensures c.record_end-to.ensures in
-    let kind = ap (λ (h : Header). h.kind) c.header_of-h.ensures in
-    long_upper _ (good_line _ _ _ _ _ c.loop-at.invariant h _ _ place).formed (is_upper _ _ _ _ _ c.loop-at.invariant h _ _ place (λ e. c.if-h-eq1.false (kind ∙ e)) (λ e. c.if-h-eq0.false (kind ∙ e)))
+pub loop-line-preserved-in-Names : goal.loop-line-preserved-in-Names
+loop-line-preserved-in-Names c =
+    let more = records_more c.loop-line.line-iterator c.next.new.self _ c.next.ensures.steps _ c.in-Some.is in
+    fill_data _ _ _ _ _ _ (rw more at c.loop-line.invariant) (sym c.in-Names.is ∙ c.of.ensures) _ c.store.ensures
 
-pub loop-at-smaller-then-h-eq0 : goal.loop-at-smaller-then-h-eq0
-loop-at-smaller-then-h-eq0 c =
-    let h = c.loop-at-test.true in
-    let place = placed_line _ _ _ _ h c.taken_at-taken.ensures c.record_end-to.ensures in
-    omega (arith, place.later, place.last)
+pub loop-line-preserved : goal.loop-line-preserved
+loop-line-preserved c =
+    let more = records_more c.loop-line.line-iterator c.next.new.self _ c.next.ensures.steps _ c.in-Some.is in
+    fill_moves _ _ _ _ _ _ (rw more at c.loop-line.invariant) (sym c.in-Moves.is ∙ c.of.ensures)
 
-pub loop-at-preserved-then-h-eq0 : goal.loop-at-preserved-then-h-eq0
-loop-at-preserved-then-h-eq0 c =
-    let h = c.loop-at-test.true in
-    let place = placed_line _ _ _ _ h c.taken_at-taken.ensures c.record_end-to.ensures in
-    let kind = ap (λ (h : Header). h.kind) c.header_of-h.ensures in
-    fill_data _ _ _ _ _ c.loop-at.invariant h _ _ place (λ e. c.if-h-eq1.false (kind ∙ e)) _ (sym kind ∙ c.if-h-eq0.true)
-    (c.store.ensures ∙ rw c.header_of-h.ensures)
-
-pub loop-at-smaller : goal.loop-at-smaller
-loop-at-smaller c =
-    let h = c.loop-at-test.true in
-    let place = placed_line _ _ _ _ h c.taken_at-taken.ensures c.record_end-to.ensures in
-    omega (arith, place.later, place.last)
-
-pub loop-at-preserved : goal.loop-at-preserved
-loop-at-preserved c =
-    let h = c.loop-at-test.true in
-    let place = placed_line _ _ _ _ h c.taken_at-taken.ensures c.record_end-to.ensures in
-    let kind = ap (λ (h : Header). h.kind) c.header_of-h.ensures in
-    rw c.upper_of-upper.ensures (fill_upper _ _ _ _ _ c.loop-at.invariant h _ _ place (λ e. c.if-h-eq1.false (kind ∙ e)) (λ e. c.if-h-eq0.false (kind ∙ e)))
-
-pub shape_of-array : goal.shape_of-array
-shape_of-array c = c.loop-at.invariant.same
+pub returns-in-Ends : goal.returns-in-Ends
+returns-in-Ends c =
+    let more = records_more c.loop-line.line-iterator c.next.new.self _ c.next.ensures.steps _ c.in-Some.is in
+    fill_end _ _ _ _ _ _ (rw more at c.loop-line.invariant) (sym c.in-Ends.is ∙ c.of.ensures)
 
 pub returns : goal.returns
-returns c = absurd (fill_none _ _ _ _ _ c.loop-at.invariant c.loop-at-test.false)
+returns c = absurd (fill_none _ _ _ _ (rw (records_end c.loop-line.line-iterator c.next.new.self _ c.next.ensures.steps c.in-None.is) at c.loop-line.invariant))

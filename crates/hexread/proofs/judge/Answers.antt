@@ -1,52 +1,34 @@
 -- `hexread::judge` meets its contract. Assumes nothing.
-use Rattle.std.proofs.Common.{◌<◌, length, arith, rules}
-use Rattle.hexread.specs.Judging.{placed_line, taken_ends, judge_start, judge_none, step_bad, step_end}
-use Rattle.hexread.specs.Judging.{step_on}
+use Rattle.std.proofs.Common.{sym, ◌∙◌}
+use Rattle.hexread.specs.Ends.{records_more, records_end}
+use Rattle.hexread.specs.Judging.{judge_start, judge_none, judge_bad, judge_end, judge_names, judge_moves}
 use Rattle.hexread.proofs.judge.Goals as goal
 
-pub loop-at-init : goal.loop-at-init
-loop-at-init c = judge_start _ _
+pub loop-record-init : goal.loop-record-init
+loop-record-init c = rw c.into_iter-record-iterator.ensures.into_iter_gives (judge_start _ _)
 
-pub record_end-to-requires : goal.record_end-to-requires
-record_end-to-requires c = taken_ends _ _ _ c.loop-at-test.true c.taken_at-taken.ensures
+pub loop-record-preserved-in-Ok-Names : goal.loop-record-preserved-in-Ok-Names
+loop-record-preserved-in-Ok-Names c =
+    let more = records_more c.loop-record.record-iterator c.next.new.self _ c.next.ensures.steps _ c.in-Some.is in
+    let names = rw c.in-Ok-Names.field-0-is at (sym c.in-Ok-Names.is ∙ c.look.ensures) in
+    judge_names _ _ _ _ _ _ (rw more at c.loop-record.invariant) names
 
-pub slice_bounds-look-count : goal.slice_bounds-look-count
-slice_bounds-look-count c = (placed_line _ _ _ _ c.loop-at-test.true c.taken_at-taken.ensures c.record_end-to.ensures).from
+pub loop-record-preserved : goal.loop-record-preserved
+loop-record-preserved c =
+    let more = records_more c.loop-record.record-iterator c.next.new.self _ c.next.ensures.steps _ c.in-Some.is in
+    let moves = rw c.in-Ok-Moves.field-0-is at (sym c.in-Ok-Moves.is ∙ c.look.ensures) in
+    judge_moves _ _ _ _ _ _ (rw more at c.loop-record.invariant) moves
 
-pub slice_bounds-look-start : goal.slice_bounds-look-start
-slice_bounds-look-start c = (placed_line _ _ _ _ c.loop-at-test.true c.taken_at-taken.ensures c.record_end-to.ensures).from
+pub returns-in-Ok-Ends : goal.returns-in-Ok-Ends
+returns-in-Ok-Ends c =
+    let more = records_more c.loop-record.record-iterator c.next.new.self _ c.next.ensures.steps _ c.in-Some.is in
+    let ends = rw c.in-Ok-Ends.field-0-is at (sym c.in-Ok-Ends.is ∙ c.look.ensures) in
+    judge_end _ _ _ _ _ _ (rw more at c.loop-record.invariant) ends
 
-pub slice_bounds-look-end : goal.slice_bounds-look-end
-slice_bounds-look-end c = (placed_line _ _ _ _ c.loop-at-test.true c.taken_at-taken.ensures c.record_end-to.ensures).inside
-
-pub overflow_add-number : goal.overflow_add-number
-overflow_add-number c =
-    let h : c.loop-at.number < length c.args.text.now = omega (arith, c.loop-at.invariant.few, c.loop-at-test.true) in
-    search rules
-
-pub returns-then-seen-ne0 : goal.returns-then-seen-ne0
-returns-then-seen-ne0 c =
-    let h = c.loop-at-test.true in
-    let place = placed_line _ _ _ _ h c.taken_at-taken.ensures c.record_end-to.ensures in
-    step_bad _ _ _ _ _ c.loop-at.invariant h _ _ place _ c.look-seen.ensures c.if-seen-ne0.true
-
-pub returns-then-seen : goal.returns-then-seen
-returns-then-seen c =
-    let h = c.loop-at-test.true in
-    let place = placed_line _ _ _ _ h c.taken_at-taken.ensures c.record_end-to.ensures in
-    step_end _ _ _ _ _ c.loop-at.invariant h _ _ place _ c.look-seen.ensures c.if-seen-ne0.false c.if-seen.true
-
-pub loop-at-smaller : goal.loop-at-smaller
-loop-at-smaller c =
-    let h = c.loop-at-test.true in
-    let place = placed_line _ _ _ _ h c.taken_at-taken.ensures c.record_end-to.ensures in
-    omega (arith, place.later, place.last)
-
-pub loop-at-preserved : goal.loop-at-preserved
-loop-at-preserved c =
-    let h = c.loop-at-test.true in
-    let place = placed_line _ _ _ _ h c.taken_at-taken.ensures c.record_end-to.ensures in
-    step_on _ _ _ _ _ c.loop-at.invariant h _ _ place _ c.look-seen.ensures c.if-seen-ne0.false c.if-seen.false
+pub returns-in-Err : goal.returns-in-Err
+returns-in-Err c =
+    let more = records_more c.loop-record.record-iterator c.next.new.self _ c.next.ensures.steps _ c.in-Some.is in
+    judge_bad _ _ _ _ _ _ (rw more at c.loop-record.invariant) (sym c.in-Err.is ∙ c.look.ensures)
 
 pub returns : goal.returns
-returns c = judge_none _ _ _ _ _ c.loop-at.invariant c.loop-at-test.false
+returns c = judge_none _ _ _ _ (rw (records_end c.loop-record.record-iterator c.next.new.self _ c.next.ensures.steps c.in-None.is) at c.loop-record.invariant)

@@ -1,10 +1,7 @@
 -- `hexread::judge` meets its contract. Assumes nothing.
-use Rattle.std.proofs.Common.{◌-◌, length}
+use Rattle.intelhex.specs.Records.{record_lines}
 use Rattle.hexread.specs.Judging.{Judging}
 use Rattle.hexread.proofs.judge.Given as goal
 
-abbrev pub invariant-loop-at : goal.invariant-loop-at
-invariant-loop-at l = Judging l.text l.size l.at l.upper l.number
-
-abbrev pub decreases-loop-at : goal.decreases-loop-at
-decreases-loop-at l = length l.text - l.at
+abbrev pub invariant-loop-record : goal.invariant-loop-record
+invariant-loop-record l = Judging l.text l.size (record_lines l.record-iterator.rest.now) l.upper l.line

@@ -1,5 +1,6 @@
 -- `hexread::read` meets its contract. Assumes nothing.
 use Rattle.std.proofs.Common.{sym, ◌∙◌}
+use Rattle.std.proofs.lemmas.Result.{err_from_is_err_and}
 use Rattle.hexread.specs.Reading.{other_length, accepted, read_whole, read_refused}
 use Rattle.hexread.proofs.read.Goals as goal
 
@@ -11,20 +12,19 @@ returns-then-array-n c =
 pub fill-requires : goal.fill-requires
 fill-requires c =
     let n = c.length_of-n.ensures.value in
-    let long = c.if-array-n.false ∙ n in
     let a = c.args in
-    accepted a.part _ a.array.now long _ _ n c.judge-v.ensures c.if-v-eq0.true
+    accepted a.part _ a.array.now (c.if-array-n.false ∙ n) _ _ n c.judge.ensures c.in_ok-lines.was
 
-pub returns-then-v-eq0 : goal.returns-then-v-eq0
-returns-then-v-eq0 c =
+pub returns : goal.returns
+returns c =
     let n = c.length_of-n.ensures.value in
-    let long = c.if-array-n.false ∙ n in
-    let t = read_whole _ _ _ long _ _ n c.judge-v.ensures _ c.if-v-eq0.true c.fill.ensures in
+    let t = read_whole _ _ _ (c.if-array-n.false ∙ n) _ _ n c.judge.ensures _ c.in_ok-lines.was c.fill.ensures in
     record { value = t.0; array = t.1 }
 
-pub returns-else-v-eq0 : goal.returns-else-v-eq0
-returns-else-v-eq0 c =
+pub returns-in_err-lines : goal.returns-in_err-lines
+returns-in_err-lines c =
     let n = c.length_of-n.ensures.value in
-    let long = c.if-array-n.false ∙ n in
-    let t = read_refused _ _ _ long _ _ n c.judge-v.ensures c.if-v-eq0.false in
-    record { value = t.0; array = t.1 }
+    let a = c.args in
+    let t = read_refused a.part a.text.now a.array.now (c.if-array-n.false ∙ n) _ _ n c.judge.ensures c.in_err-lines.was in
+    let p = err_from_is_err_and c.from_residual.result c.from_residual.ensures.1 in
+    record { value = rw (p.1, p.2) t.0; array = t.1 }

@@ -1,20 +1,21 @@
 -- `hexread::scan` meets its contract. Assumes nothing.
-use Rattle.std.proofs.Common.{◌≡◌, ◌+◌, ◌*◌, ◌∙◌, arith}
-use Rattle.hexread.specs.Bytes.{scan_start, scan_step, scan_end}
+use Rattle.std.proofs.Common.{refl}
+use Rattle.hexread.specs.Chunks.{chunk_more, chunk_none}
+use Rattle.hexread.specs.Bytes.{scan_step, scan_end}
 use Rattle.hexread.proofs.scan.Goals as goal
 
-pub loop-i-init : goal.loop-i-init
-loop-i-init c = scan_start _ _ c.requires
+pub loop-pair-preserved : goal.loop-pair-preserved
+loop-pair-preserved c =
+    let inv = c.loop-pair.invariant in
+    let m = chunk_more _ _ inv.0 _ _ c.in-Some.is c.next.ensures.steps in
+    (m.size, rw (c.from.ensures, c.from-in-loop-pair.ensures, c.digit-high.ensures, c.digit-low.ensures) (scan_step _ _ _ _ _ _ _ inv.1 m.split m.two refl))
 
-pub returns : goal.returns
-returns c =
-    let e = scan_end _ _ c.requires c.loop-i.digits c.loop-i.sum _ c.loop-i.invariant (omega arith) in
-    rw (e.0, e.1)
+pub returns-then-good : goal.returns-then-good
+returns-then-good c =
+    let inv = c.loop-pair.invariant in
+    rw c.if-good.true at (scan_end _ _ _ _ inv.1 (chunk_none _ _ inv.0 _ c.in-None.is c.next.ensures.steps))
 
-pub loop-i-preserved : goal.loop-i-preserved
-loop-i-preserved c =
-    let i = c.loop-i.i in
-    let high = c.digit-high.ensures in
-    let low = c.digit-low.ensures in
-    let two : 2 * i + 1 + 1 ≡ 2 * i + 2 = omega arith in
-    rw (high, low) (scan_step _ _ c.requires _ _ _ _ c.loop-i.invariant (omega arith) (rw two (c.wrapping_add_u8-sum.ensures.value ∙ rw (high, low))))
+pub returns-else-good : goal.returns-else-good
+returns-else-good c =
+    let inv = c.loop-pair.invariant in
+    rw c.if-good.false at (scan_end _ _ _ _ inv.1 (chunk_none _ _ inv.0 _ c.in-None.is c.next.ensures.steps))
