@@ -1,9 +1,9 @@
 -- Words are a saved state exactly where those of what is under way are what it is saved as, and each other number is in
 -- its range (is_saved_in_range). Assumes nothing.
 use Prim.Native.Nat.{ℕ, zero, suc, ◌<◌, ◌≤◌, ◌+◌, ◌/◌, ◌%◌}
-use Rattle.std.specs.Prelude.{Bool, true, false, not, cond, ◌&&◌, List, ◌≡◌, refl, eqb, ltb, length, get_or, Some, None, Ok, Err}
+use Rattle.std.specs.Prelude.{Bool, true, false, not, cond, ◌&&◌, ◌⊎◌, List, ◌≡◌, refl, eqb, ltb, length, get_or, is_ok, Result, Some, None, Ok, Err}
 use Rattle.std.proofs.Math.Bool.{and_assoc, and_comm, and-true}
-use Rattle.std.proofs.Common.{sym, ap, ◌∙◌, subst, mod-eq_of_lt, eq-eqb, ne_eqb, eqb-true, ltb-true, ltb-false, lt-ltb}
+use Rattle.std.proofs.Common.{sym, ap, ◌∙◌, subst, inl, inr, mod-eq_of_lt, eq-eqb, ne_eqb, eqb-true, ltb-true, ltb-false, lt-ltb}
 use Rattle.std.proofs.Math.Nat.{mod-lt}
 use native.Mathlib.Omega.{arith}
 use Rattle.std.proofs.lemmas.Bool.{eqb-false}
@@ -206,17 +206,19 @@ pub unsaved_found : (ws : List ℕ) → is_saved ws ≡ false → Err (no_state 
 unfolding state_of
 unsaved_found ws h = rw h
 
--- and for who calls: `Ok` says that the words are a saved state, and either way the state is that of the words
-pub found_ok : (ws : List ℕ) (s : State) → Ok s ≡ found_of ws → (is_saved ws ≡ true) × (s ≡ state_of ws)
-found_ok ws s h = go (is_saved ws) refl h
+-- for who calls: it is `Ok` where the words are a saved state, and either way with the state of the words
+pub found_is_ok : (ws : List ℕ) → is_ok (found_of ws) ≡ is_saved ws
+found_is_ok ws = go (is_saved ws)
   where
-    go : (t : Bool) → is_saved ws ≡ t → Ok s ≡ cond t (Ok (state_of ws)) (Err (state_of ws)) → (is_saved ws ≡ true) × (s ≡ state_of ws)
-    go true e p = (e, cc)
-    go false e p = cc
+    go : (t : Bool) → is_ok (cond t (Ok (state_of ws)) (Err (state_of ws))) ≡ t
+    go true = refl
+    go false = refl
 
-pub found_err : (ws : List ℕ) (s : State) → Err s ≡ found_of ws → (is_saved ws ≡ false) × (s ≡ state_of ws)
-found_err ws s h = go (is_saved ws) refl h
+pub found_state : (ws : List ℕ) (r : Result State State) (s : State) → r ≡ found_of ws → (r ≡ Ok s) ⊎ (r ≡ Err s) → s ≡ state_of ws
+found_state ws r s h = go (is_saved ws) h
   where
-    go : (t : Bool) → is_saved ws ≡ t → Err s ≡ cond t (Ok (state_of ws)) (Err (state_of ws)) → (is_saved ws ≡ false) × (s ≡ state_of ws)
-    go true e p = cc
-    go false e p = (e, cc)
+    go : (t : Bool) → r ≡ cond t (Ok (state_of ws)) (Err (state_of ws)) → (r ≡ Ok s) ⊎ (r ≡ Err s) → s ≡ state_of ws
+    go true p (inl q) = cc
+    go true p (inr q) = cc
+    go false p (inl q) = cc
+    go false p (inr q) = cc
