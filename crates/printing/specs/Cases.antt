@@ -3,6 +3,7 @@
 -- Assumes nothing.
 use Rattle.std.specs.Prelude.{ℕ, Bool, true, false, ◌&&◌, List, [], ◌∷◌, T, eqb, length}
 use Prim.Native.String.{String}
+use Rattle.refusal.specs.declared.Refusal.TheVariants as refusal
 use Rattle.semantics.specs.declared.Answer.{Answer}
 use Rattle.semantics.specs.declared.Answer.TheVariants.{Word, Units, Done, Refused}
 use Rattle.semantics.specs.Tabulate.{tabulate}
@@ -49,7 +50,7 @@ cases =
     ∷ line 9 Done "9 ok\n"
     ∷ line 10 (Word 0x1234) "10 1234\n"
     ∷ line 11 (Word 0x1234) "11 1234\n"
-    ∷ line 12 (Refused 4) "12 refused 4\n"
+    ∷ line 12 (Refused refusal.WorkCount) "12 refused 4\n"
     ∷ ended 12 "end 12\n"
     -- "Empty input prints `end 0`."
     ∷ ended 0 "end 0\n"

@@ -5,6 +5,8 @@ use Prim.Native.Char.{code}
 use Prim.Native.String.{String, [] as []ˢ, ◌∷◌ as ◌∷ˢ◌}
 use Rattle.std.proofs.Common.{sym, ap, ◌∙◌, pow-suc, arith, length-append, lt-ltb, le-ltb}
 use Rattle.std.proofs.Math.Decide.{dec_lt}
+use Rattle.refusal.specs.declared.Refusal.{Refusal}
+use Rattle.refusal.specs.Numbers.{number}
 use Rattle.semantics.specs.declared.Answer.{Answer}
 use Rattle.semantics.specs.declared.Answer.TheVariants.{Word, Units, Done, Refused}
 use Rattle.semantics.specs.Steps.{number_of, value_of}
@@ -37,7 +39,7 @@ abbrev pub wording : Answer → ℕ → ℕ → List ℕ
 wording (Word w) value number = hex4 value
 wording (Units n) value number = decimal value
 wording Done value number = text "ok"
-wording (Refused n) value number = text "refused " ++ decimal number
+wording (Refused e) value number = text "refused " ++ decimal number
 
 -- the value and the number are document 01's
 unfoldable pub answer_text : Answer → List ℕ
@@ -116,9 +118,9 @@ pub done_short : length (answer_text Done) ≤ 9
 unfolding answer_text
 done_short = omega arith
 
-pub refused_short : (n : ℕ) → n < 10 → length (answer_text (Refused n)) ≤ 9
+pub refused_short : (e : Refusal) → number e < 10 → length (answer_text (Refused e)) ≤ 9
 unfolding answer_text
-refused_short n h = omega (arith, length-append (text "refused ") (decimal n), decimal_1 n h)
+refused_short e h = omega (arith, length-append (text "refused ") (decimal (number e)), decimal_1 (number e) h)
 
 -- `16384 refused 6` and LF: 16 bytes at most
 pub line_short : (k : ℕ) (a : Answer) → k < 100000 → length (answer_text a) ≤ 9 → length (line_text k a) ≤ 16

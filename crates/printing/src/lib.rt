@@ -79,9 +79,9 @@ impl Printer<'_> {
             Answer::Word(w) => self.hex4(w),
             Answer::Units(n) => self.decimal(n),
             Answer::Done => self.text(b"ok"),
-            Answer::Refused(n) => {
+            Answer::Refused(e) => {
                 self.text(b"refused ");
-                self.decimal(n);
+                self.decimal(e.into());
             }
         }
     }

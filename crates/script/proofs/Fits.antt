@@ -1,8 +1,12 @@
 -- How long a transcript is at most: a room of 262,154 bytes holds every one. 16,384 lines of at most 16 bytes, and at most 10 bytes at the end.
 -- Assumes nothing.
-use Rattle.std.specs.Prelude.{ℕ, zero, suc, ◌+◌, ◌*◌, ◌<◌, ◌≤◌, min, Bool, true, false, cond, List, [], ◌∷◌, ◌≡◌, refl, eqb, length, Option, Some, None}
+use Rattle.std.specs.Prelude.{ℕ, zero, suc, ◌+◌, ◌*◌, ◌<◌, ◌≤◌, min, Bool, true, false, cond, List, [], ◌∷◌, ◌≡◌, refl, eqb, leb, length, Option, Some, None}
 use Rattle.std.proofs.Common.{⊎_elim, sym, ap, subst, ◌∙◌, arith, length-append, eqb-true}
-use Rattle.std.proofs.Math.Dec.{eqb-suc-zero}
+use Rattle.std.specs.Option.{option_map_or, unwrap_or}
+use Rattle.std.proofs.lemmas.Option.{none-some}
+use Rattle.refusal.specs.declared.Refusal.{Refusal}
+use Rattle.refusal.specs.declared.Refusal.TheVariants as refusal
+use Rattle.refusal.specs.Numbers.{number}
 use Rattle.geometry.specs.declared.Part.TheVariants.{BenchBottom}
 use Rattle.geometry.specs.Laws.{order}
 use Rattle.semantics.specs.declared.State.{State}
@@ -12,7 +16,7 @@ use Rattle.semantics.specs.declared.Answer.TheVariants.{Refused}
 use Rattle.semantics.specs.State.{geometry}
 use Rattle.semantics.specs.Reading.{read_word}
 use Rattle.semantics.specs.Working.{units_done}
-use Rattle.semantics.specs.Card.{row, lower, given, card}
+use Rattle.semantics.specs.Card.{row, lower, given, number_given, card}
 use Rattle.semantics.specs.Split.{first_refusal}
 use Rattle.semantics.proofs.Split.{count_bad}
 use Rattle.semantics.specs.Steps.{next, accepted}
@@ -31,49 +35,54 @@ use Rattle.script.proofs.Laws.{script_short, journaled, worn, ended, at_end}
 
 -- ---- a refusal has one digit
 
-cond_below : (b : Bool) (x y : ℕ) → x < 10 → y < 10 → cond b x y < 10
-cond_below true x y h k = h
-cond_below false x y h k = k
+lower_below : (e : Refusal) (o : Option Refusal) → number e < 10 → number_given o < 10 → number (lower e o) < 10
+lower_below e None h k = h
+lower_below e (Some d) h k = go (leb (number e) (number d))
+  where
+    go : (b : Bool) → number (cond b e d) < 10
+    go true = h
+    go false = k
 
-row_below : (b : Bool) (n m : ℕ) → n < 10 → m < 10 → cond b (lower n m) m < 10
-row_below b n m h k = cond_below b (lower n m) m (cond_below (eqb m 0) n (min n m) h (omega arith)) k
+row_below : (b : Bool) (e : Refusal) (o : Option Refusal) → number e < 10 → number_given o < 10 → number_given (cond b (Some (lower e o)) o) < 10
+row_below true e o h k = lower_below e o h k
+row_below false e o h k = k
 
-rows_below : (a f t u v : Bool) → given (row 1 a ∷ row 2 f ∷ row 3 t ∷ row 4 u ∷ row 5 v ∷ []) < 10
+rows_below : (a f t u v : Bool)
+    → number_given (given (row refusal.ArrayLength a ∷ row refusal.Malformed f ∷ row refusal.Address t ∷ row refusal.WorkCount u ∷ row refusal.NoBlock v ∷ [])) < 10
 unfolding given
 rows_below a f t u v =
-    row_below a 1 _ (omega arith)
-    (row_below f 2 _ (omega arith)
-    (row_below t 3 _ (omega arith)
-    (row_below u 4 _ (omega arith) (row_below v 5 0 (omega arith) (omega arith)))))
+    row_below a refusal.ArrayLength _ (omega arith)
+    (row_below f refusal.Malformed _ (omega arith)
+    (row_below t refusal.Address _ (omega arith)
+    (row_below u refusal.WorkCount _ (omega arith) (row_below v refusal.NoBlock None (omega arith) (omega arith)))))
 
-refusal_below : (s : State) (k : Counts) (n : ℕ) (x : Step) → refusal_with s k n x < 10
+refusal_below : (s : State) (k : Counts) (n : ℕ) (x : Step) → number_given (refusal_with s k n x) < 10
 unfolding refusal_with card
 refusal_below s k n x = rows_below _ _ _ _ _
 
-line_below : (m : Counted) → line_refusal m < 10
-unfolding line_refusal first_refusal
+line_below : (m : Counted) → number (line_refusal m) < 10
+unfolding line_refusal
 line_below m =
-    cond_below (eqb n 0) 6 n (omega arith)
-    (refusal_below m.machine.state m.counts (length m.machine.array) Reset)
+    go (refusal_with m.machine.state m.counts (length m.machine.array) Reset) (refusal_below m.machine.state m.counts (length m.machine.array) Reset)
   where
-    n : ℕ
-    n = refusal_with m.machine.state m.counts (length m.machine.array) Reset
+    go : (o : Option Refusal) → number_given o < 10 → number (unwrap_or o refusal.NoStep) < 10
+    go None h = omega arith
+    go (Some e) h = h
 
 -- ---- an answer has at most 9 bytes
 
 -- a count that is not refused is at most 65,535, and so are the units done
-count_short : (s : State) (k : Counts) (n l : ℕ) → refusal_with s k l (Work n) ≡ 0 → n ≤ 65535
-unfolding first_refusal
+count_short : (s : State) (k : Counts) (n l : ℕ) → refusal_with s k l (Work n) ≡ None → n ≤ 65535
 count_short s k n l h = ⊎_elim (λ i. absurd (go (refusal_with s k l Reset) (refused i))) (λ i. i) (order 65535 n)
   where
-    refused : 65535 < n → first_refusal (refusal_with s k l Reset) 4 ≡ 0
+    refused : 65535 < n → first_refusal (refusal_with s k l Reset) (Some refusal.WorkCount) ≡ None
     refused i = sym (refusal_first s k l (Work n) ∙ rw (count_bad (geometry s) n i)) ∙ h
 
-    go : (a : ℕ) → first_refusal a 4 ≡ 0 → ⊥
-    go zero e = omega (arith, e)
-    go (suc a) e = omega (arith, rw (eqb-suc-zero a) at e)
+    go : (o : Option Refusal) → first_refusal o (Some refusal.WorkCount) ≡ None → ⊥
+    go None e = none-some _ (sym e)
+    go (Some d) e = none-some _ (sym e)
 
-accepted_short : (s : State) (k : Counts) (xs : List ℕ) (x : Step) → refusal_with s k (length xs) x ≡ 0 → length (answer_text (accepted s xs x).answer) ≤ 9
+accepted_short : (s : State) (k : Counts) (xs : List ℕ) (x : Step) → refusal_with s k (length xs) x ≡ None → length (answer_text (accepted s xs x).answer) ≤ 9
 unfolding accepted units_done
 accepted_short s k xs (Read address) h = word_short (read_word s xs address)
 accepted_short s k xs (Write address w) h = done_short
@@ -83,11 +92,11 @@ accepted_short s k xs Reset h = done_short
 
 step_short : (s : State) (k : Counts) (xs : List ℕ) (x : Step) → length (answer_text (step_with s k xs x).answer) ≤ 9
 unfolding step_with
-step_short s k xs x = go (eqb (refusal_with s k (length xs) x) 0) refl
+step_short s k xs x = go (refusal_with s k (length xs) x) refl
   where
-    go : (b : Bool) → eqb (refusal_with s k (length xs) x) 0 ≡ b → length (answer_text (cond b (accepted s xs x) (next s (Refused (refusal_with s k (length xs) x)))).answer) ≤ 9
-    go true e = accepted_short s k xs x (eqb-true (refusal_with s k (length xs) x) 0 e)
-    go false e = refused_short (refusal_with s k (length xs) x) (refusal_below s k (length xs) x)
+    go : (o : Option Refusal) → refusal_with s k (length xs) x ≡ o → length (answer_text (option_map_or (λ e. next s (Refused e)) o (accepted s xs x)).answer) ≤ 9
+    go None e = accepted_short s k xs x e
+    go (Some d) e = refused_short d (subst (λ (o : Option Refusal). number_given o < 10) e (refusal_below s k (length xs) x))
 
 answer_short : (m : Counted) (d : Option Step) → length (answer_text (answer_of m d)) ≤ 9
 answer_short m (Some x) = step_short m.machine.state m.counts m.machine.array x

@@ -13,7 +13,9 @@ use Rattle.semantics.specs.declared.Step.TheVariants.{Reset}
 use Rattle.semantics.specs.declared.Answer.TheVariants.{Refused}
 use Rattle.semantics.specs.declared.Next.{Next}
 use Rattle.semantics.specs.State.{geometry}
-use Rattle.semantics.specs.Split.{first_refusal}
+use Rattle.std.specs.Option.{unwrap_or}
+use Rattle.refusal.specs.declared.Refusal.{Refusal}
+use Rattle.refusal.specs.declared.Refusal.TheVariants as refusal
 use Rattle.semantics.specs.Steps.{next, Machine, after_all, fresh}
 use Rattle.semantics.proofs.Invariant.{state_good}
 use Rattle.semantics.specs.Demand.{Demand3}
@@ -42,10 +44,10 @@ use Rattle.script.specs.Laws.{PlayedAt, Begun, Sofar}
 -- ---- lines that are refused, and texts that are empty or too long
 
 -- 1 "array length is not 256u": whatever the line, a form or none
-pub other_array : (m : Counted) (d : Option Step) → (length m.machine.array ≡ words (geometry m.machine.state) → ⊥) → answer_of m d ≡ Refused 1
-unfolding line_refusal step_with first_refusal
+pub other_array : (m : Counted) (d : Option Step) → (length m.machine.array ≡ words (geometry m.machine.state) → ⊥) → answer_of m d ≡ Refused refusal.ArrayLength
+unfolding line_refusal step_with
 other_array m (Some x) h =
-    let e : step_with m.machine.state m.counts m.machine.array x ≡ next m.machine.state (Refused 1) =
+    let e : step_with m.machine.state m.counts m.machine.array x ≡ next m.machine.state (Refused refusal.ArrayLength) =
     rw (length_refused m.machine.state m.counts (length m.machine.array) h x)
     in
     ap (λ (y : Next). y.answer) e
@@ -82,8 +84,8 @@ machine_alone xs t = ap (λ (m : Counted). m.machine) (machine_steps xs t) ∙ a
 
 -- on an array of the part's length 1 and 2 do not come: a line without a form is refused 6, wherever it stands
 module _ (xs : List ℕ) (before : List (List ℕ)) (h : length xs ≡ words (geometry_of BenchBottom)) where
-  pub no_form : (l : List ℕ) → step_of_line l ≡ None → answer_of (after_lines (fresh_with BenchBottom xs) before) (step_of_line l) ≡ Refused 6
-  unfolding line_refusal first_refusal
+  pub no_form : (l : List ℕ) → step_of_line l ≡ None → answer_of (after_lines (fresh_with BenchBottom xs) before) (step_of_line l) ≡ Refused refusal.NoStep
+  unfolding line_refusal
   no_form l e =
       let m : Counted = after_lines (fresh_with BenchBottom xs) before in
       let steps : m ≡ after_all_with (fresh_with BenchBottom xs) (steps_of_lines before) = lines_steps (fresh_with BenchBottom xs) before in
@@ -93,10 +95,10 @@ module _ (xs : List ℕ) (before : List (List ℕ)) (h : length xs ≡ words (ge
       rw (e, refusal_alone m.machine.state m.counts zero (length m.machine.array) Reset, state_good m.machine.state (length m.machine.array) good.size good.formed)
 
   -- "A line over 16 bytes, or empty, is refused 6."
-  pub long_refused : (l : List ℕ) → 16 < length l → answer_of (after_lines (fresh_with BenchBottom xs) before) (step_of_line l) ≡ Refused 6
+  pub long_refused : (l : List ℕ) → 16 < length l → answer_of (after_lines (fresh_with BenchBottom xs) before) (step_of_line l) ≡ Refused refusal.NoStep
   long_refused l k = no_form l (long_invalid l k)
 
-  pub empty_refused : answer_of (after_lines (fresh_with BenchBottom xs) before) (step_of_line []) ≡ Refused 6
+  pub empty_refused : answer_of (after_lines (fresh_with BenchBottom xs) before) (step_of_line []) ≡ Refused refusal.NoStep
   empty_refused = no_form [] empty_invalid
 
 -- so demand 3 holds of its array
@@ -119,7 +121,7 @@ module _ (line : List ℕ) (d : Device) (number : ℕ) (k : Counts) (xs room : L
   }
 
   -- a line with none: nothing changed, and the refusal was printed
-  pub line_refused : (n : ℕ) (after : List ℕ) (next : ℕ) → step_of_line line ≡ None → n ≡ first_refusal (refusal_with d.state k (length xs) Reset) 6
+  pub line_refused : (n : Refusal) (after : List ℕ) (next : ℕ) → step_of_line line ≡ None → n ≡ unwrap_or (refusal_with d.state k (length xs) Reset) refusal.NoStep
       → Put room place (line_text number (Refused n)) after next → LinePlayed line d number k xs room place (record { device = d; place = next }) k xs after
   unfolding line_refusal
   line_refused n after next e f p = record { machine = rw e; written = rw (e, ← f) p }

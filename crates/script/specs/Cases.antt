@@ -15,7 +15,6 @@ use Rattle.semantics.specs.Reading.{runs_in, status_word, signature_word, query_
 use Rattle.semantics.specs.Writing.{command_of, resume, accepts, set_up, clear_status, first_cycle, program_runs, erase_cycle, lock_command_of, lock_cycle, settle, loads, count_right, first_right, later_right, confirm_right, confirm_cycle, words_cycle, cycle, kept_if, first_loaded, words_loaded, held_after, loaded, written_at, written}
 use Rattle.semantics.specs.Working.{units_left, units_done, running_after, word_after, array_after, buffer_after, worked_on, worked, worked_array}
 use Rattle.semantics.specs.Card.{given, card}
-use Rattle.semantics.specs.Split.{first_refusal}
 use Rattle.semantics.specs.Steps.{switched_to, accepted, accepted_array}
 use Rattle.wear.specs.Counts.{row_of, place_in, count_at, count_of, shared_zero, no_counts, put_at, with_count, one_more, counts_after}
 use Rattle.wear.specs.Steps.{formed_with, refusal_with, accepted_counts, step_with, array_with, counts_with}
@@ -107,7 +106,7 @@ plays =
     ∷ []
 
 pub plays_hold : map printed plays ≡ map output plays
-unfolding script_of lines line_refusal transcript_of digit_of digits decimal hex4 answer_text line_text end_text hex_value line_digits number begins is_read is_write is_work is_supply is_reset step_of_line mirror block_from block_of bank_of size_of start_from start_of bank_start block_offset bank_offset bank_of_block lookup_of bit bit_at is_unprotected with_unprotected spare_zero all_protected empty_buffer power_up running_alone program_alone erase_alone erase_fits words_fit buffer_fits setup_fits running_fits program_fits suspended_erase_fits all_fit running_apart program_apart apart activity_formed setup_places running_places program_places places_used zero_from reserved_zero runs_supplied well_formed runs_in status_word signature_word query_word shown shows_by read_in read_word command_of end_flags ended ended_if_unsupplied resume accepts set_up clear_status first_cycle program_runs erase_cycle lock_command_of without_reserved lock_cycle settle loads count_right first_right later_right confirm_right confirm_cycle words_cycle cycle kept_if first_loaded words_loaded held_after loaded written_at written units_left units_done running_after word_after tabulate array_after buffer_after worked_on worked worked_array given card first_refusal switched switched_to accepted accepted_array row_of place_in count_at count_of shared_zero no_counts put_at with_count one_more counts_after formed_with refusal_with accepted_counts step_with array_with counts_with
+unfolding script_of lines line_refusal transcript_of digit_of digits decimal hex4 answer_text line_text end_text hex_value line_digits number begins is_read is_write is_work is_supply is_reset step_of_line mirror block_from block_of bank_of size_of start_from start_of bank_start block_offset bank_offset bank_of_block lookup_of bit bit_at is_unprotected with_unprotected spare_zero all_protected empty_buffer power_up running_alone program_alone erase_alone erase_fits words_fit buffer_fits setup_fits running_fits program_fits suspended_erase_fits all_fit running_apart program_apart apart activity_formed setup_places running_places program_places places_used zero_from reserved_zero runs_supplied well_formed runs_in status_word signature_word query_word shown shows_by read_in read_word command_of end_flags ended ended_if_unsupplied resume accepts set_up clear_status first_cycle program_runs erase_cycle lock_command_of without_reserved lock_cycle settle loads count_right first_right later_right confirm_right confirm_cycle words_cycle cycle kept_if first_loaded words_loaded held_after loaded written_at written units_left units_done running_after word_after tabulate array_after buffer_after worked_on worked worked_array given card switched switched_to accepted accepted_array row_of place_in count_at count_of shared_zero no_counts put_at with_count one_more counts_after formed_with refusal_with accepted_counts step_with array_with counts_with
 plays_hold = refl
 
 -- ---- the counts after a script, which no line of it shows
@@ -130,5 +129,5 @@ worn =
     ∷ []
 
 pub worn_hold : map counted worn ≡ map counts worn
-unfolding script_of lines line_refusal transcript_of machine_at_end digit_of digits decimal hex4 answer_text line_text end_text hex_value line_digits number begins is_read is_write is_work is_supply is_reset step_of_line mirror block_from block_of bank_of size_of start_from start_of bank_start block_offset bank_offset bank_of_block lookup_of bit bit_at is_unprotected with_unprotected spare_zero all_protected empty_buffer power_up running_alone program_alone erase_alone erase_fits words_fit buffer_fits setup_fits running_fits program_fits suspended_erase_fits all_fit running_apart program_apart apart activity_formed setup_places running_places program_places places_used zero_from reserved_zero runs_supplied well_formed runs_in status_word signature_word query_word shown shows_by read_in read_word command_of end_flags ended ended_if_unsupplied resume accepts set_up clear_status first_cycle program_runs erase_cycle lock_command_of without_reserved lock_cycle settle loads count_right first_right later_right confirm_right confirm_cycle words_cycle cycle kept_if first_loaded words_loaded held_after loaded written_at written units_left units_done running_after word_after tabulate array_after buffer_after worked_on worked worked_array given card first_refusal switched switched_to accepted accepted_array row_of place_in count_at count_of shared_zero no_counts put_at with_count one_more counts_after formed_with refusal_with accepted_counts step_with array_with counts_with
+unfolding script_of lines line_refusal transcript_of machine_at_end digit_of digits decimal hex4 answer_text line_text end_text hex_value line_digits number begins is_read is_write is_work is_supply is_reset step_of_line mirror block_from block_of bank_of size_of start_from start_of bank_start block_offset bank_offset bank_of_block lookup_of bit bit_at is_unprotected with_unprotected spare_zero all_protected empty_buffer power_up running_alone program_alone erase_alone erase_fits words_fit buffer_fits setup_fits running_fits program_fits suspended_erase_fits all_fit running_apart program_apart apart activity_formed setup_places running_places program_places places_used zero_from reserved_zero runs_supplied well_formed runs_in status_word signature_word query_word shown shows_by read_in read_word command_of end_flags ended ended_if_unsupplied resume accepts set_up clear_status first_cycle program_runs erase_cycle lock_command_of without_reserved lock_cycle settle loads count_right first_right later_right confirm_right confirm_cycle words_cycle cycle kept_if first_loaded words_loaded held_after loaded written_at written units_left units_done running_after word_after tabulate array_after buffer_after worked_on worked worked_array given card switched switched_to accepted accepted_array row_of place_in count_at count_of shared_zero no_counts put_at with_count one_more counts_after formed_with refusal_with accepted_counts step_with array_with counts_with
 worn_hold = refl

@@ -8,7 +8,9 @@ use Rattle.semantics.specs.declared.Step.{Step}
 use Rattle.semantics.specs.declared.Step.TheVariants.{Reset}
 use Rattle.semantics.specs.declared.Answer.{Answer}
 use Rattle.semantics.specs.declared.Answer.TheVariants.{Refused}
-use Rattle.semantics.specs.Split.{first_refusal}
+use Rattle.std.specs.Option.{unwrap_or}
+use Rattle.refusal.specs.declared.Refusal.{Refusal}
+use Rattle.refusal.specs.declared.Refusal.TheVariants.{NoStep}
 use Rattle.semantics.specs.Demand.{Demand3}
 use Rattle.wear.specs.Counts.{Counts}
 use Rattle.wear.specs.Steps.{refusal_with, Counted, beside, answer_with, after_with, fresh_with}
@@ -32,8 +34,8 @@ script_of text = take 16384 text
 -- what a line without a form is refused for: 6 "script line not one of the forms below", but "The lowest number is given.", and 1 "array length is not 256u"
 -- is given by "every step, and all else that takes an array" (and 2 by "all that take a device", though no script comes
 -- to a state that is not well formed): so what a reset is refused for comes first, which has no numbers of its own
-unfoldable pub line_refusal : Counted → ℕ
-line_refusal m = first_refusal (refusal_with m.machine.state m.counts (length m.machine.array) Reset) 6
+unfoldable pub line_refusal : Counted → Refusal
+line_refusal m = unwrap_or (refusal_with m.machine.state m.counts (length m.machine.array) Reset) NoStep
 
 -- what a line answers: its step's answer, or that it is refused. "A line over 16 bytes, or empty" has no form
 abbrev pub answer_of : Counted → Option Step → Answer

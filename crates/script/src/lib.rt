@@ -9,6 +9,7 @@ ghost use Rattle.script.specs.Laws.{PlayedAt, Begun};
 
 use device::Device;
 use geometry::Part;
+use refusal::Refusal;
 use semantics::Answer;
 
 // ---- the text of a script
@@ -60,7 +61,9 @@ fn play_line(
             }
         }
         None => {
-            let refusal = state::first_refusal(device::refusal_of(device.state, main, array.len()), 6);
+            let refusal = device::refusal_of(device.state, main, array.len()).unwrap_or(
+                Refusal::NoStep,
+            );
             Played {
                 device,
                 place: printing::put_line(room, place, number, Answer::Refused(refusal)),

@@ -17,4 +17,4 @@ returns-in-Done c = rw c.in-Done.is c.text.ensures
 
 pub returns-in-Refused : goal.returns-in-Refused
 unfolding answer_text
-returns-in-Refused c = rw c.in-Refused.is (printed_then c.text-in-Refused.ensures c.decimal-in-Refused.ensures)
+returns-in-Refused c = rw c.in-Refused.is (printed_then c.text-in-Refused.ensures (rw c.into.ensures at c.decimal-in-Refused.ensures))
