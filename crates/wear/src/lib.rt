@@ -30,8 +30,8 @@ fn place_of(block: u32) -> Option<Place>
     match block {
         0..=3 => Some(Place::Small(block as usize)),
         4..=258 => {
-            let at = (block - 3) as usize;
-            Some(Place::Main(at / 16, at % 16))
+            let at = block - 3;
+            Some(Place::Main((at / 16) as usize, (at % 16) as usize))
         }
         _ => None,
     }
