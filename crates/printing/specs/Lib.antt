@@ -1,5 +1,4 @@
 -- The modules of the specification.
 pub mod Text
 pub mod Room
-pub mod Printing
 pub mod Cases
