@@ -2,7 +2,6 @@
 pub mod Ends
 pub mod Bytes
 pub mod Refusals
-pub mod Chunks
 pub mod Put
 pub mod Judging
 pub mod Storing

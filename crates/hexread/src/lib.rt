@@ -149,24 +149,21 @@ impl Header {
             Ok(())
         }
     }
-}
 
-impl Record {
-    // Of a good line.
-    fn of(line: &[u8]) -> Record
-        requires header { 11 ≤ length line.now }
+    // What the good record of a line does.
+    fn record(self, line: &[u8]) -> Record
+        requires header { self ≡ header_of line.now }
         requires upper { kind line.now ≡ 4 → 13 ≤ length line.now }
         ensures { result ≡ record_of line.now }
     {
-        let h = Header::of(line);
-        match h.kind {
+        match self.kind {
             Kind::End => Record::Ends,
             Kind::Upper => Record::Moves(
                 u32::from(byte_at(line, 9)) * 256 + u32::from(byte_at(line, 11)),
             ),
             Kind::Data | Kind::Other => Record::Names {
-                offset: h.offset,
-                count: h.count,
+                offset: self.offset,
+                count: self.count,
             },
         }
     }
@@ -185,7 +182,7 @@ fn look(line: &[u8], upper: u32, size: u64) -> Result<Record, Refusal>
     }
     let sum = scan(&line[1..]).ok_or(Refusal::RecordForm)?;
     h.test(sum, upper, size)?;
-    Ok(Record::of(line))
+    Ok(h.record(line))
 }
 
 // ---- the text
@@ -280,7 +277,7 @@ fn fill(text: &[u8], array: &mut [u16])
 {
     let mut upper: u32 = 0;
     for line in (Records { rest: text }) {
-        match Record::of(line) {
+        match Header::of(line).record(line) {
             Record::Names { offset, count } => {
                 let start = upper as usize * 65536 + offset as usize;
                 store(&line[9..9 + 2 * count as usize], start, array);

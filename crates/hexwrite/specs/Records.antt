@@ -1,6 +1,7 @@
 -- What the private functions leave in the room, up to a whole record, and the laws that join it. Assumes nothing.
 use Rattle.std.specs.Prelude.{◌≡◌, ℕ, ◌+◌, ◌-◌, ◌*◌, ◌%◌, ◌<◌, ◌≤◌, List, [], ◌∷◌, ◌++◌, length, slice_set, refl}
-use Rattle.std.proofs.Common.{append_assoc, sym, ◌∙◌, arith, length-set}
+use Rattle.std.proofs.Common.{append_assoc, sym, ◌∙◌, arith, length-set, length-append}
+use Rattle.hexwrite.specs.declared.Record.{Record}
 use Rattle.printing.specs.Room.{placed, advanced, advanced_in, placed_append, placed_length, placed_none, put_in}
 use Rattle.printing.specs.Room.{put_then}
 use Rattle.intelhex.specs.Records.{total}
@@ -8,15 +9,17 @@ use Rattle.intelhex.specs.Text.{digits_of, check_of, record_text}
 use Rattle.intelhex.specs.Sizes.{length_digits_of}
 use Rattle.intelhex.proofs.Bytes.{total_append}
 
--- bytes put in digits at a place of the room, and added to a sum, as it wraps at 256
-pub record Added (before : List ℕ) (at sum : ℕ) (bytes : List ℕ) (after : List ℕ) (next : ℕ) : Type 0 where
-  pub room : after ≡ placed before at (digits_of bytes)
-  pub summed : next ≡ (sum + total bytes) % 256
+-- bytes put in digits at the place of a record that is begun, and added to its sum, which is a byte, as it wraps at 256
+pub record Added (before : List ℕ) (r : Record) (bytes : List ℕ) (after : List ℕ) (next : Record) : Type 0 where
+  pub room : after ≡ placed before r.at (digits_of bytes)
+  pub place : next.at ≡ r.at + 2 * length bytes
+  pub summed : r.sum < 256 → next.sum ≡ (r.sum + total bytes) % 256
 
--- a record's colon and first bytes put at a place, and their sum
-pub record Begun (before : List ℕ) (at : ℕ) (bytes : List ℕ) (after : List ℕ) (sum : ℕ) : Type 0 where
+-- a record's colon and first bytes put at a place
+pub record Begun (before : List ℕ) (at : ℕ) (bytes : List ℕ) (after : List ℕ) (next : Record) : Type 0 where
   pub room : after ≡ placed before at (58 ∷ digits_of bytes)
-  pub summed : sum ≡ total bytes % 256
+  pub place : next.at ≡ at + 1 + 2 * length bytes
+  pub summed : next.sum ≡ total bytes % 256
 
 -- what ends a record whose bytes come to that sum: the check byte, and LF
 unfoldable pub ended : ℕ → List ℕ
@@ -47,40 +50,42 @@ digits_append [] y = refl
 digits_append (b ∷ x) y = rw (digits_append x y)
 
 -- no byte yet
-pub added_none : (room : List ℕ) (at : ℕ) {sum : ℕ} → sum < 256 → Added room at sum [] room sum
+pub added_none : (room : List ℕ) (r : Record) → Added room r [] room r
 unfolding digits_of total
-added_none room at h = record { room = sym (placed_none room at); summed = omega arith }
+added_none room r = record { room = sym (placed_none room r.at); place = omega arith; summed = λ h. omega arith }
 
 -- a record's colon alone
-pub begun_none : (room : List ℕ) (at : ℕ) → at < length room → Begun room at [] (slice_set room at 58) 0
+pub begun_none : (room : List ℕ) (at : ℕ) → at < length room → Begun room at [] (slice_set room at 58) (record { at = at + 1; sum = 0 })
 unfolding digits_of total
-begun_none room at h = record { room = (put_in room at 58 h).room; summed = refl }
+begun_none room at h = record { room = (put_in room at 58 h).room; place = omega arith; summed = refl }
 
 -- more bytes
-module _ {before middle after x y : List ℕ} {at place next last : ℕ} where
-  pub added_then : {sum : ℕ} → Added before at sum x middle next → Added middle place next y after last
-      → place ≡ at + 2 * length x → place ≤ length before → Added before at sum (x ++ y) after last
-  added_then p q e h =
+module _ {before middle after x y : List ℕ} {next last : Record} where
+  pub added_then : {r : Record} → Added before r x middle next → Added middle next y after last → next.at ≤ length before
+      → Added before r (x ++ y) after last
+  added_then {r} p q short =
       let l = length_digits_of x in
       record {
-        room = q.room ∙ rw (p.room, digits_append x y) (placed_then before at (digits_of x) (digits_of y) (omega arith) h);
-        summed = omega (arith, p.summed, q.summed, total_append x y);
+        room = q.room ∙ rw (p.room, digits_append x y) (placed_then before r.at (digits_of x) (digits_of y) (omega (arith, p.place)) short);
+        place = omega (arith, p.place, q.place, length-append x y);
+        summed = λ h. omega (arith, p.summed h, q.summed (omega (arith, p.summed h)), total_append x y);
       }
 
-  pub begun_then : Begun before at x middle next → Added middle place next y after last
-      → place ≡ at + 1 + 2 * length x → place ≤ length before → Begun before at (x ++ y) after last
-  begun_then p q e h =
+  pub begun_then : {at : ℕ} → Begun before at x middle next → Added middle next y after last → next.at ≤ length before
+      → Begun before at (x ++ y) after last
+  begun_then {at} p q short =
       let l = length_digits_of x in
       record {
-        room = q.room ∙ rw (p.room, digits_append x y) (placed_then before at (58 ∷ digits_of x) (digits_of y) (omega arith) h);
-        summed = omega (arith, p.summed, q.summed, total_append x y);
+        room = q.room ∙ rw (p.room, digits_append x y) (placed_then before at (58 ∷ digits_of x) (digits_of y) (omega (arith, p.place)) short);
+        place = omega (arith, p.place, q.place, length-append x y);
+        summed = omega (arith, p.summed, q.summed (omega (arith, p.summed)), total_append x y);
       }
 
 -- a record is its colon and bytes, and what ends it
-pub begun_ended : {before middle after x : List ℕ} {at place sum : ℕ} → Begun before at x middle sum → after ≡ placed middle place (ended sum)
-    → place ≡ at + 1 + 2 * length x → place ≤ length before → after ≡ placed before at (record_text x)
+pub begun_ended : {before middle after x : List ℕ} {at : ℕ} {r : Record} → Begun before at x middle r → after ≡ placed middle r.at (ended r.sum)
+    → r.at ≤ length before → after ≡ placed before at (record_text x)
 unfolding record_text ended
-begun_ended {before} {middle} {after} {x} {at} {place} {sum} p q e h =
+begun_ended {before} {middle} {after} {x} {at} {r} p q h =
     let l = length_digits_of x in
     q ∙ rw (p.room, p.summed, digits_append x (check_of x ∷ []), append_assoc (digits_of x) (digits_of (check_of x ∷ [])) (10 ∷ []))
-    (placed_then before at (58 ∷ digits_of x) (digits_of (check_of x ∷ []) ++ (10 ∷ [])) (omega arith) h)
+    (placed_then before at (58 ∷ digits_of x) (digits_of (check_of x ∷ []) ++ (10 ∷ [])) (omega (arith, p.place)) h)

@@ -1,18 +1,18 @@
 // Writes an array as Intel HEX into borrowed room (document 02, item 3). What the text is, is defined in the crate intelhex.
-// A private function is told that its bytes fit, so none tests a place. It puts them at a place; the caller knows how
-// many there are.
+// A private function is told that its bytes fit, so none tests a place. It puts them at a place, and gives the place after
+// them.
 #![tactic(auto)]
 
-ghost use Rattle.std.specs.Prelude.{◌≡◌, ◌+◌, ◌*◌, ◌/◌, ◌%◌, ◌<◌, ◌≤◌, [], ◌∷◌, length, take, drop};
+ghost use Rattle.std.specs.Prelude.{◌≡◌, ℕ, ◌+◌, ◌*◌, ◌/◌, ◌%◌, ◌<◌, ◌≤◌, [], ◌∷◌, length};
 ghost use Rattle.printing.specs.Text.{digit_of};
 ghost use Rattle.printing.specs.Room.{placed};
-ghost use Rattle.intelhex.specs.Text.{bytes_of, upper_record, data_record, end_record, sixteen_at, written, room_after};
+ghost use Rattle.intelhex.specs.Text.{bytes_of, upper_record, data_record, end_record, written, room_after};
 ghost use Rattle.intelhex.specs.Sizes.{text_length};
 ghost use Rattle.hexwrite.specs.Records.{Added, Begun, ended};
-ghost use Rattle.hexwrite.specs.Texts.{plain_text};
+ghost use Rattle.hexwrite.specs.Texts.{sixteen_of, plain_text};
 
 use geometry::Part;
-use intelhex::Written;
+use refusal::Refusal;
 
 // The digit of a number below 16.
 fn digit(n: u8) -> u8
@@ -22,85 +22,94 @@ fn digit(n: u8) -> u8
     if n < 10 { b'0' + n } else { b'A' + (n - 10) }
 }
 
-// A byte in two digits. Gives the sum with the byte added to it, as it wraps at 256.
-fn put_byte(text: &mut [u8], at: usize, sum: u8, byte: u8) -> u8
-    requires { at + 2 ≤ length text.old }
-    ensures { Added text.old at sum (byte ∷ []) text.new result }
-{
-    let low = at + 1;
-    text[at] = digit(byte / 16);
-    text[low] = digit(byte % 16);
-    std::num::wrapping_add_u8(sum, byte)
+// A record that is begun: the place of its next byte, and the sum of its bytes so far, as it wraps at 256.
+#[derive(Clone, Copy)]
+struct Record {
+    at: usize,
+    sum: u8,
 }
 
-// A word's two bytes, the low half first.
-fn put_word(text: &mut [u8], at: usize, sum: u8, word: u16) -> u8
-    requires { at + 4 ≤ length text.old }
-    ensures { Added text.old at sum (bytes_of (word ∷ [])) text.new result }
-{
-    let next = put_byte(text, at, sum, (word % 256) as u8);
-    put_byte(text, at + 2, next, (word / 256) as u8)
-}
-
-// The bytes of 8 words from a place of the array on.
-fn put_words(text: &mut [u8], at: usize, sum: u8, array: &[u16], from: usize) -> u8
-    requires at_in_bounds { at + 32 ≤ length text.old }
-    requires from_in_bounds { from + 8 ≤ length array.now }
-    ensures { Added text.old at sum (bytes_of (take 8 (drop from array.now))) text.new result }
-{
-    let mut next = sum;
-    let mut i = 0;
-    while i < 8 {
-        let j = from + i;
-        next = put_word(text, at + 4 * i, next, array[j]);
-        i += 1;
+impl Record {
+    // A colon, and a record's first four bytes.
+    fn begin(text: &mut [u8], at: usize, count: u8, offset: u16, kind: u8) -> Record
+        requires { at + 9 ≤ length text.old }
+        ensures { Begun text.old at (count ∷ offset / 256 ∷ offset % 256 ∷ kind ∷ []) text.new result }
+    {
+        text[at] = b':';
+        Record { at: at + 1, sum: 0 }
+            .put_byte(text, count)
+            .put_byte(text, (offset / 256) as u8)
+            .put_byte(text, (offset % 256) as u8)
+            .put_byte(text, kind)
     }
-    next
-}
 
-// A colon, and a record's first four bytes. Gives their sum.
-fn put_head(text: &mut [u8], at: usize, count: u8, offset: u16, kind: u8) -> u8
-    requires { at + 9 ≤ length text.old }
-    ensures { Begun text.old at (count ∷ offset / 256 ∷ offset % 256 ∷ kind ∷ []) text.new result }
-{
-    text[at] = b':';
-    let one = put_byte(text, at + 1, 0, count);
-    let two = put_byte(text, at + 3, one, (offset / 256) as u8);
-    let three = put_byte(text, at + 5, two, (offset % 256) as u8);
-    put_byte(text, at + 7, three, kind)
-}
+    // A byte in two digits.
+    fn put_byte(self, text: &mut [u8], byte: u8) -> Record
+        requires { self.at + 2 ≤ length text.old }
+        ensures { Added text.old self (byte ∷ []) text.new result }
+    {
+        text[self.at] = digit(byte / 16);
+        text[self.at + 1] = digit(byte % 16);
+        Record {
+            at: self.at + 2,
+            sum: self.sum.wrapping_add(byte),
+        }
+    }
 
-// The check byte of a sum, with which the sum comes to 0, and LF.
-fn put_check(text: &mut [u8], at: usize, sum: u8)
-    requires { at + 3 ≤ length text.old }
-    ensures { text.new ≡ placed text.old at (ended sum) }
-{
-    let check = std::num::wrapping_sub_u8(0, sum);
-    put_byte(text, at, sum, check);
-    let last = at + 2;
-    text[last] = b'\n';
+    // A word's two bytes, the low half first.
+    fn put_word(self, text: &mut [u8], word: u16) -> Record
+        requires { self.at + 4 ≤ length text.old }
+        ensures { Added text.old self (bytes_of (word ∷ [])) text.new result }
+    {
+        let low = (word % 256) as u8;
+        let high = (word / 256) as u8;
+        self.put_byte(text, low).put_byte(text, high)
+    }
+
+    fn put_words(mut self, text: &mut [u8], words: &[u16]) -> Record
+        requires { self.at + 4 * length words.now ≤ length text.old }
+        ensures { Added text.old self (bytes_of words.now) text.new result }
+    {
+        for word in words {
+            self = self.put_word(text, *word);
+        }
+        self
+    }
+
+    // The check byte, with which the sum comes to 0, and LF.
+    fn end(self, text: &mut [u8]) -> usize
+        requires { self.at + 3 ≤ length text.old }
+        ensures value { result ≡ self.at + 3 }
+        ensures text { text.new ≡ placed text.old self.at (ended self.sum) }
+    {
+        let last = self.put_byte(text, 0u8.wrapping_sub(self.sum)).at;
+        text[last] = b'\n';
+        last + 1
+    }
 }
 
 // The 04 record of the upper half of an address.
-fn put_upper(text: &mut [u8], at: usize, upper: u16)
+fn put_upper(text: &mut [u8], at: usize, upper: u16) -> usize
     requires { at + 16 ≤ length text.old }
-    ensures { text.new ≡ placed text.old at (upper_record upper) }
+    ensures value { result ≡ at + 16 }
+    ensures text { text.new ≡ placed text.old at (upper_record upper) }
 {
-    let head = put_head(text, at, 2, 0, 4);
-    let high = put_byte(text, at + 9, head, (upper / 256) as u8);
-    let low = put_byte(text, at + 11, high, (upper % 256) as u8);
-    put_check(text, at + 13, low);
+    Record::begin(text, at, 2, 0, 4)
+        .put_byte(text, (upper / 256) as u8)
+        .put_byte(text, (upper % 256) as u8)
+        .end(text)
 }
 
-// The record of 8 words from a place of the array on.
-fn put_data(text: &mut [u8], at: usize, offset: u16, array: &[u16], from: usize)
-    requires at_in_bounds { at + 44 ≤ length text.old }
-    requires from_in_bounds { from + 8 ≤ length array.now }
-    ensures { text.new ≡ placed text.old at (data_record offset (bytes_of (take 8 (drop from array.now)))) }
+// The record of 8 words.
+fn put_data(text: &mut [u8], at: usize, offset: u16, words: &[u16]) -> usize
+    requires room { at + 44 ≤ length text.old }
+    requires eight { length words.now ≡ 8 }
+    ensures value { result ≡ at + 44 }
+    ensures text { text.new ≡ placed text.old at (data_record offset (bytes_of words.now)) }
 {
-    let head = put_head(text, at, 16, offset, 0);
-    let sum = put_words(text, at + 9, head, array, from);
-    put_check(text, at + 41, sum);
+    Record::begin(text, at, 16, offset, 0)
+        .put_words(text, words)
+        .end(text)
 }
 
 // The end record.
@@ -108,41 +117,35 @@ fn put_end(text: &mut [u8], at: usize)
     requires { at + 12 ≤ length text.old }
     ensures { text.new ≡ placed text.old at end_record }
 {
-    let head = put_head(text, at, 0, 0, 1);
-    put_check(text, at + 9, head);
+    Record::begin(text, at, 0, 0, 1).end(text);
 }
 
-// The records of the sixteen bytes of number k: a 04 record where 65,536 bytes begin, and their own. Gives the place
-// after them.
-fn put_sixteen(text: &mut [u8], at: usize, array: &[u16], k: usize) -> usize
-    requires k_in_bounds { at + length (sixteen_at 65536 (bytes_of array.now) (16 * k)) ≤ length text.old }
-    requires k_in_bounds_2 { 8 * k + 8 ≤ length array.now }
-    requires array_len_bound { length array.now ≤ 16777216 }
-    ensures value { result ≡ at + length (sixteen_at 65536 (bytes_of array.now) (16 * k)) }
-    ensures text { text.new ≡ placed text.old at (sixteen_at 65536 (bytes_of array.now) (16 * k)) }
+// The records of the sixteen bytes of number k: a 04 record where 65,536 bytes begin, and their own.
+fn put_sixteen(text: &mut [u8], at: usize, k: usize, words: &[u16]) -> usize
+    requires room { at + length (sixteen_of k words.now) ≤ length text.old }
+    requires eight { length words.now ≡ 8 }
+    requires limit { k < 2097152 }
+    ensures value { result ≡ at + length (sixteen_of k words.now) }
+    ensures text { text.new ≡ placed text.old at (sixteen_of k words.now) }
 {
     let offset = (k % 4096 * 16) as u16;
     if offset == 0 {
-        put_upper(text, at, (k / 4096) as u16);
-        put_data(text, at + 16, offset, array, 8 * k);
-        return at + 60;
+        let next = put_upper(text, at, (k / 4096) as u16);
+        put_data(text, next, offset, words)
+    } else {
+        put_data(text, at, offset, words)
     }
-    put_data(text, at, offset, array, 8 * k);
-    at + 44
 }
 
 // The text of an array: its whole sixteens, and the end record.
 fn put_text(text: &mut [u8], array: &[u16])
-    requires array_in_bounds { length (plain_text array.now) ≤ length text.old }
-    requires array_len_bound { length array.now ≤ 16777216 }
+    requires room { length (plain_text array.now) ≤ length text.old }
+    requires limit { length array.now ≤ 16777216 }
     ensures { text.new ≡ placed text.old 0 (plain_text array.now) }
 {
-    let count = array.len() / 8;
     let mut at = 0;
-    let mut k = 0;
-    while k < count {
-        at = put_sixteen(text, at, array, k);
-        k += 1;
+    for (k, words) in array.chunks_exact(8).enumerate() {
+        at = put_sixteen(text, at, k, words);
     }
     put_end(text, at);
 }
@@ -152,33 +155,24 @@ pub fn text_length(part: Part) -> usize
     ensures { result ≡ text_length part }
 {
     match part {
-        Part::FullBottom => 92282892,
-        Part::FullTop => 92282892,
-        Part::BenchBottom => 90140,
-        Part::BenchTop => 90140,
+        Part::FullBottom | Part::FullTop => 92282892,
+        Part::BenchBottom | Part::BenchTop => 90140,
     }
 }
 
 // Writes the text of a part's array. Refuses 1 where the array is not a part's, then 17 where the room is too short; a
 // refusal leaves the room as it was.
-pub fn write(part: Part, array: &[u16], text: &mut [u8]) -> Written
+pub fn write(part: Part, array: &[u16], text: &mut [u8]) -> Result<usize, Refusal>
     ensures value { result ≡ written part array.now text.old }
     ensures text { text.new ≡ room_after part array.now text.old }
 {
-    let words = geometry::length_of(part);
-    if array.len() != words as usize {
-        return Written {
-            refusal: 1,
-            length: 0,
-        };
+    if array.len() != geometry::length_of(part) as usize {
+        return Err(Refusal::ArrayLength);
     }
     let length = text_length(part);
     if text.len() < length {
-        return Written {
-            refusal: 17,
-            length: 0,
-        };
+        return Err(Refusal::RoomLength);
     }
     put_text(text, array);
-    Written { refusal: 0, length }
+    Ok(length)
 }

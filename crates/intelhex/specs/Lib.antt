@@ -7,3 +7,4 @@ pub mod Laws
 pub mod Bytes
 pub mod Recorded
 pub mod Back
+pub mod Chunks

@@ -46,4 +46,4 @@ returns c =
     rw take_rest at (sym c.scan.ensures ∙ sum_given c.scan.result (sym c.ok_or.ensures.value ∙ c.in_ok-sum.was)) in
     let is = scanned_some a.line.now some in
     let parts = by_parts a.size a.upper a.line.now (omega arith) c.if-line-ne58.false is.0 in
-    rw c.of.ensures (look_good _ _ _ (parts ∙ sym (rw (c.in_ok-test.was, c.of-h.ensures, is.1) at c.test.ensures)))
+    rw c.«record».ensures (look_good _ _ _ (parts ∙ sym (rw (c.in_ok-test.was, c.of-h.ensures, is.1) at c.test.ensures)))

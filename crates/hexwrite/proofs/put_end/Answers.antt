@@ -4,5 +4,4 @@ use Rattle.hexwrite.specs.Records.{begun_ended}
 use Rattle.hexwrite.proofs.put_end.Goals as goal
 
 pub returns : goal.returns
-returns c =
-    begun_ended c.put_head-head.ensures c.put_check.ensures (omega arith) (omega (arith, c.requires))
+returns c = begun_ended c.begin.ensures c.end.ensures.text (omega arith)

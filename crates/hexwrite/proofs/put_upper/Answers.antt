@@ -3,9 +3,8 @@ use Rattle.std.proofs.Common.{arith}
 use Rattle.hexwrite.specs.Records.{begun_then, begun_ended}
 use Rattle.hexwrite.proofs.put_upper.Goals as goal
 
-pub returns : goal.returns
-returns c =
-    let room = c.requires in
-    let first = begun_then c.put_head-head.ensures c.put_byte-high.ensures (omega arith) (omega arith) in
-    let second = begun_then first c.put_byte-low.ensures (omega arith) (omega arith) in
-    begun_ended second c.put_check.ensures (omega arith) (omega arith)
+pub returns-clause-text : goal.returns-clause-text
+returns-clause-text c =
+    let first = begun_then c.begin.ensures c.put_byte.ensures (omega arith) in
+    let second = begun_then first c.put_byte-2.ensures (omega arith) in
+    begun_ended second c.end.ensures.text (omega arith)

@@ -3,8 +3,8 @@ use Rattle.std.proofs.Common.{◌∙◌, arith}
 use Rattle.hexwrite.specs.Texts.{refused_length, refused_room, whole_text, plain_length}
 use Rattle.hexwrite.proofs.write.Goals as goal
 
-pub returns-then-array-words : goal.returns-then-array-words
-returns-then-array-words c =
+pub returns-then-array-length_of : goal.returns-then-array-length_of
+returns-then-array-length_of c =
     let t = refused_length c.args.part c.args.array.now c.args.text.now (λ e. omega arith) in
     record { value = t.0; text = t.1 }
 
@@ -13,9 +13,8 @@ returns-then-text-length c =
     let t = refused_room c.args.part c.args.array.now c.args.text.now (omega arith) (omega arith) in
     record { value = t.0; text = t.1 }
 
-pub put_text-requires : goal.put_text-requires
-put_text-requires c =
-    record { array_in_bounds = omega (arith, plain_length c.args.part c.args.array.now (omega arith)); array_len_bound = omega arith }
+pub put_text-requires-clause-room : goal.put_text-requires-clause-room
+put_text-requires-clause-room c = omega (arith, plain_length c.args.part c.args.array.now (omega arith))
 
 pub returns : goal.returns
 returns c =

@@ -1,0 +1,12 @@
+-- `hexwrite::Record::begin` meets its contract: the colon and four bytes, one after the other. Assumes nothing.
+use Rattle.std.proofs.Common.{arith}
+use Rattle.hexwrite.specs.Records.{begun_none, begun_then}
+use Rattle.hexwrite.proofs.Record.begin.Goals as goal
+
+pub returns : goal.returns
+returns c =
+    let colon = begun_none c.args.text.now c.args.at (omega arith) in
+    let first = begun_then colon c.put_byte.ensures (omega arith) in
+    let second = begun_then first c.put_byte-2.ensures (omega arith) in
+    let third = begun_then second c.put_byte-3.ensures (omega arith) in
+    begun_then third c.put_byte-4.ensures (omega arith)

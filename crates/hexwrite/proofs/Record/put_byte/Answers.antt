@@ -1,0 +1,14 @@
+-- `hexwrite::Record::put_byte` meets its contract: two stores, and a sum that wraps. Assumes nothing.
+use Rattle.std.proofs.Common.{◌∙◌, arith}
+use Rattle.intelhex.specs.Records.{total}
+use Rattle.intelhex.specs.Text.{digits_of}
+use Rattle.hexwrite.specs.Records.{placed_two}
+use Rattle.hexwrite.proofs.Record.put_byte.Goals as goal
+
+pub returns : goal.returns
+unfolding digits_of total
+returns c = record {
+  room = rw (c.digit.ensures, c.digit-2.ensures) (placed_two _ _ _ _ c.requires);
+  place = omega arith;
+  summed = λ h. omega arith;
+}
