@@ -1,18 +1,20 @@
 -- What the calls from C mean: what is answered, and what the words of a saved state are afterwards. Definitions only;
 -- the laws are in Laws.
 -- Assumes nothing.
-use Rattle.std.specs.Prelude.{ℕ, ◌+◌, ◌*◌, min, Bool, true, cond, ◌&&◌, List, ◌≡◌, eqb, leb, ltb, length}
+use Rattle.std.specs.Prelude.{ℕ, ◌+◌, ◌*◌, min, Bool, true, cond, ◌&&◌, List, ◌≡◌, eqb, leb, ltb, length, Result, Ok, Err}
+use Rattle.refusal.specs.declared.Refusal.{Refusal}
+use Rattle.refusal.specs.Numbers.{number}
 use Rattle.geometry.specs.Blocks.{part_numbered, geometry_of, blocks, start_of}
+use Rattle.protection.specs.declared.Report.{Report}
 use Rattle.semantics.specs.declared.State.{State}
-use Rattle.semantics.specs.declared.Reported.{Reported}
 use Rattle.semantics.specs.State.{power_up}
 use Rattle.wear.specs.declared.Worn.{Worn}
 use Rattle.wear.specs.Counts.{Counts, no_counts}
 use Rattle.wear.specs.Steps.{after_all_with}
 use Rattle.device.specs.Outcomes.{holding}
 use Rattle.playback.specs.Playback.{playable, machine_of, Played}
-use Rattle.intelhex.specs.Records.{verdict, array_read}
-use Rattle.intelhex.specs.Text.{written, room_after}
+use Rattle.intelhex.specs.Records.{verdict, verdict_number, verdict_line, array_read}
+use Rattle.intelhex.specs.Text.{written, written_number, written_length, room_after}
 use Rattle.saved.specs.Saved.{saved_of, is_saved, state_of}
 
 -- the start of a block in one number: its lowest location from bit 0; 7 "part number above 3" from bit 32; and for a
@@ -34,17 +36,20 @@ powered_up part room = cond (powers_up part room) (saved_of (power_up (part_numb
 unfoldable pub unworn : ℕ → List ℕ → Counts → Counts
 unworn part room k = cond (powers_up part room) no_counts k
 
--- the report in one number: the refusal from bit 32, the count from bit 16, the lowest block from bit 0
-abbrev pub report_code : Reported → ℕ
-report_code r = r.refusal * 4294967296 + r.count * 65536 + r.lowest
+-- the report in one number: the refusal from bit 32; or the count from bit 16, the lowest block from bit 0
+abbrev pub report_code : Result Report Refusal → ℕ
+report_code (Ok r) = r.count * 65536 + r.lowest
+report_code (Err e) = number e * 4294967296
 
 -- the most worn block in one number likewise: its count from bit 16, the block from bit 0; and the count of a block
 -- that is asked for, from bit 0
-abbrev pub worn_code : Worn → ℕ
-worn_code r = r.refusal * 4294967296 + r.count * 65536 + r.block
+abbrev pub worn_code : Result Worn Refusal → ℕ
+worn_code (Ok r) = r.count * 65536 + r.block
+worn_code (Err e) = number e * 4294967296
 
-abbrev pub count_code : Worn → ℕ
-count_code r = r.refusal * 4294967296 + r.count
+abbrev pub count_code : Result Worn Refusal → ℕ
+count_code (Ok r) = r.count
+count_code (Err e) = number e * 4294967296
 
 -- the state after the numbers `codes` were played on the state of the words, its counts and an array, with a room for
 -- the answers
@@ -69,13 +74,13 @@ hex_code refusal number = refusal * 4294967296 + min number 4294967295
 
 -- 7 "part number above 3", where there is no part whose array could be asked for
 unfoldable pub hex_verdict : ℕ → List ℕ → List ℕ → ℕ
-hex_verdict part text ws = cond (leb part 3) (hex_code (verdict (part_numbered part) text ws).refusal (verdict (part_numbered part) text ws).line) (hex_code 7 0)
+hex_verdict part text ws = cond (leb part 3) (hex_code (verdict_number (verdict (part_numbered part) text ws)) (verdict_line (verdict (part_numbered part) text ws))) (hex_code 7 0)
 
 unfoldable pub hex_array : ℕ → List ℕ → List ℕ → List ℕ
 hex_array part text ws = cond (leb part 3) (array_read (part_numbered part) text ws) ws
 
 unfoldable pub hex_written : ℕ → List ℕ → List ℕ → ℕ
-hex_written part ws room = cond (leb part 3) (hex_code (written (part_numbered part) ws room).refusal (written (part_numbered part) ws room).length) (hex_code 7 0)
+hex_written part ws room = cond (leb part 3) (hex_code (written_number (written (part_numbered part) ws room)) (written_length (written (part_numbered part) ws room))) (hex_code 7 0)
 
 unfoldable pub hex_room : ℕ → List ℕ → List ℕ → List ℕ
 hex_room part ws room = cond (leb part 3) (room_after (part_numbered part) ws room) room

@@ -2,14 +2,16 @@
 -- that is no block, and of a number that is no part; the numbers that hold several fields, which differ, so that no
 -- two can be exchanged; and when a device powers up.
 -- Assumes nothing.
-use Rattle.std.specs.Prelude.{ℕ, ◌*◌, Bool, true, not, ◌&&◌, List, [], ◌∷◌, map, ◌≡◌, refl, T, eqb, length, replicate}
+use Rattle.std.specs.Prelude.{ℕ, ◌*◌, Bool, true, not, ◌&&◌, List, [], ◌∷◌, map, ◌≡◌, refl, T, eqb, length, replicate, Ok, Err}
+use Rattle.refusal.specs.declared.Refusal.{Refusal}
+use Rattle.refusal.specs.declared.Refusal.TheVariants.{ArrayLength, Malformed}
 use Rattle.geometry.specs.declared.Part.{Part}
 use Rattle.geometry.specs.declared.Part.TheVariants.{FullBottom, FullTop, BenchBottom, BenchTop}
 use Rattle.geometry.specs.Blocks.{size_of, start_from, start_of}
 use Rattle.semantics.specs.State.{power_up}
 use Rattle.wear.specs.Counts.{Counts, no_counts}
-use Rattle.intelhex.specs.Records.{verdict, array_read}
-use Rattle.intelhex.specs.Text.{written, room_after}
+use Rattle.intelhex.specs.Records.{verdict, verdict_number, verdict_line, array_read}
+use Rattle.intelhex.specs.Text.{written, written_number, written_length, room_after}
 use Rattle.saved.specs.Saved.{saved_of}
 use Rattle.m58.specs.Calls.{start_code, powers_up, powered_up, unworn, report_code, worn_code, count_code, hex_code}
 use Rattle.m58.specs.Calls.{hex_verdict, hex_array, hex_written, hex_room}
@@ -35,24 +37,27 @@ cases_hold = tt
 
 -- ---- the numbers that hold several fields
 
--- a refusal, how many blocks are unprotected and the lowest; a refusal, the most worn block and its count, told whole
--- and as the count of one that is asked for; a refusal of Intel HEX and its line or length: and the number
+-- how many blocks are unprotected and the lowest; the most worn block and its count, told whole and as the count of
+-- one that is asked for; each refused; a refusal of Intel HEX and its line or length: and the number
 pub data Code : Type 0 where
-  reported : ℕ → ℕ → ℕ → ℕ → Code
-  worn : ℕ → ℕ → ℕ → ℕ → Code
-  counted : ℕ → ℕ → ℕ → ℕ → Code
+  reported : ℕ → ℕ → ℕ → Code
+  worn : ℕ → ℕ → ℕ → Code
+  counted : ℕ → ℕ → ℕ → Code
+  refused : Refusal → ℕ → Code
   hex : ℕ → ℕ → ℕ → Code
 
 abbrev pub told : Code → ℕ → Bool
-told (reported r n b c) m = eqb (report_code (record { refusal = r; count = n; lowest = b })) m
-told (worn r b n c) m = eqb (worn_code (record { refusal = r; block = b; count = n })) m
-told (counted r b n c) m = eqb (count_code (record { refusal = r; block = b; count = n })) m
+told (reported n b c) m = eqb (report_code (Ok (record { count = n; lowest = b }))) m
+told (worn b n c) m = eqb (worn_code (Ok (record { block = b; count = n }))) m
+told (counted b n c) m = eqb (count_code (Ok (record { block = b; count = n }))) m
+told (refused e c) m = eqb (report_code (Err e)) m && (eqb (worn_code (Err e)) m && eqb (count_code (Err e)) m)
 told (hex r n c) m = eqb (hex_code r n) m
 
 abbrev pub number : Code → ℕ
-number (reported r n b c) = c
-number (worn r b n c) = c
-number (counted r b n c) = c
+number (reported n b c) = c
+number (worn b n c) = c
+number (counted b n c) = c
+number (refused e c) = c
 number (hex r n c) = c
 
 abbrev pub every_code : List Code → Bool
@@ -61,12 +66,14 @@ every_code (c ∷ l) = told c (number c) && every_code l
 
 abbrev pub codes : List Code
 codes =
-    -- the refusal from bit 32, the count from bit 16, the lowest block from bit 0
-    reported 0 0 259 0x000000103 ∷ reported 0 3 4 0x000030004 ∷ reported 0 259 0 0x001030000 ∷ reported 2 0 0 0x200000000 ∷ reported 2 3 4 0x200030004
-    -- the refusal from bit 32, the count from bit 16, the block from bit 0
-    ∷ worn 0 0 0 0 ∷ worn 0 4 3 0x000030004 ∷ worn 0 258 65535 0x0FFFF0102 ∷ worn 2 0 0 0x200000000 ∷ worn 2 4 3 0x200030004
-    -- the refusal from bit 32, the count from bit 0, and no block
-    ∷ counted 0 4 3 3 ∷ counted 0 258 65535 0xFFFF ∷ counted 2 0 0 0x200000000 ∷ counted 2 4 3 0x200000003
+    -- the count from bit 16, the lowest block from bit 0
+    reported 0 259 0x000000103 ∷ reported 3 4 0x000030004 ∷ reported 259 0 0x001030000
+    -- the count from bit 16, the block from bit 0
+    ∷ worn 0 0 0 ∷ worn 4 3 0x000030004 ∷ worn 258 65535 0x0FFFF0102
+    -- the count from bit 0, and no block
+    ∷ counted 4 3 3 ∷ counted 258 65535 0xFFFF
+    -- the refusal from bit 32, and nothing beside it
+    ∷ refused Malformed 0x200000000 ∷ refused ArrayLength 0x100000000
     -- the refusal from bit 32, and of the number no more than 32 bits
     ∷ hex 0 6 6 ∷ hex 11 3 0xB00000003 ∷ hex 14 0 0xE00000000 ∷ hex 0 90140 90140 ∷ hex 17 4294967295 0x11FFFFFFFF ∷ hex 17 4294967296 0x11FFFFFFFF ∷ hex 0 8589934593 0xFFFFFFFF
     ∷ []
@@ -120,10 +127,10 @@ powered_hold k = (refl, refl, refl, refl, refl, refl)
 -- refusal and beside it the length, and the room
 pub hex_hold : (text ws room : List ℕ)
     → (map (λ n. hex_verdict n text ws) numbers
-    ≡ map (λ p. hex_code (verdict p text ws).refusal (verdict p text ws).line) parts)
+    ≡ map (λ p. hex_code (verdict_number (verdict p text ws)) (verdict_line (verdict p text ws))) parts)
     × (map (λ n. hex_array n text ws) numbers ≡ map (λ p. array_read p text ws) parts)
     × (map (λ n. hex_written n ws room) numbers
-    ≡ map (λ p. hex_code (written p ws room).refusal (written p ws room).length) parts)
+    ≡ map (λ p. hex_code (written_number (written p ws room)) (written_length (written p ws room))) parts)
     × (map (λ n. hex_room n ws room) numbers ≡ map (λ p. room_after p ws room) parts)
 unfolding hex_verdict hex_array hex_written hex_room
 hex_hold text ws room = (refl, refl, refl, refl)

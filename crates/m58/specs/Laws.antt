@@ -1,13 +1,19 @@
 -- Laws of the calls. Assumes nothing.
-use Rattle.std.specs.Prelude.{ℕ, zero, suc, ◌≤◌, Bool, List, ◌≡◌, leb, length}
+use Rattle.std.specs.Prelude.{ℕ, zero, suc, ◌≤◌, Bool, List, ◌≡◌, leb, length, Result, Ok, Err, IfOk, IfErr, MatchResult}
 use Rattle.std.proofs.Math.Bool.{true, false, cond}
 use Rattle.std.proofs.Math.Path.{refl, sym, ap}
-use Rattle.std.proofs.Common.{◌∙◌, subst, arith, eq-eqb}
-use Rattle.geometry.specs.Blocks.{part_numbered}
+use Rattle.std.proofs.Common.{⊎_elim, ◌∙◌, subst, arith, eq-eqb}
+use borrow.Author.Tests.{le-leb, lt-leb, lt-ltb, le-ltb}
+use Rattle.refusal.specs.declared.Refusal.{Refusal}
+use Rattle.refusal.specs.declared.Refusal.TheVariants.{Malformed, NoPart}
+use Rattle.refusal.specs.Numbers.{number}
+use Rattle.geometry.specs.declared.Part.{Part}
+use Rattle.geometry.specs.Blocks.{part_numbered, part_named}
+use Rattle.geometry.specs.Laws.{order}
+use Rattle.protection.specs.declared.Report.{Report}
 use Rattle.protection.specs.Words.{bit, bit_at, count, unprotected_count, report_of}
 use Rattle.protection.specs.Laws.{lowest_least}
 use Rattle.semantics.specs.declared.State.{State}
-use Rattle.semantics.specs.declared.Reported.{Reported}
 use Rattle.semantics.specs.State.{power_up}
 use Rattle.wear.specs.declared.Worn.{Worn}
 use Rattle.wear.specs.Counts.{Counts, count_of, no_counts, most_worn}
@@ -20,6 +26,23 @@ use Rattle.playback.specs.Reads.{few_reads, reads_leave}
 use Rattle.saved.specs.Saved.{saved_of, is_saved, state_of, put_into}
 use Rattle.saved.specs.Laws.{Fitting, saved_length, saved_is, state_back, saved_back, power_up_fitting}
 use Rattle.m58.specs.Calls.{powers_up, powered_up, unworn, state_after, Ran}
+
+-- ---- a part by its number
+
+abbrev Named : ℕ → Result Part Refusal → Type 0
+Named n r = MatchResult r (λ p. (leb n 3 ≡ true) × (part_numbered n ≡ p)) (λ e. (leb n 3 ≡ false) × (e ≡ NoPart))
+
+named : (n : ℕ) → Named n (part_named n)
+named n = ⊎_elim (λ i. rw (lt-ltb 3 n i) (lt-leb n 3 i, refl)) (λ i. rw (le-ltb 3 n i) (le-leb n 3 i, refl)) (order 3 n)
+
+module _ (n : ℕ) {r : Result Part Refusal} (gives : r ≡ part_named n) where
+  -- a number that names a part is at most 3
+  pub part_ok : {p : Part} → r ≡ Ok p → (leb n 3 ≡ true) × (part_numbered n ≡ p)
+  part_ok e = subst (Named n) (sym gives ∙ e) (named n)
+
+  -- another is refused 7
+  pub part_err : {e : Refusal} → r ≡ Err e → (leb n 3 ≡ false) × (e ≡ NoPart)
+  part_err e = subst (Named n) (sym gives ∙ e) (named n)
 
 -- ---- power-up
 
@@ -35,7 +58,7 @@ unfolding count
 count_le zero f h = omega arith
 count_le (suc n) f h = omega (arith, h 0, count_le n (λ i. f (suc i)) (λ i. h (suc i)))
 
-pub record Small (r : Reported) : Type 0 where
+pub record Small (r : Report) : Type 0 where
   pub count : r.count ≤ 259
   pub lowest : r.lowest ≤ 259
 
@@ -43,21 +66,21 @@ report_bits : (ws : List ℕ) (b : ℕ) → bit_at ws b ≤ 1
 unfolding bit_at bit
 report_bits ws b = omega arith
 
-pub report_small : (s : State) (k : Counts) {r : Reported} → r ≡ reported_with s k → Small r
+pub report_small : (s : State) (k : Counts) {r : Result Report Refusal} → r ≡ reported_with s k → IfOk r Small
 unfolding reported_with report_of unprotected_count
-report_small s k e = subst Small (sym e) (go (formed_with s k))
+report_small s k e = subst (λ (r : Result Report Refusal). IfOk r Small) (sym e) (go (formed_with s k))
   where
-    go : (t : Bool) → Small (cond t (record { refusal = 0; count = (report_of s.unprotected).count; lowest = (report_of s.unprotected).lowest }) (record { refusal = 2; count = 0; lowest = 0 }))
+    go : (t : Bool) → IfOk (cond {A = Result Report Refusal} t (Ok (report_of s.unprotected)) (Err Malformed)) Small
     go true = record { count = count_le 259 (bit_at s.unprotected) (report_bits s.unprotected); lowest = (lowest_least s.unprotected).within }
-    go false = record { count = omega arith; lowest = omega arith }
+    go false = tt
 
 -- and the refusal of the most worn block is
-pub worn_small : (s : State) (k : Counts) {r : Worn} → r ≡ most_worn_with s k → r.refusal ≤ 2
+pub worn_small : (s : State) (k : Counts) {r : Result Worn Refusal} → r ≡ most_worn_with s k → IfErr r (λ e. number e ≤ 2)
 unfolding most_worn_with
-worn_small s k e = subst (λ (w : Worn). w.refusal ≤ 2) (sym e) (go (formed_with s k))
+worn_small s k e = subst (λ (r : Result Worn Refusal). IfErr r (λ e. number e ≤ 2)) (sym e) (go (formed_with s k))
   where
-    go : (t : Bool) → (cond {A = Worn} t (record { refusal = 0; block = most_worn k; count = count_of k (most_worn k) }) (record { refusal = 2; block = 0; count = 0 })).refusal ≤ 2
-    go true = omega arith
+    go : (t : Bool) → IfErr (cond {A = Result Worn Refusal} t (Ok (record { block = most_worn k; count = count_of k (most_worn k) })) (Err Malformed)) (λ e. number e ≤ 2)
+    go true = tt
     go false = omega arith
 
 -- ---- a run

@@ -4,8 +4,9 @@
 // bits (crate playback).
 #![tactic(auto)]
 
-ghost use Rattle.std.specs.Prelude.{◌≡◌};
-ghost use Rattle.geometry.specs.Blocks.{lookup_of};
+ghost use Rattle.std.specs.Prelude.{◌≡◌, ◌*◌, ◌<◌};
+ghost use Rattle.geometry.specs.Blocks.{lookup_of, number_in, block_in, bank_in};
+ghost use Rattle.refusal.specs.Numbers.{number};
 ghost use Rattle.semantics.specs.Reading.{bit_if};
 ghost use Rattle.wear.specs.Counts.{lent};
 ghost use Rattle.wear.specs.Steps.{reported_with, most_worn_with, erase_count_with};
@@ -15,34 +16,46 @@ ghost use Rattle.m58.specs.Calls.{start_code, powers_up, powered_up, unworn, Ran
 ghost use Rattle.m58.specs.Calls.{hex_code, hex_verdict, hex_array, hex_written, hex_room};
 
 use device::Device;
+use geometry::Part;
+use refusal::Refusal;
+
+// A refusal stands from bit 32.
+const HIGH: u64 = 4294967296;
+
+// A refusal alone: its number from bit 32.
+fn refused(e: Refusal) -> u64
+    ensures { result ≡ number e * 4294967296 }
+{
+    u64::from(u32::from(e)) * HIGH
+}
 
 // ---- the lookup of an address of a part, by the part's number
 
 // The refusal's number, or 0.
 #[unsafe(no_mangle)]
 pub extern "C" fn m58_lookup_refusal(part: u32, address: u32) -> u32
-    ensures { result ≡ (lookup_of part address).refusal }
+    ensures { result ≡ number_in (lookup_of part address) }
 {
-    let found = geometry::look_up(part, address);
-    found.refusal
+    match geometry::look_up(part, address) {
+        Ok(_) => 0,
+        Err(e) => e.into(),
+    }
 }
 
 // The block, 0 where it is refused.
 #[unsafe(no_mangle)]
 pub extern "C" fn m58_lookup_block(part: u32, address: u32) -> u32
-    ensures { result ≡ (lookup_of part address).block }
+    ensures { result ≡ block_in (lookup_of part address) }
 {
-    let found = geometry::look_up(part, address);
-    found.block
+    geometry::look_up(part, address).map_or(0, |found| found.block)
 }
 
 // The bank, 0 where it is refused.
 #[unsafe(no_mangle)]
 pub extern "C" fn m58_lookup_bank(part: u32, address: u32) -> u32
-    ensures { result ≡ (lookup_of part address).bank }
+    ensures { result ≡ bank_in (lookup_of part address) }
 {
-    let found = geometry::look_up(part, address);
-    found.bank
+    geometry::look_up(part, address).map_or(0, |found| found.bank)
 }
 
 // The lowest location of a block of a part, from bit 0, with the refusal 7 from bit 32; 16,777,216, which is no
@@ -51,14 +64,11 @@ pub extern "C" fn m58_lookup_bank(part: u32, address: u32) -> u32
 pub extern "C" fn m58_block_start(part: u32, block: u32) -> u64
     ensures { result ≡ start_code part block }
 {
-    if part > 3 {
-        return 7 * 4294967296;
+    match Part::try_from(part) {
+        Err(e) => refused(e),
+        Ok(p) if block < geometry::block_count(p) => geometry::start_by_table(p, block).into(),
+        Ok(_) => 16777216,
     }
-    let p = geometry::part_numbered(part);
-    if block >= geometry::block_count(p) {
-        return 16777216;
-    }
-    geometry::start_by_table(p, block) as u64
 }
 
 // ---- the device
@@ -76,16 +86,13 @@ pub extern "C" fn m58_power_up(
     ensures state { state.new ≡ powered_up part state.old }
     ensures counts { lent main.new small.new ≡ unworn part state.old (lent main.old small.old) }
 {
-    if part > 3 {
-        return 0;
+    match Part::try_from(part) {
+        Ok(p) if state.len() == 25 => {
+            saved::save(Device::power_up(p, main, small).state, state);
+            1
+        }
+        _ => 0,
     }
-    if state.len() != 25 {
-        return 0;
-    }
-    let d = Device::power_up(geometry::part_numbered(part), main, small);
-    let s = d.state;
-    saved::save(s, state);
-    1
 }
 
 // Plays steps on the saved state, its counts and the array, writes the answers, saves the state after them, and answers
@@ -103,29 +110,25 @@ pub extern "C" fn m58_run(
     ensures { Ran state.old (lent main.old small.old) steps.now answers.old array.old result state.new (lent main.new small.new) answers.new array.new }
 {
     let found = saved::found_in(state);
-    let good = found.saved;
-    let before = found.state;
-    let d = Device { state: before };
-    let end = playback::run(d, main, small, steps, answers, array);
-    let n = end.played;
+    // Asked before the state is taken out: after it the proof has no link to the words.
+    let good = found.is_ok();
+    let (Ok(before) | Err(before)) = found;
+    let end = playback::run(Device { state: before }, main, small, steps, answers, array);
     if playback::few_reads(steps) {
-        return n;
+        return end.played;
     }
     if good {
-        let after = end.device;
-        let last = after.state;
-        saved::save(last, state);
+        saved::save(end.device.state, state);
     }
-    n
+    end.played
 }
 
 // The device that words hold.
 fn device_in(state: &[u64]) -> Device
     ensures { result ≡ holding (state_of state.now) }
 {
-    let found = saved::found_in(state);
-    let s = found.state;
-    Device { state: s }
+    let (Ok(state) | Err(state)) = saved::found_in(state);
+    Device { state }
 }
 
 // How many blocks are unprotected, and the lowest of them, in one number.
@@ -133,9 +136,10 @@ fn device_in(state: &[u64]) -> Device
 pub extern "C" fn m58_report(state: &[u64], main: &[[u16; 16]; 16], small: &[u16; 4]) -> u64
     ensures { result ≡ report_code (reported_with (state_of state.now) (lent main.now small.now)) }
 {
-    let d = device_in(state);
-    let told = d.report(main, small);
-    (told.refusal as u64) * 4294967296 + (told.count as u64) * 65536 + told.lowest as u64
+    match device_in(state).report(main, small) {
+        Ok(told) => u64::from(told.count) * 65536 + u64::from(told.lowest),
+        Err(e) => refused(e),
+    }
 }
 
 // The most worn block, the lowest of them on a tie, and its count, in one number.
@@ -143,9 +147,10 @@ pub extern "C" fn m58_report(state: &[u64], main: &[[u16; 16]; 16], small: &[u16
 pub extern "C" fn m58_most_worn(state: &[u64], main: &[[u16; 16]; 16], small: &[u16; 4]) -> u64
     ensures { result ≡ worn_code (most_worn_with (state_of state.now) (lent main.now small.now)) }
 {
-    let d = device_in(state);
-    let told = d.most_worn(main, small);
-    (told.refusal as u64) * 4294967296 + (told.count as u64) * 65536 + told.block as u64
+    match device_in(state).most_worn(main, small) {
+        Ok(told) => u64::from(told.count) * 65536 + u64::from(told.block),
+        Err(e) => refused(e),
+    }
 }
 
 // The count of a block, in one number with the refusal.
@@ -158,47 +163,49 @@ pub extern "C" fn m58_erase_count(
 ) -> u64
     ensures { result ≡ count_code (erase_count_with (state_of state.now) (lent main.now small.now) block) }
 {
-    let d = device_in(state);
-    let told = d.erase_count(main, small, block);
-    (told.refusal as u64) * 4294967296 + told.count as u64
+    match device_in(state).erase_count(main, small, block) {
+        Ok(told) => told.count.into(),
+        Err(e) => refused(e),
+    }
 }
 
 // ---- Intel HEX
 
-// A refusal from bit 32, and a line or a length from bit 0. One of more than 32 bits is told as the greatest of 32
-// bits.
-fn coded(refusal: u32, number: usize) -> u64
-    ensures { result ≡ hex_code refusal number }
+// A line or a length. One of more than 32 bits is told as the greatest of 32 bits.
+fn told(number: usize) -> u64
+    ensures value { result ≡ hex_code 0 number }
+    ensures limit { result < 4294967296 }
 {
-    let high = (refusal as u64) * 4294967296;
-    if number > 4294967295 {
-        return high + 4294967295;
-    }
-    high + number as u64
+    (number as u64).min(HIGH - 1)
 }
 
-// Reads a text into a part's array, by the part's number, and answers the refusal and the line that decided.
+// Reads a text into a part's array, by the part's number, and answers the refusal from bit 32 and the line that decided.
 #[unsafe(no_mangle)]
 pub extern "C" fn m58_hex_read(part: u32, text: &[u8], array: &mut [u16]) -> u64
     ensures value { result ≡ hex_verdict part text.now array.old }
     ensures array { array.new ≡ hex_array part text.now array.old }
 {
-    if part > 3 {
-        return coded(7, 0);
+    match Part::try_from(part) {
+        Err(e) => refused(e),
+        Ok(p) => match hexread::read(p, text, array) {
+            Ok(line) => told(line),
+            Err(bad) => refused(bad.refusal) + told(bad.line),
+        },
     }
-    let v = hexread::read(geometry::part_numbered(part), text, array);
-    coded(v.refusal, v.line)
 }
 
-// Writes a part's array as text, by the part's number, and answers the refusal and the length of what was written.
+// Writes a part's array as text, by the part's number, and answers the refusal from bit 32 or the length of what was
+// written.
 #[unsafe(no_mangle)]
 pub extern "C" fn m58_hex_write(part: u32, array: &[u16], text: &mut [u8]) -> u64
     ensures value { result ≡ hex_written part array.now text.old }
     ensures text { text.new ≡ hex_room part array.now text.old }
 {
-    if part > 3 {
-        return coded(7, 0);
+    match Part::try_from(part) {
+        Err(e) => refused(e),
+        Ok(p) => match hexwrite::write(p, array, text) {
+            Ok(length) => told(length),
+            Err(e) => refused(e),
+        },
     }
-    let w = hexwrite::write(geometry::part_numbered(part), array, text);
-    coded(w.refusal, w.length)
 }

@@ -1,15 +1,25 @@
--- `m58::m58_hex_read`: by the test, and the contracts of the functions that it calls. Assumes nothing.
-use borrow.Author.Tests.{le-leb, lt-leb}
+-- `m58::m58_hex_read`: by the part's number, and the contracts of the functions that it calls. Assumes nothing.
+use Rattle.std.proofs.Common.{◌*◌, ◌∙◌, sym, ap, arith}
+use Rattle.refusal.specs.declared.Refusal.{Refusal}
+use Rattle.refusal.specs.Numbers.{number}
 use Rattle.m58.specs.Calls.{hex_verdict, hex_array}
+use Rattle.m58.specs.Laws.{part_ok, part_err}
 use Rattle.m58.proofs.m58_hex_read.Goals as goal
 
-pub returns-then-part-gt3 : goal.returns-then-part-gt3
+pub returns-in-Err : goal.returns-in-Err
 unfolding hex_verdict hex_array
-returns-then-part-gt3 c = let e = lt-leb c.args.part 3 c.if-part-gt3.true in record { value = rw e c.coded.ensures; array = rw e }
+returns-in-Err c =
+    let q = part_err _ c.try_from.ensures c.in-Err.is in
+    record { value = rw q.0 (c.refused.ensures ∙ ap (λ (e : Refusal). number e * 4294967296) q.1); array = rw q.0 }
 
-pub returns : goal.returns
+pub returns-in-Ok-read : goal.returns-in-Ok-read
 unfolding hex_verdict hex_array
-returns c =
-    let e = le-leb c.args.part 3 c.if-part-gt3.false in
-    let n = c.part_numbered.ensures in
-    record { value = rw (e, ← n, ← c.read-v.ensures.value) c.coded-2.ensures; array = rw (e, ← n) c.read-v.ensures.array }
+returns-in-Ok-read c =
+    let q = part_ok _ c.try_from.ensures c.in-Ok.is in
+    record { value = rw (q.0, q.1, sym c.read.ensures.value ∙ c.in-Ok-read.is) c.told.ensures.value; array = rw (q.0, q.1) c.read.ensures.array }
+
+pub returns-in-Err-read : goal.returns-in-Err-read
+unfolding hex_verdict hex_array
+returns-in-Err-read c =
+    let q = part_ok _ c.try_from.ensures c.in-Ok.is in
+    record { value = rw (q.0, q.1, sym c.read.ensures.value ∙ c.in-Err-read.is) (omega (arith, c.refused-in-Err-read.ensures, c.told-in-Err-read.ensures.value)); array = rw (q.0, q.1) c.read.ensures.array }

@@ -17,4 +17,4 @@ returns-in-Done c = rw c.in-Done.is c.put_bytes.ensures
 
 pub returns-in-Refused : goal.returns-in-Refused
 unfolding answer_text
-returns-in-Refused c = rw c.in-Refused.is (put_then c.put_bytes-next.ensures c.put_decimal-in-Refused.ensures)
+returns-in-Refused c = rw c.in-Refused.is (put_then c.put_bytes-next.ensures (rw c.into.ensures at c.put_decimal-in-Refused.ensures))
