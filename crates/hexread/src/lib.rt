@@ -10,7 +10,8 @@ ghost use Rattle.intelhex.specs.Records.{words_after, size, verdict, array_read}
 ghost use Rattle.hexread.specs.Ends.{record_end};
 ghost use Rattle.hexread.specs.Put.{with_byte};
 ghost use Rattle.hexread.specs.Storing.{Storable};
-ghost use Rattle.hexread.specs.Bytes.{pair_at, kind_of, header_of, scanned, shaped_kind, outside_of, refusal_by, record_of, looked, judged};
+ghost use Rattle.hexread.specs.Bytes.{pair_at, kind_of, header_of, scanned, shaped_kind, outside_of, refusal_by};
+ghost use Rattle.hexread.specs.Bytes.{record_of, looked, judged};
 
 use geometry::Part;
 use intelhex::BadRecord;
@@ -150,7 +151,7 @@ impl Header {
         }
     }
 
-    // What the good record of a line does. Inlined, since a call here takes 6% of a reading.
+    // What the good record of a line does: `Other` is not its type. Inlined, since a call here takes 6% of a reading.
     #[inline(always)]
     fn record(self, line: &[u8]) -> Record
         requires header { self ≡ header_of line.now }
@@ -170,7 +171,7 @@ impl Header {
     }
 }
 
-// A record, for an array of so many bytes, and where an upper half of the address holds.
+// The record of a line, for an array of so many bytes, where an upper half of the address holds.
 fn look(line: &[u8], upper: u32, size: u64) -> Result<Record, Refusal>
     ensures { result ≡ looked size upper line.now }
 {
