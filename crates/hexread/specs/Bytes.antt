@@ -119,14 +119,6 @@ pub and_true : (s : Bool) → (s && true) ≡ s
 and_true true = refl
 and_true false = refl
 
-pub or_true : (s : Bool) → (s || true) ≡ true
-or_true true = refl
-or_true false = refl
-
-pub or_false : (s : Bool) → (s || false) ≡ s
-or_false true = refl
-or_false false = refl
-
 -- whether a byte is a digit, and a digit's value from its bits
 abbrev is_digit : ℕ → Bool
 is_digit b = within 48 10 b || (within 65 6 b || within 97 6 b)
@@ -227,9 +219,6 @@ and_rest : (s a b t : Bool) → ((s && (a && b)) && t) ≡ (s && (a && (b && t))
 and_rest true true b t = refl
 and_rest true false b t = refl
 and_rest false a b t = refl
-
-pub scan_start : (l : List ℕ) → length l % 2 ≡ 0 → Scanning l l true 0
-scan_start l even = record { even = even; small = omega arith; digits_left = refl; sum_left = let e : 0 + total (pairs l) ≡ total (pairs l) = omega arith in rw e }
 
 pub scan_step : (l rest pair left : List ℕ) (good : Bool) (sum next : ℕ) → Scanning l rest good sum → rest ≡ pair ++ left → length pair ≡ 2
     → next ≡ (sum + pair_at pair 0 % 256) % 256

@@ -18,11 +18,6 @@ pub record Storing (digits : List ℕ) (start : ℕ) (before after rest : List �
   pub same : length after ≡ length before
   pub left : words_after (named_from (start + i) (pairs rest)) after ≡ words_after (named_from start (pairs digits)) before
 
-pub store_start : (digits : List ℕ) (start : ℕ) (before : List ℕ) → Storable digits start before → Storing digits start before before digits 0
-store_start digits start before able =
-    let s : start + 0 ≡ start = omega arith in
-    record { able = rw s able; same = refl; left = rw s }
-
 -- a byte of two digits, and others
 pub pair_small : (pair left : List ℕ) → length pair ≡ 2 → all_digits (pair ++ left) ≡ true → pair_at pair 0 < 256
 unfolding all_digits

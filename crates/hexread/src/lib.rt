@@ -10,7 +10,8 @@ ghost use Rattle.intelhex.specs.Records.{words_after, size, verdict, array_read}
 ghost use Rattle.hexread.specs.Ends.{record_end};
 ghost use Rattle.hexread.specs.Put.{with_byte};
 ghost use Rattle.hexread.specs.Storing.{Storable};
-ghost use Rattle.hexread.specs.Bytes.{pair_at, kind_of, header_of, scanned, shaped_kind, outside_of, refusal_by, record_of, looked, judged};
+ghost use Rattle.hexread.specs.Bytes.{pair_at, kind_of, header_of, scanned, shaped_kind, outside_of, refusal_by};
+ghost use Rattle.hexread.specs.Bytes.{record_of, looked, judged};
 
 use geometry::Part;
 use intelhex::BadRecord;
@@ -91,7 +92,7 @@ fn scan(digits: &[u8]) -> Option<u8>
     for pair in digits.chunks_exact(2) {
         let high = digit(pair[0]);
         let low = digit(pair[1]);
-        good = good & ((high < 16) & (low < 16));
+        good &= (high < 16) & (low < 16);
         let byte = u16::from(high) * 16 + u16::from(low);
         sum = sum.wrapping_add((byte % 256) as u8);
     }
@@ -150,7 +151,8 @@ impl Header {
         }
     }
 
-    // What the good record of a line does.
+    // What the good record of a line does: `Other` is not its type. Inlined, since a call here takes 6% of a reading.
+    #[inline(always)]
     fn record(self, line: &[u8]) -> Record
         requires header { self ≡ header_of line.now }
         requires upper { kind line.now ≡ 4 → 13 ≤ length line.now }
@@ -169,7 +171,7 @@ impl Header {
     }
 }
 
-// A record, for an array of so many bytes, and where an upper half of the address holds.
+// The record of a line, for an array of so many bytes, where an upper half of the address holds.
 fn look(line: &[u8], upper: u32, size: u64) -> Result<Record, Refusal>
     ensures { result ≡ looked size upper line.now }
 {
@@ -228,6 +230,7 @@ fn judge(text: &[u8], size: u64) -> Result<usize, BadRecord>
     ensures { result ≡ judged size text.now }
 {
     let mut upper: u32 = 0;
+    // Counted by hand, and not by `enumerate`: it is told after the loop too.
     let mut line: usize = 0;
     for record in (Records { rest: text }) {
         line += 1;

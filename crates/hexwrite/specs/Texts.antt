@@ -1,6 +1,6 @@
 -- The laws that join records to a text, and a text to the answer of a writing. Assumes nothing.
 use Rattle.std.specs.Prelude.{◌≡◌, ℕ, zero, suc, ◌+◌, ◌*◌, ◌/◌, ◌%◌, ◌<◌, ◌≤◌, Bool, true, false, cond, List, [], ◌∷◌, ◌++◌, length, take, drop, ◌==◌, ◌≢◌, slice_index, refl, Result, Ok, Err}
-use Rattle.std.proofs.Common.{sym, ap, ◌∙◌, add-one, take_at, drop-drop, arith, length-append, length-drop, length-take-le, take-suc, get_or-drop}
+use Rattle.std.proofs.Common.{sym, ap, ◌∙◌, add-one, take_at, drop-drop, arith, length-append, length-drop, length-take-le, take-suc}
 use Rattle.std.proofs.Math.Seq.{take-nil, drop-nil, drop-append_seam}
 use borrow.Author.Tests.{eq-eqb, ne_eqb, lt-ltb, le-ltb, eqb-true, eqb-false}
 use Rattle.geometry.specs.declared.Part.{Part}
@@ -11,7 +11,7 @@ use Rattle.refusal.specs.declared.Refusal.{Refusal}
 use Rattle.refusal.specs.declared.Refusal.TheVariants.{ArrayLength, RoomLength}
 use Rattle.intelhex.specs.Text.{data_record, upper_record, end_record, bytes_of, span, sixteen_at, sixteens, text_of, written}
 use Rattle.intelhex.specs.Text.{room_after}
-use Rattle.intelhex.specs.Sizes.{length_record_text, length_bytes_of, length_sixteen_at, sixteens_mono, text_length}
+use Rattle.intelhex.specs.Sizes.{length_record_text, length_bytes_of, sixteens_mono, text_length}
 use Rattle.intelhex.specs.Sizes.{length_end_record, length_text_of}
 use Rattle.hexwrite.specs.Records.{placed_then}
 
@@ -125,8 +125,7 @@ pub chunk_of : (ws items left : List ℕ) (k : ℕ) → drop (8 * k) ws ≡ item
     → (sixteen_at 65536 (bytes_of ws) (16 * k) ≡ sixteen_of k items) × (left ≡ drop (8 * (k + 1)) ws) × (8 * k + 8 ≤ length ws)
 chunk_of ws items left k e eight =
     let s : 8 * (k + 1) ≡ 8 * k + 8 = omega arith in
-    let rest : drop 8 (items ++ left) ≡ left = rw eight at (drop-append_seam items left) in
-    (
+    let rest : drop 8 (items ++ left) ≡ left = rw eight at (drop-append_seam items left) in (
       sixteen_is ws k ∙ rw (e, take_at items left 8 eight),
       rw (s, ← drop-drop 8 (8 * k) ws, e) (sym rest),
       omega (arith, ap length e, length-append items left, length-drop (8 * k) ws),

@@ -1,6 +1,6 @@
-// Writes an array as Intel HEX into borrowed room (document 02, item 3). What the text is, is defined in the crate intelhex.
-// A private function is told that its bytes fit, so none tests a place. It puts them at a place, and gives the place after
-// them.
+// Writes an array as Intel HEX into borrowed room (document 02, item 3). What the text is, is defined in the crate
+// intelhex. A private function is told that its bytes fit, so none tests a place. It puts them at a place, and gives the
+// place after them.
 #![tactic(auto)]
 
 ghost use Rattle.std.specs.Prelude.{◌≡◌, ℕ, ◌+◌, ◌*◌, ◌/◌, ◌%◌, ◌<◌, ◌≤◌, [], ◌∷◌, length};
@@ -22,7 +22,8 @@ fn digit(n: u8) -> u8
     if n < 10 { b'0' + n } else { b'A' + (n - 10) }
 }
 
-// A record that is begun: the place of its next byte, and the sum of its bytes so far, as it wraps at 256.
+// A record that is begun: the place of its next byte, and the sum of its bytes so far, as it wraps at 256. The room is
+// not one of its fields: a struct that holds it would have to say in each method that it is the same room.
 #[derive(Clone, Copy)]
 struct Record {
     at: usize,

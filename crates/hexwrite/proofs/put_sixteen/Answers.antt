@@ -1,5 +1,5 @@
 -- `hexwrite::put_sixteen` meets its contract: by whether 65,536 bytes begin there. Assumes nothing.
-use Rattle.std.proofs.Common.{◌≡◌, ◌%◌, arith}
+use Rattle.std.proofs.Common.{arith}
 use Rattle.hexwrite.specs.Texts.{first_put, other_put, first_length, other_length}
 use Rattle.hexwrite.proofs.put_sixteen.Goals as goal
 

@@ -1,7 +1,7 @@
 -- `hexwrite::put_text` meets its contract. The invariant: the first k sixteens are put, and `at` is the place after
 -- them. Assumes nothing.
-use Rattle.std.proofs.Common.{◌≡◌, ℕ, ◌*◌, ◌/◌, List, length, refl, sym, ap, ◌∙◌, arith, length-append, length-drop}
-use Rattle.std.specs.Iterator.Adapters.{enumerate_source, enumerate_count}
+use Rattle.std.proofs.Common.{◌≡◌, ℕ, ◌*◌, ◌/◌, List, length, refl, sym, ◌∙◌, arith, length-append, length-drop}
+use Rattle.std.specs.Iterator.Adapters.{enumerate_count}
 use Rattle.printing.specs.Room.{placed_none}
 use Rattle.intelhex.specs.Chunks.{counted_more, counted_none}
 use Rattle.intelhex.specs.Text.{bytes_of, sixteens}

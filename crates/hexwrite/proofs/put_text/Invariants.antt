@@ -17,5 +17,5 @@ invariant-loop-k l =
       rest : chunks_exact_rest chunks ≡ drop (8 * k) l.array;
       same : length l.text ≡ length l.initial.text;
       place : l.at ≡ length (sixteens 65536 (bytes_of l.array) k);
-      room : l.text ≡ placed l.initial.text 0 (sixteens 65536 (bytes_of l.array) k)
+      room : l.text ≡ placed l.initial.text 0 (sixteens 65536 (bytes_of l.array) k);
     }

@@ -1,5 +1,5 @@
 -- `hexwrite::Record::put_byte` meets its contract: two stores, and a sum that wraps. Assumes nothing.
-use Rattle.std.proofs.Common.{◌∙◌, arith}
+use Rattle.std.proofs.Common.{arith}
 use Rattle.intelhex.specs.Records.{total}
 use Rattle.intelhex.specs.Text.{digits_of}
 use Rattle.hexwrite.specs.Records.{placed_two}

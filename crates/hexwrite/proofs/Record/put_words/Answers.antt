@@ -1,5 +1,5 @@
 -- `hexwrite::Record::put_words` meets its contract. The invariant: the bytes of the words so far are put. Assumes nothing.
-use Rattle.std.proofs.Common.{◌≡◌, length, take, refl, take_all, arith, rules}
+use Rattle.std.proofs.Common.{refl, take_all, arith, rules}
 use Rattle.intelhex.specs.Text.{bytes_of}
 use Rattle.hexwrite.specs.Records.{added_none, added_then}
 use Rattle.hexwrite.specs.Texts.{bytes_count, bytes_more}
