@@ -174,7 +174,7 @@ impl Device {
         }
     }
 
-    // Any of the five.
+    // Any of the five. (By a match: a step is data, which is read, encoded and told.)
     pub fn step(
         self,
         main: &mut [[u16; 16]; 16],

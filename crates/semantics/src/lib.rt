@@ -22,6 +22,8 @@ pub struct Bank {
 // The pending set-up: of a command that has two cycles the first; of a buffer program (document 02, item 1) its load, as far as it has come. Of the load its count is
 // due, with the block that was addressed; or its first data cycle, with the number of its words; or so many further data cycles, and where `due` is 0 the
 // confirming cycle, with the location that the words start at.
+// (Nothing is a variant here, in what runs and in a suspended program: an Option around an enum is a second tag, which
+// each step would test and carry; DECISIONS 65 has the figures.)
 #[derive(Clone, Copy)]
 pub enum Setup {
     Nothing,
@@ -130,6 +132,7 @@ pub enum Step {
 }
 
 // What a step answers: a word that was read, the units that were done, that it was done, or why it is refused: a row of document 01's card.
+// (Not a Result: document 01 gives each of the four kinds its number and its value, `number_of` and `value_of`.)
 #[derive(Clone, Copy)]
 pub enum Answer {
     Word(u16),
