@@ -1,7 +1,7 @@
--- `script::play_at` meets its contract: what is taken at the place is a part of the script, and is played. Assumes nothing.
+-- `Lent::play_at`: what is taken at the place is a part of the script, and is played.
 use Rattle.lines.specs.Lines.{taken_within}
 use Rattle.script.proofs.Laws.{played_at}
-use Rattle.script.proofs.play_at.Goals as goal
+use Rattle.script.proofs.Lent.play_at.Goals as goal
 
 pub slice_bounds-play_line-count : goal.slice_bounds-play_line-count
 slice_bounds-play_line-count c = (taken_within _ _ _ c.requires.0 c.taken_at-taken.ensures).0
@@ -12,5 +12,5 @@ slice_bounds-play_line-start c = (taken_within _ _ _ c.requires.0 c.taken_at-tak
 pub slice_bounds-play_line-end : goal.slice_bounds-play_line-end
 slice_bounds-play_line-end c = (taken_within _ _ _ c.requires.0 c.taken_at-taken.ensures).1
 
-pub returns : goal.returns
-returns c = played_at _ _ _ _ _ _ _ _ _ _ _ c.taken_at-taken.ensures c.play_line-played.ensures
+pub returns-clause-played : goal.returns-clause-played
+returns-clause-played c = played_at _ _ _ _ _ _ _ _ _ _ _ c.taken_at-taken.ensures c.play_line-played.ensures.played
