@@ -1,4 +1,5 @@
-// A script text played whole on a device, with the transcript written into borrowed room: document 01, "The script program".
+// A script text played whole on a device, with the transcript written into borrowed room: document 01, "The script
+// program".
 // Each public function takes every text, place and number.
 #![tactic(auto)]
 
@@ -21,7 +22,7 @@ pub fn script_of(text: &[u8]) -> &[u8]
     text.get(..16384).unwrap_or(text)
 }
 
-// ---- a line
+// ---- what is played, and on what
 
 // The device after a line, and the place of the room after the line's text.
 #[derive(Clone, Copy)]
@@ -30,13 +31,21 @@ struct Played {
     place: usize,
 }
 
-// How far a script is played: the device, the number of lines played, the place of the room after their text, and the place of the script where the next line begins.
+// How far a script is played: the device, the number of lines played, the place of the room after their text, and the
+// place of the script where the next line begins.
 #[derive(Clone, Copy)]
 struct Progress {
     device: Device,
     count: u32,
     place: usize,
     next: usize,
+}
+
+// The borrowed script, and the place in it where the next line begins.
+#[derive(Drop)]
+struct Reader<'a> {
+    text: &'a [u8],
+    at: usize,
 }
 
 // What a script is played on, all borrowed: the erase counts, the array, and the room for the transcript.
@@ -63,7 +72,10 @@ impl Lent<'_> {
                 }
             }
             None => {
-                let refusal = state::first_refusal(device::refusal_of(device.state, self.main, self.array.len()), 6);
+                let refusal = state::first_refusal(
+                    device::refusal_of(device.state, self.main, self.array.len()),
+                    6,
+                );
                 Played {
                     device,
                     place: printing::put_line(self.room, place, number, Answer::Refused(refusal)),
@@ -72,15 +84,16 @@ impl Lent<'_> {
         }
     }
 
-    // Plays the line that begins at a place of the script.
-    fn play_at(&mut self, script: &[u8], at: usize, p: Progress) -> Progress
-        requires { (at < length script.now) × (p.count < 16384) }
+    // Plays the line that begins at the reader's place.
+    fn play_next(&mut self, reader: &Reader, p: Progress) -> Progress
+        requires { (reader.now.at < length reader.now.text.now) × (p.count < 16384) }
         ensures same { SameLent self.old self.new }
-        ensures played { PlayedAt script.now at p (lent self.old.main.now self.old.small.now) self.old.array.now self.old.room.now result (lent self.new.main.now self.new.small.now) self.new.array.now self.new.room.now }
+        ensures played { PlayedAt reader.now.text.now reader.now.at p (lent self.old.main.now self.old.small.now) self.old.array.now self.old.room.now result (lent self.new.main.now self.new.small.now) self.new.array.now self.new.room.now }
     {
-        let taken = lines::taken_at(script, at);
+        let taken = lines::taken_at(reader.text, reader.at);
+        let line = &reader.text[taken.from..taken.to];
         let count = p.count + 1;
-        let played = self.play_line(&script[taken.from..taken.to], p.device, count, p.place);
+        let played = self.play_line(line, p.device, count, p.place);
         Progress {
             device: played.device,
             count,
@@ -100,24 +113,17 @@ impl Lent<'_> {
             at: 0,
         };
         while reader.at < reader.text.len() {
-            p = self.play_at(reader.text, reader.at, p);
+            p = self.play_next(&reader, p);
             reader.at = p.next;
         }
         p
     }
 }
 
-// The borrowed script, and the place in it where the next line begins.
-#[derive(Drop)]
-struct Reader<'a> {
-    text: &'a [u8],
-    at: usize,
-}
-
 // ---- the script
 
-// Plays the script of a text on a bench bottom part from power-up, with borrowed erase counts, on a borrowed array, and writes the transcript from the room's start on. The room
-// holds every transcript. Gives its length.
+// Plays the script of a text on a bench bottom part from power-up, with borrowed erase counts, on a borrowed array, and
+// writes the transcript from the room's start on. The room holds every transcript. Gives its length.
 pub fn play_text(
     text: &[u8],
     main: &mut [[u16; 16]; 16],

@@ -11,16 +11,15 @@ loop-reader-init c = (refl, same_none _, sofar_none _ _ _ _ _ c.requires)
 pub loop-reader-smaller : goal.loop-reader-smaller
 loop-reader-smaller c =
     let later = next_later c.loop-reader.reader.text.now c.loop-reader.reader.at c.loop-reader-test.true in
-    omega (arith, c.play_at-p.ensures.played.next, later.0, later.1)
+    omega (arith, c.play_next-p.ensures.played.next, later.0, later.1)
 
 pub loop-reader-preserved : goal.loop-reader-preserved
 loop-reader-preserved c =
     let e : c.loop-reader.reader.text.now ≡ c.args.script.now = c.loop-reader.invariant.0 in
-    let less : c.loop-reader.reader.at < length c.args.script.now = omega (arith, ap (length {A = ℕ}) e, c.loop-reader-test.true) in
-    (
+    let less : c.loop-reader.reader.at < length c.args.script.now = omega (arith, ap (length {A = ℕ}) e, c.loop-reader-test.true) in (
       e,
-      same_then c.loop-reader.invariant.1 c.play_at-p.ensures.same,
-      sofar_next _ _ _ _ _ _ _ _ c.loop-reader.invariant.2 _ _ _ _ less (rw e at c.play_at-p.ensures.played),
+      same_then c.loop-reader.invariant.1 c.play_next-p.ensures.same,
+      sofar_next _ _ _ _ _ _ _ _ c.loop-reader.invariant.2 _ _ _ _ less (rw e at c.play_next-p.ensures.played),
     )
 
 pub returns-clause-played : goal.returns-clause-played
