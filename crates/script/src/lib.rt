@@ -9,7 +9,7 @@ ghost use Rattle.script.specs.Script.{script_of, LinePlayed, LinesPlayed, Transc
 ghost use Rattle.script.specs.Laws.{PlayedAt, Begun};
 ghost use Rattle.script.specs.Lent.{SameLent};
 
-use device::Device;
+use device::{Device, Outcome};
 use geometry::Part;
 use semantics::Answer;
 
@@ -63,24 +63,19 @@ impl Lent<'_> {
         ensures same { SameLent self.old self.new }
         ensures played { LinePlayed line.now device number (lent self.old.main.now self.old.small.now) self.old.array.now self.old.room.now place result (lent self.new.main.now self.new.small.now) self.new.array.now self.new.room.now }
     {
-        match line::step_of_line(line) {
-            Some(step) => {
-                let o = device.step(self.main, self.small, self.array, step);
-                Played {
-                    device: o.device,
-                    place: printing::put_line(self.room, place, number, o.answer),
-                }
-            }
+        let o = match line::step_of_line(line) {
+            Some(step) => device.step(self.main, self.small, self.array, step),
             None => {
-                let refusal = state::first_refusal(
-                    device::refusal_of(device.state, self.main, self.array.len()),
-                    6,
-                );
-                Played {
+                let refusal = device::refusal_of(device.state, self.main, self.array.len());
+                Outcome {
                     device,
-                    place: printing::put_line(self.room, place, number, Answer::Refused(refusal)),
+                    answer: Answer::Refused(state::first_refusal(refusal, 6)),
                 }
             }
+        };
+        Played {
+            device: o.device,
+            place: printing::put_line(self.room, place, number, o.answer),
         }
     }
 

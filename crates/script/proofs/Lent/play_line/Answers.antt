@@ -1,10 +1,16 @@
--- `Lent::play_line`: a line with none of the forms. One with a step the check finds.
+-- `Lent::play_line`: a line with a step, and a line with none.
 use Rattle.std.proofs.Common.{◌∙◌, ℕ, sym, ap}
 use Rattle.semantics.specs.Split.{first_refusal}
-use Rattle.script.proofs.Laws.{line_refused}
+use Rattle.script.proofs.Laws.{line_made, line_refused}
 use Rattle.script.proofs.Lent.play_line.Goals as goal
+use Rattle.script.proofs.Lent.play_line.Goals.{in-Some, in-None}
 
-pub returns-in-None-clause-played : goal.returns-in-None-clause-played
-returns-in-None-clause-played c =
-    line_refused _ _ _ _ _ _ _ _ _ _ (sym c.step_of_line.ensures ∙ c.in-None.is)
-    (c.first_refusal-refusal.ensures ∙ ap (λ (n : ℕ). first_refusal n 6) (c.refusal_of.ensures _)) c.put_line-in-None.ensures
+pub returns-clause-played : goal.returns-clause-played
+returns-clause-played c =
+    elim c.match-step_of_line.branch [
+      | in-Some w ↦
+          rw w.self-is (line_made _ _ _ _ _ _ _ _ _ _ _ _ _ (sym c.step_of_line.ensures ∙ w.in-Some.is) (w.o-is ∙ w.step-o.ensures.outcome) w.step-o.ensures.array w.step-o.ensures.counts (rw w.self-is at c.put_line.ensures))
+      | in-None w ↦
+          rw (w.self-is, w.o-is) (line_refused _ _ _ _ _ _ _ _ _ _ (sym c.step_of_line.ensures ∙ w.in-None.is)
+          (w.first_refusal.ensures ∙ ap (λ (n : ℕ). first_refusal n 6) (w.refusal_of-refusal.ensures _)) (rw (w.self-is, w.o-is) at c.put_line.ensures))
+    ]
