@@ -1,8 +1,9 @@
-// The script program: reads a script on standard input, plays it on a bench bottom part and prints the transcript. All that matters is proved in the crate
-// script; what is read and written is tested (host/test-play).
+// The script program: reads a script on standard input, plays it on a bench bottom part and prints the transcript. All
+// that matters is proved in the crate script; what is read and written is tested (host/test-play).
 //
-// What goes wrong is told on standard error, and the status is then 1: after a read that failed nothing is printed on standard output, and a transcript that
-// could not be written whole is said to be cut. A line that begins `play: warning: ` says what the transcript does not, and changes no status.
+// What goes wrong is told on standard error, and the status is then 1: after a read that failed nothing is printed on
+// standard output, and a transcript that could not be written whole is said to be cut. A line that begins
+// `play: warning: ` says what the transcript does not, and changes no status.
 #![tactic(auto)]
 
 ghost use Rattle.std.specs.Prelude.{◌≡◌, ◌+◌, ◌<◌, ◌≤◌, ◌↔◌, length, take, slice_index, SomeIndex, IsTrue, OnOk, IfOk, IfErr, ℕ};
@@ -40,7 +41,8 @@ fn has_cr_lf(text: &[u8]) -> bool
     text.windows(2).any(|pair| matches!(pair, [b'\r', b'\n']))
 }
 
-// Warns of a script that is played otherwise than its author may think. A warning that cannot be written is lost, and the script is played.
+// Warns of a script that is played otherwise than its author may think. A warning that cannot be written is lost, and
+// the script is played.
 fn warn(rt: &impl Eprint, text: &[u8]) {
     if text.len() > 16384 {
         let _ = eprintln!(rt;
@@ -63,7 +65,8 @@ fn print<W: Write>(out: &mut W, room: &[u8], end: usize) -> io::Result<()>
     out.write_all(&room[..end])
 }
 
-// Tells on standard error what failed and why: the system's text of the error, without the number that std writes after it.
+// Tells on standard error what failed and why: the system's text of the error, without the number that std writes
+// after it.
 fn fail(rt: &impl Eprint, what: &str, error: io::Error) -> ExitCode {
     let mut text = [0u8; 256];
     let mut room = &mut text[..];
@@ -82,7 +85,8 @@ fn fail(rt: &impl Eprint, what: &str, error: io::Error) -> ExitCode {
 }
 
 fn main(rt: HostRuntime) -> ExitCode {
-    // Only the first 16,384 bytes are the script, however they arrive. One more is read, to tell an input that is longer.
+    // Only the first 16,384 bytes are the script, however they arrive. One more is read, to tell an input that is
+    // longer.
     let mut text = [0u8; 16385];
     let read = match read_text(&mut rt.stdin(), &mut text) {
         Ok(count) => &text[..count],

@@ -1,4 +1,5 @@
 -- The modules of the specification.
 pub mod Script
 pub mod Laws
+pub mod Lent
 pub mod Cases

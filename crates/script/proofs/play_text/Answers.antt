@@ -1,11 +1,10 @@
--- `script::play_text` meets its contract: the lines are played from power-up, the end is put after their text, and the room holds it all. Assumes nothing.
-use mathlib.Core.Path.{ap}
-use native.Mathlib.Omega.{arith}
-use lib.ListN.{length}
+-- `script::play_text` meets its contract: the lines are played from power-up, the end is put after their text, and the room holds it all.
+use Rattle.std.proofs.Common.{rules, ◌≡◌, ℕ, List, ap, arith, length}
+use Rattle.wear.specs.Counts.{Counts}
+use Rattle.script.specs.Script.{Transcribed}
 use Rattle.device.specs.declared.Device.{Device}
 use Rattle.script.proofs.Laws.{script_short}
 use Rattle.script.proofs.Fits.{transcribed}
-use borrow.Author.Rules.{rules}
 use Rattle.script.proofs.play_text.Goals as goal
 
 pub play_lines-p-requires : goal.play_lines-p-requires
@@ -15,7 +14,10 @@ play_lines-p-requires c = record {
   unworn = c.power_up.ensures.counts;
 }
 
+-- what was lent ends as the lines leave it
+at_last : {t xs room after array array' : List ℕ} {next : ℕ} {k k' : Counts} → k' ≡ k → array' ≡ array → Transcribed t xs room next k array after → Transcribed t xs room next k' array' after
+at_last e f h = rw (e, f) h
+
 pub returns : goal.returns
 returns c =
-    let lines = c in
-    transcribed _ _ _ _ _ _ _ _ _ _ (search rules) lines.script_of.ensures lines.play_lines-p.ensures c.put_end.ensures
+    at_last (search rules) (search rules) (transcribed _ _ _ _ _ _ _ _ _ _ (search rules) c.script_of.ensures c.play_lines-p.ensures.played c.put_end.ensures)
