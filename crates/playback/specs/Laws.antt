@@ -16,7 +16,6 @@ use Rattle.semantics.specs.declared.Answer.{Answer}
 use Rattle.semantics.specs.declared.Answer.TheVariants.{Word, Units, Done, Refused}
 use Rattle.semantics.specs.declared.Step.TheVariants.{Read, Write, Work, Supply, Reset}
 use Rattle.semantics.specs.declared.Place.{Place}
-use Rattle.semantics.specs.Split.{first_refusal}
 use Rattle.semantics.specs.Steps.{switched_to, Machine}
 use Rattle.semantics.specs.Supply.{switched}
 use Rattle.semantics.specs.Encoding.{decode}

@@ -1,5 +1,5 @@
 -- Short lists of reads, and that they change nothing. Assumes nothing.
-use Rattle.std.specs.Prelude.{ℕ, zero, suc, ◌<◌, ◌/◌, ◌%◌, Bool, true, false, cond, ◌&&◌, List, [], ◌∷◌, ◌≡◌, refl, eqb, ltb, leb, length, get_or, drop, Option, Some, None}
+use Rattle.std.specs.Prelude.{ℕ, zero, suc, ◌<◌, ◌/◌, ◌%◌, Bool, true, ◌&&◌, List, [], ◌∷◌, ◌≡◌, refl, ltb, leb, length, get_or, drop, Option, Some, None}
 use Rattle.std.proofs.Common.{ap, ◌∙◌, arith, drop-cons, ltb-true}
 use Rattle.std.specs.Option.{option_map_or}
 use Rattle.refusal.specs.declared.Refusal.{Refusal}

@@ -1,5 +1,5 @@
 -- What a number asks of a list, and what that comes to: the step that the number encodes, and whether it is refused. Assumes nothing.
-use Rattle.std.specs.Prelude.{ℕ, Bool, ◌≡◌, Option, Some, None}
+use Rattle.std.specs.Prelude.{ℕ, ◌≡◌, Option, Some, None}
 use Rattle.std.specs.Option.{option_map_or}
 use Rattle.std.proofs.Math.Path.{refl}
 use Rattle.std.proofs.Common.{sym, subst}

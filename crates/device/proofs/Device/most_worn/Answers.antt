@@ -1,5 +1,4 @@
 -- `Device::most_worn` meets its contract: the count of the most worn block. Assumes nothing.
-use Rattle.std.proofs.Common.{◌∙◌}
 use Rattle.wear.specs.Steps.{most_worn_with, erase_count_with}
 use Rattle.device.proofs.Device.most_worn.Goals as goal
 

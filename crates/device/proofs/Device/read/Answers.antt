@@ -1,8 +1,6 @@
 -- `Device::read` meets its contract: the step by the refusal that was found. Assumes nothing.
-use Rattle.std.proofs.Common.{◌∙◌, sym, refl}
+use Rattle.std.proofs.Common.{◌∙◌}
 use Rattle.semantics.specs.declared.Step.TheVariants.{Read}
-use Rattle.semantics.specs.Card.{given, card}
-use Rattle.semantics.specs.Split.{step_refusal}
 use Rattle.semantics.specs.Steps.{accepted}
 use Rattle.device.specs.Refusals.{none_left, outcome_accepted, outcome_refused}
 use Rattle.device.proofs.Device.read.Goals as goal

@@ -1,5 +1,5 @@
 -- `Device::supply` meets its contract: the step by the refusal that was found. Assumes nothing.
-use Rattle.std.proofs.Common.{◌∙◌, sym, refl}
+use Rattle.std.proofs.Common.{◌∙◌, refl}
 use Rattle.semantics.specs.declared.Step.TheVariants.{Supply}
 use Rattle.semantics.specs.Card.{given, card}
 use Rattle.semantics.specs.Split.{step_refusal}
