@@ -12,15 +12,8 @@ ghost use Rattle.hexwrite.specs.Records.{Added, Begun, ended};
 ghost use Rattle.hexwrite.specs.Texts.{sixteen_of, plain_text};
 
 use geometry::Part;
+use printing::digit;
 use refusal::Refusal;
-
-// The digit of a number below 16.
-fn digit(n: u8) -> u8
-    requires { n < 16 }
-    ensures { result ≡ digit_of n }
-{
-    if n < 10 { b'0' + n } else { b'A' + (n - 10) }
-}
 
 // A record that is begun: the place of its next byte, and the sum of its bytes so far, as it wraps at 256. The room is
 // not one of its fields: a struct that holds it would have to say in each method that it is the same room.
@@ -49,8 +42,8 @@ impl Record {
         requires { self.at + 2 ≤ length text.old }
         ensures { Added text.old self (byte ∷ []) text.new result }
     {
-        text[self.at] = digit(byte / 16);
-        text[self.at + 1] = digit(byte % 16);
+        text[self.at] = digit(u32::from(byte / 16));
+        text[self.at + 1] = digit(u32::from(byte));
         Record {
             at: self.at + 2,
             sum: self.sum.wrapping_add(byte),
