@@ -12,12 +12,14 @@ ghost use Rattle.wear.specs.Counts.{lent};
 ghost use Rattle.wear.specs.Steps.{reported_with, most_worn_with, erase_count_with};
 ghost use Rattle.device.specs.Outcomes.{holding};
 ghost use Rattle.saved.specs.Saved.{state_of};
+ghost use Rattle.saved.specs.Ranges.{either};
 ghost use Rattle.m58.specs.Calls.{start_code, powers_up, powered_up, unworn, Ran, report_code, worn_code, count_code};
 ghost use Rattle.m58.specs.Calls.{hex_code, hex_verdict, hex_array, hex_written, hex_room};
 
 use device::Device;
 use geometry::Part;
 use refusal::Refusal;
+use semantics::State;
 
 // A refusal stands from bit 32.
 const HIGH: u64 = 4294967296;
@@ -95,6 +97,14 @@ pub extern "C" fn m58_power_up(
     }
 }
 
+// The device of what was found, a saved state or the one that stands for words that are none.
+fn device_of(found: Result<State, State>) -> Device
+    ensures { result ≡ holding (either found) }
+{
+    let (Ok(state) | Err(state)) = found;
+    Device { state }
+}
+
 // Plays steps on the saved state, its counts and the array, writes the answers, saves the state after them, and answers
 // how many were played. Words that are no saved state are left: each step on them is refused. A few reads alone change
 // nothing, and save nothing.
@@ -110,14 +120,8 @@ pub extern "C" fn m58_run(
     ensures { Ran state.old (lent main.old small.old) steps.now answers.old array.old result state.new (lent main.new small.new) answers.new array.new }
 {
     let found = saved::found_in(state);
-    // Asked before the state is taken out: after it the proof has no link to the words.
-    let good = found.is_ok();
-    let (Ok(before) | Err(before)) = found;
-    let end = playback::run(Device { state: before }, main, small, steps, answers, array);
-    if playback::few_reads(steps) {
-        return end.played;
-    }
-    if good {
+    let end = playback::run(device_of(found), main, small, steps, answers, array);
+    if !playback::few_reads(steps) && found.is_ok() {
         saved::save(end.device.state, state);
     }
     end.played
@@ -127,8 +131,7 @@ pub extern "C" fn m58_run(
 fn device_in(state: &[u64]) -> Device
     ensures { result ≡ holding (state_of state.now) }
 {
-    let (Ok(state) | Err(state)) = saved::found_in(state);
-    Device { state }
+    device_of(saved::found_in(state))
 }
 
 // How many blocks are unprotected, and the lowest of them, in one number.

@@ -214,11 +214,14 @@ found_is_ok ws = go (is_saved ws)
     go true = refl
     go false = refl
 
-pub found_state : (ws : List ℕ) (r : Result State State) (s : State) → r ≡ found_of ws → (r ≡ Ok s) ⊎ (r ≡ Err s) → s ≡ state_of ws
-found_state ws r s h = go (is_saved ws) h
+-- the state of either
+abbrev pub either : Result State State → State
+either (Ok s) = s
+either (Err s) = s
+
+pub either_found : (ws : List ℕ) → either (found_of ws) ≡ state_of ws
+either_found ws = go (is_saved ws)
   where
-    go : (t : Bool) → r ≡ cond t (Ok (state_of ws)) (Err (state_of ws)) → (r ≡ Ok s) ⊎ (r ≡ Err s) → s ≡ state_of ws
-    go true p (inl q) = cc
-    go true p (inr q) = cc
-    go false p (inl q) = cc
-    go false p (inr q) = cc
+    go : (t : Bool) → either (cond t (Ok (state_of ws)) (Err (state_of ws))) ≡ state_of ws
+    go true = refl
+    go false = refl
