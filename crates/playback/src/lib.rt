@@ -65,8 +65,8 @@ pub fn answer_code(a: Answer) -> u64
     ensures { result ≡ answer_code a }
 {
     match a {
-        Answer::Word(w) => w as u64,
-        Answer::Units(n) => n as u64,
+        Answer::Word(w) => w.into(),
+        Answer::Units(n) => n.into(),
         Answer::Done => 0,
         Answer::Refused(e) => u64::from(u32::from(e)) * 4294967296,
     }

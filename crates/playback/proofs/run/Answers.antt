@@ -1,5 +1,15 @@
 -- `playback::run` meets its contract. One number more is played by the task that it asks, and a write by what it changes.
-use Rattle.std.proofs.Common.{◌≡◌, ◌∙◌, refl, sym, ap, List, ℕ, arith, None}
+use mir.Val.{Val}
+use denote.Laws.{Is}
+use denote.Struct.Declared.{row}
+use Rattle.device.specs.contracts.Device as device_type
+use Rattle.device.specs.declared.Device.{Device}
+use Rattle.refusal.specs.declared.Refusal.{Refusal}
+use Rattle.semantics.specs.declared.Step.TheVariants.{Reset}
+use Rattle.semantics.specs.WellFormed.{well_formed}
+use Rattle.semantics.specs.Card.{given, card}
+use Rattle.wear.specs.Counts.{shared_zero}
+use Rattle.std.proofs.Common.{Bool, Option, ◌&&◌, length, ◌≡◌, ◌∙◌, refl, sym, ap, List, ℕ, arith, None}
 use Rattle.geometry.specs.Blocks.{geometry_of, bank_of}
 use Rattle.geometry.specs.declared.Part.{Part}
 use Rattle.semantics.specs.declared.Bank.{Bank}
@@ -22,22 +32,25 @@ pieces : (q : Part) (b b' : List Bank) (u u' : List ℕ) (c c' : Control) (f f' 
     → ◌≡◌ {A = State} (record { part = q; banks = b; unprotected = u; control = c; buffer = f }) (record { part = q; banks = b'; unprotected = u'; control = c'; buffer = f' })
 pieces q b b' u u' c c' f f' i j k l = λ e. record { part = q; banks = i e; unprotected = j e; control = k e; buffer = l e }
 
-pub loop-i-init : goal.loop-i-init
+-- what the code found the state, its counts and the array refused for is what they are held to be
+held : (d : Device) (vs : List Val) → Is (row device_type.the_type) d vs → (main : List (List ℕ)) (small xs : List ℕ) (f z : Bool) (a b : Option Refusal)
+    → f ≡ well_formed d.state → z ≡ shared_zero main → a ≡ given (card (geometry_of d.state.part) (f && z) (length xs) Reset) → a ≡ b
+    → Held b d.state (lent main small) xs
 unfolding formed_with refusal_with
-loop-i-init c =
-    let d = c.args.device in
-    let p = c.well_formed.0 in
-    let same : Held c.refusal_beside-refused.result d.state (lent c.args.main.now c.args.small.now) c.args.array.now = record {
-      same = rw (← c.formed_of.ensures d.state.banks, ← c.shared_zero.ensures) c.refusal_beside-refused.ensures;
-      sixteen = sixteen d _ p;
-      five = five d _ p;
-      thirty_two = thirty_two d _ p;
-    } in (
-      going_none _ _ _ _ _ _ (record { same = sym (none_left _ c.in_default.not-Some) ∙ same.same; sixteen = same.sixteen; five = same.five; thirty_two = same.thirty_two }),
-      c.min-played.ensures,
-      omega arith,
-      refl,
-    )
+held d vs p main small xs f z a b formed zero found is = record {
+  same = sym is ∙ rw (← formed, ← zero) found;
+  sixteen = sixteen d vs p;
+  five = five d vs p;
+  thirty_two = thirty_two d vs p;
+}
+
+pub loop-i-init : goal.loop-i-init
+loop-i-init c = (
+  going_none _ _ _ _ _ _ (held c.args.device _ c.well_formed.0 _ _ _ _ _ _ _ (c.formed_of.ensures _) c.shared_zero.ensures c.refusal_beside-refused.ensures (none_left _ c.in_default.not-Some)),
+  c.min-played.ensures,
+  omega arith,
+  refl,
+)
 
 pub bounds-banks-p : goal.bounds-banks-p
 bounds-banks-p c = write_bank None c.args.device.state.part _ _ _ (task_means None (geometry_of c.args.device.state.part) _ _ (sym c.in-Write.is ∙ c.task_of-task.ensures))
@@ -75,17 +88,8 @@ loop-i-preserved c =
     )
 
 pub returns-in-Some : goal.returns-in-Some
-unfolding formed_with refusal_with
 returns-in-Some c =
-    let d = c.args.device in
-    let p = c.well_formed.0 in
-    let same : Held c.refusal_beside-refused.result d.state (lent c.args.main.now c.args.small.now) c.args.array.now = record {
-      same = rw (← c.formed_of.ensures d.state.banks, ← c.shared_zero.ensures) c.refusal_beside-refused.ensures;
-      sixteen = sixteen d _ p;
-      five = five d _ p;
-      thirty_two = thirty_two d _ p;
-    } in
-    c.refuse-played.ensures _ _ _ (record { same = sym c.in-Some.is ∙ same.same; sixteen = same.sixteen; five = same.five; thirty_two = same.thirty_two })
+    c.refuse-played.ensures _ _ _ (held c.args.device _ c.well_formed.0 _ _ _ _ _ _ _ (c.formed_of.ensures _) c.shared_zero.ensures c.refusal_beside-refused.ensures c.in-Some.is)
 
 pub returns-after-loop-i : goal.returns-after-loop-i
 returns-after-loop-i c =
