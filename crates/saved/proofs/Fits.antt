@@ -8,6 +8,7 @@ use denote.Laws.{Is}
 use denote.Struct.Declared.{row}
 use denote.Enum.Declared as enum
 use borrow.Author.Rules.{elem_Fits}
+use Rattle.std.specs.contracts.option.Option as option
 use Rattle.semantics.specs.contracts.Setup as setup_type
 use Rattle.semantics.specs.contracts.Running as running_type
 use Rattle.semantics.specs.contracts.SuspendedProgram as program_type
@@ -43,9 +44,9 @@ program_fits_lem program.Nothing vs p = tt
 program_fits_lem (program.Program l w) vs p = let q = p.1.1.1.1 in (q.0.1, q.1.0.1)
 program_fits_lem (program.Buffer l n d) vs p = let q = p.1.1.1.1 in (q.0.1, q.1.0.1, q.1.1.0.1)
 
-erase_fits_lem : (r : Option SuspendedErase) (vs : List Val) → Is (enum.row erase_type.the_type) r vs → EraseFitting r
+erase_fits_lem : (r : Option SuspendedErase) (vs : List Val) → Is (option.the_row (row erase_type.the_type)) r vs → EraseFitting r
 erase_fits_lem None vs p = tt
-erase_fits_lem (Some e) vs p = let q = p.1.1.1.1 in (q.0.1, q.1.0.1)
+erase_fits_lem (Some e) vs p = let q = p.1.1.1.1.0.1.1 in (q.0.1, q.1.0.1)
 
 pub fits : (s : State) (vs : List Val) → Is (row state_type.the_type) s vs → Fitting s
 fits s vs p =
