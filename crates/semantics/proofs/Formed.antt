@@ -18,7 +18,7 @@ use Rattle.semantics.specs.declared.SuspendedProgram.{SuspendedProgram}
 use Rattle.semantics.specs.declared.SuspendedProgram.TheVariants as program
 use Rattle.semantics.specs.declared.SuspendedErase.{SuspendedErase}
 use Rattle.semantics.specs.Layout.{inside, only, fits}
-use Rattle.semantics.specs.State.{activity, runs, program_suspended, erase_suspended, suspended_erase}
+use Rattle.semantics.specs.State.{activity, runs, program_suspended, erase_suspended}
 use Rattle.semantics.specs.WellFormed.{implies, pending, is_erase_setup, is_erase, erasing, running_alone, program_alone, erase_alone, erase_fits, words_fit, buffer_fits, setup_fits, running_fits, program_fits, suspended_erase_fits, all_fit, running_apart, program_apart, apart, activity_formed}
 use Rattle.semantics.specs.Entries as entries
 use Rattle.semantics.specs.Entries.{Entry, entry, Live}
@@ -161,29 +161,29 @@ module _ (g : Geometry) (bs : List ℕ) where
   alone_test true false true f h = absurd (true≢false (h refl))
   alone_test true true c f h = absurd (true≢false (f refl).0)
 
-  no_erase_runs : (r : Running) (p : SuspendedProgram) (b n : ℕ) → Together r p (Some (suspended_erase b n)) → not (is_erase r) ≡ true
-  no_erase_runs running.Idle p b n m = refl
-  no_erase_runs (running.Program l w) p b n m = refl
-  no_erase_runs (running.Erase c k) program.Nothing b n m = absurd m
-  no_erase_runs (running.Erase c k) (program.Program l w) b n m = absurd m
-  no_erase_runs (running.Erase c k) (program.Buffer l w d) b n m = absurd m
-  no_erase_runs (running.Buffer l w d) p b n m = refl
+  no_erase_runs : (r : Running) (p : SuspendedProgram) (e : SuspendedErase) → Together r p (Some e) → not (is_erase r) ≡ true
+  no_erase_runs running.Idle p e m = refl
+  no_erase_runs (running.Program l w) p e m = refl
+  no_erase_runs (running.Erase c k) program.Nothing e m = absurd m
+  no_erase_runs (running.Erase c k) (program.Program l w) e m = absurd m
+  no_erase_runs (running.Erase c k) (program.Buffer l w d) e m = absurd m
+  no_erase_runs (running.Buffer l w d) p e m = refl
 
-  no_erase_setup : (c : Setup) (r : Running) (p : SuspendedProgram) (b n : ℕ) → Ready g (setup_of bs c) (runs r) (held? (under_way_of bs r p (Some (suspended_erase b n)))) → not (is_erase_setup c) ≡ true
-  no_erase_setup setup.Nothing r p b n y = refl
-  no_erase_setup setup.Program r p b n y = refl
-  no_erase_setup setup.Lock r p b n y = refl
-  no_erase_setup (setup.BufferCount c) r p b n y = refl
-  no_erase_setup (setup.BufferFirst c i) r p b n y = refl
-  no_erase_setup (setup.BufferWords l i k) r p b n y = refl
-  no_erase_setup setup.Erase r program.Nothing b n y = absurd (true≢false (sym (under_way_any bs r program.Nothing (Some (suspended_erase b n))) ∙ y.1))
-  no_erase_setup setup.Erase r (program.Buffer l w d) b n y = absurd (true≢false (sym (under_way_any bs r (program.Buffer l w d) (Some (suspended_erase b n))) ∙ y.1))
-  no_erase_setup setup.Erase r (program.Program l w) b n y = absurd (true≢false (sym (under_way_any bs r (program.Program l w) (Some (suspended_erase b n))) ∙ y.1))
+  no_erase_setup : (c : Setup) (r : Running) (p : SuspendedProgram) (e : SuspendedErase) → Ready g (setup_of bs c) (runs r) (held? (under_way_of bs r p (Some e))) → not (is_erase_setup c) ≡ true
+  no_erase_setup setup.Nothing r p e y = refl
+  no_erase_setup setup.Program r p e y = refl
+  no_erase_setup setup.Lock r p e y = refl
+  no_erase_setup (setup.BufferCount c) r p e y = refl
+  no_erase_setup (setup.BufferFirst c i) r p e y = refl
+  no_erase_setup (setup.BufferWords l i k) r p e y = refl
+  no_erase_setup setup.Erase r program.Nothing e y = absurd (true≢false (sym (under_way_any bs r program.Nothing (Some e)) ∙ y.1))
+  no_erase_setup setup.Erase r (program.Buffer l w d) e y = absurd (true≢false (sym (under_way_any bs r (program.Buffer l w d) (Some e)) ∙ y.1))
+  no_erase_setup setup.Erase r (program.Program l w) e y = absurd (true≢false (sym (under_way_any bs r (program.Program l w) (Some e)) ∙ y.1))
 
   erase_alone_lem : (c : Setup) (r : Running) (p : SuspendedProgram) (e : Option SuspendedErase) → Together r p e → Ready g (setup_of bs c) (runs r) (held? (under_way_of bs r p e))
       → implies (erase_suspended e) (not (is_erase r) && not (is_erase_setup c)) ≡ true
   erase_alone_lem c r p None m y = refl
-  erase_alone_lem c r p (Some e) m y = and_both (no_erase_runs r p e.block e.done m) (no_erase_setup c r p e.block e.done y)
+  erase_alone_lem c r p (Some e) m y = and_both (no_erase_runs r p e m) (no_erase_setup c r p e y)
 
   -- a load that is ready
   fits_setup : (c : Setup) (r : Bool) (h : (Operation → Bool) → Bool) → Ready g (setup_of bs c) r h → setup_fits g c ≡ true
