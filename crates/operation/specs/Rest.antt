@@ -1,6 +1,6 @@
 -- A device on which nothing runs, is suspended or is loaded: what is under way is then well formed, and no place of the
 -- buffer is in use. And what runs in no bank, as nothing runs. Assumes nothing.
-use Rattle.std.specs.Prelude.{ℕ, Bool, true, false, not, ◌&&◌, ◌≡◌, refl}
+use Rattle.std.specs.Prelude.{ℕ, Bool, true, false, not, ◌&&◌, ◌≡◌, refl, Option, Some, None}
 use Rattle.std.proofs.Common.{true≢false, ap, ◌∙◌}
 use Rattle.std.proofs.lemmas.Bool.{false≢true}
 use Rattle.geometry.specs.declared.Geometry.{Geometry}
@@ -11,7 +11,6 @@ use Rattle.semantics.specs.declared.Running.TheVariants as running
 use Rattle.semantics.specs.declared.SuspendedProgram.{SuspendedProgram}
 use Rattle.semantics.specs.declared.SuspendedProgram.TheVariants as program
 use Rattle.semantics.specs.declared.SuspendedErase.{SuspendedErase}
-use Rattle.semantics.specs.declared.SuspendedErase.TheVariants as erase
 use Rattle.semantics.specs.declared.Activity.{Activity}
 use Rattle.semantics.specs.State.{activity, runs, program_suspended, erase_suspended}
 use Rattle.semantics.specs.Reading.{runs_in}
@@ -56,12 +55,12 @@ no_program program.Nothing h = refl
 no_program (program.Program l w) h = absurd (true≢false h)
 no_program (program.Buffer l n d) h = absurd (true≢false h)
 
-no_erase : (e : SuspendedErase) → not (erase_suspended e) ≡ true → e ≡ erase.Nothing
-no_erase erase.Nothing h = refl
-no_erase (erase.Erase b n) h = absurd (false≢true h)
+no_erase : (e : Option SuspendedErase) → not (erase_suspended e) ≡ true → e ≡ None
+no_erase None h = refl
+no_erase (Some e) h = absurd (false≢true h)
 
 abbrev resting : Setup → Activity
-resting s = activity s running.Idle program.Nothing erase.Nothing
+resting s = activity s running.Idle program.Nothing None
 
 rest : (a : Activity) → at_rest a ≡ true → (is_load a.setup ≡ false) × (a ≡ resting a.setup)
 rest a h =

@@ -1,7 +1,7 @@
 // What is under way on a device: the tests of it, and its changes. Each function takes every value, well formed or not.
 #![tactic(auto)]
 
-ghost use Rattle.std.specs.Prelude.{◌≡◌};
+ghost use Rattle.std.specs.Prelude.{Option, ◌≡◌};
 ghost use Rattle.geometry.specs.declared.Geometry.{Geometry};
 ghost use Rattle.geometry.specs.Blocks.{geometry_of};
 ghost use Rattle.semantics.specs.State.{with_setup, with_running, runs, program_suspended, erase_suspended};
@@ -32,10 +32,10 @@ pub fn program_suspended(p: SuspendedProgram) -> bool
     !matches!(p, SuspendedProgram::Nothing)
 }
 
-pub fn erase_suspended(e: SuspendedErase) -> bool
+pub fn erase_suspended(e: Option<SuspendedErase>) -> bool
     ensures { result ≡ erase_suspended e }
 {
-    !matches!(e, SuspendedErase::Nothing)
+    e.is_some()
 }
 
 // A set-up is pending.
@@ -58,10 +58,10 @@ pub fn is_erase(r: Running) -> bool
 }
 
 // The suspended erase, if there is one, is of this block.
-pub fn erasing(e: SuspendedErase, block: u32) -> bool
+pub fn erasing(e: Option<SuspendedErase>, block: u32) -> bool
     ensures { result ≡ erasing e block }
 {
-    matches!(e, SuspendedErase::Erase { block: b, .. } if b == block)
+    e.is_some_and(|e| e.block == block)
 }
 
 // ---- its changes
@@ -91,7 +91,7 @@ pub fn suspended(a: Activity) -> Activity
         },
         Running::Erase { block, done } => Activity {
             running: Running::Idle,
-            erase: SuspendedErase::Erase { block, done },
+            erase: Some(SuspendedErase { block, done }),
             ..a
         },
         Running::Buffer { start, words, done } => Activity {
@@ -107,10 +107,10 @@ fn resumed_erase(a: Activity) -> Activity
     ensures { result ≡ resumed_erase a a.erase }
 {
     match a.erase {
-        SuspendedErase::Nothing => a,
-        SuspendedErase::Erase { block, done } => Activity {
+        None => a,
+        Some(SuspendedErase { block, done }) => Activity {
             running: Running::Erase { block, done },
-            erase: SuspendedErase::Nothing,
+            erase: None,
             ..a
         },
     }
@@ -238,7 +238,7 @@ fn running_fits(part: Part, r: Running) -> bool
 #[tactic(auto, unfolding(semantics::specs::WellFormed::running_fits, semantics::specs::WellFormed::program_fits, semantics::specs::WellFormed::running_apart, semantics::specs::WellFormed::program_apart, semantics::specs::WellFormed::running_places, semantics::specs::WellFormed::program_places))]
 fn program_again(p: SuspendedProgram) -> Running
     ensures fits { (g : Geometry) → running_fits g result ≡ program_fits g p }
-    ensures apart { (g : Geometry) (e : SuspendedErase) → running_apart g e result ≡ program_apart g e p }
+    ensures apart { (g : Geometry) (e : Option SuspendedErase) → running_apart g e result ≡ program_apart g e p }
     ensures places { running_places result ≡ program_places p }
 {
     match p {
@@ -249,12 +249,12 @@ fn program_again(p: SuspendedProgram) -> Running
 }
 
 #[tactic(auto, unfolding(semantics::specs::WellFormed::running_fits, semantics::specs::WellFormed::suspended_erase_fits))]
-fn erase_again(e: SuspendedErase) -> Running
+fn erase_again(e: Option<SuspendedErase>) -> Running
     ensures { (g : Geometry) → running_fits g result ≡ suspended_erase_fits g e }
 {
     match e {
-        SuspendedErase::Nothing => Running::Idle,
-        SuspendedErase::Erase { block, done } => Running::Erase { block, done },
+        None => Running::Idle,
+        Some(SuspendedErase { block, done }) => Running::Erase { block, done },
     }
 }
 
@@ -271,7 +271,7 @@ fn all_fit(part: Part, a: Activity) -> bool
 
 // A program that runs beside a suspended erase lies in another block.
 #[tactic(auto, unfolding(semantics::specs::WellFormed::running_apart))]
-fn running_apart(part: Part, e: SuspendedErase, r: Running) -> bool
+fn running_apart(part: Part, e: Option<SuspendedErase>, r: Running) -> bool
     ensures { result ≡ running_apart (geometry_of part) e r }
 {
     match r {

@@ -1,5 +1,6 @@
 -- A state that is a parameter fits its types, by what a function is told of it. Each path goes to a field, in the order
 -- of the declaration. Assumes nothing.
+use Rattle.std.specs.Prelude.{Option, Some, None}
 use mathlib.Core.List.{List}
 use mir.Syntax.{w16}
 use mir.Val.{Val}
@@ -7,6 +8,7 @@ use denote.Laws.{Is}
 use denote.Struct.Declared.{row}
 use denote.Enum.Declared as enum
 use borrow.Author.Rules.{elem_Fits}
+use Rattle.std.specs.contracts.option.Option as option
 use Rattle.semantics.specs.contracts.Setup as setup_type
 use Rattle.semantics.specs.contracts.Running as running_type
 use Rattle.semantics.specs.contracts.SuspendedProgram as program_type
@@ -19,7 +21,6 @@ use Rattle.semantics.specs.declared.Running.TheVariants as running
 use Rattle.semantics.specs.declared.SuspendedProgram.{SuspendedProgram}
 use Rattle.semantics.specs.declared.SuspendedProgram.TheVariants as program
 use Rattle.semantics.specs.declared.SuspendedErase.{SuspendedErase}
-use Rattle.semantics.specs.declared.SuspendedErase.TheVariants as erase
 use Rattle.semantics.specs.declared.State.{State}
 use Rattle.saved.specs.Laws.{SetupFitting, RunningFitting, ProgramFitting, EraseFitting, Fitting}
 
@@ -43,9 +44,9 @@ program_fits_lem program.Nothing vs p = tt
 program_fits_lem (program.Program l w) vs p = let q = p.1.1.1.1 in (q.0.1, q.1.0.1)
 program_fits_lem (program.Buffer l n d) vs p = let q = p.1.1.1.1 in (q.0.1, q.1.0.1, q.1.1.0.1)
 
-erase_fits_lem : (r : SuspendedErase) (vs : List Val) → Is (enum.row erase_type.the_type) r vs → EraseFitting r
-erase_fits_lem erase.Nothing vs p = tt
-erase_fits_lem (erase.Erase b n) vs p = let q = p.1.1.1.1 in (q.0.1, q.1.0.1)
+erase_fits_lem : (r : Option SuspendedErase) (vs : List Val) → Is (option.the_row (row erase_type.the_type)) r vs → EraseFitting r
+erase_fits_lem None vs p = tt
+erase_fits_lem (Some e) vs p = let q = p.1.1.1.1.0.1.1 in (q.0.1, q.1.0.1)
 
 pub fits : (s : State) (vs : List Val) → Is (row state_type.the_type) s vs → Fitting s
 fits s vs p =

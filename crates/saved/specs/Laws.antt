@@ -1,7 +1,7 @@
 -- Laws of the saved words: a state whose numbers fit their types is got back from its words, and words that are no
 -- saved state say one that the device refuses.
 -- Assumes nothing.
-use Rattle.std.specs.Prelude.{ℕ, zero, suc, ◌+◌, ◌*◌, ◌/◌, ◌%◌, ◌^◌, ◌<◌, ◌≤◌, Bool, true, false, ◌&&◌, List, [], ◌∷◌, ◌++◌, ◌≡◌, refl, eqb, length, get_or, take, drop, set, replicate}
+use Rattle.std.specs.Prelude.{ℕ, zero, suc, ◌+◌, ◌*◌, ◌/◌, ◌%◌, ◌^◌, ◌<◌, ◌≤◌, Bool, true, false, ◌&&◌, List, [], ◌∷◌, ◌++◌, ◌≡◌, refl, eqb, length, get_or, take, drop, set, replicate, Option, Some, None}
 use Rattle.std.proofs.Common.{sym, ap, ◌∙◌, subst, mod-eq_of_lt, arith, length-drop, drop-cons, get_or-drop, eq-eqb, ne_eqb, eqb-true}
 use Rattle.std.proofs.Math.Nat.{div-eq_of_lt, mod-add-div', add-mul-mod_self_right, add-mul-div_right}
 use Rattle.std.proofs.lemmas.List.Edits.{sets}
@@ -21,7 +21,6 @@ use Rattle.semantics.specs.declared.Running.TheVariants as running
 use Rattle.semantics.specs.declared.SuspendedProgram.{SuspendedProgram}
 use Rattle.semantics.specs.declared.SuspendedProgram.TheVariants as program
 use Rattle.semantics.specs.declared.SuspendedErase.{SuspendedErase}
-use Rattle.semantics.specs.declared.SuspendedErase.TheVariants as erase
 use Rattle.semantics.specs.declared.State.{State}
 use Rattle.semantics.specs.State.{activity, flags_of, empty_buffer, power_up}
 use Rattle.semantics.specs.Tabulate.{tabulate, length_tabulate, word_tabulate, tabulate_of, tabulate_is}
@@ -283,9 +282,9 @@ ProgramFitting program.Nothing = Unit {0}
 ProgramFitting (program.Program l w) = (l < half) × (w < 65536)
 ProgramFitting (program.Buffer l n d) = (l < half) × (n < half) × (d < half)
 
-abbrev pub EraseFitting : SuspendedErase → Type 0
-EraseFitting erase.Nothing = Unit {0}
-EraseFitting (erase.Erase b n) = (b < half) × (n < half)
+abbrev pub EraseFitting : Option SuspendedErase → Type 0
+EraseFitting None = Unit {0}
+EraseFitting (Some e) = (e.block < half) × (e.done < half)
 
 -- what every state that the code holds has, by its types
 pub record Fitting (s : State) : Type 0 where
@@ -336,9 +335,9 @@ program_back program.Nothing h = refl
 program_back (program.Program l w) h = ap program_of (four_back 1 l w 0 (omega arith) h.0 (omega (arith, h.1)) (omega arith)) ∙ rw (mod-eq_of_lt h.1)
 program_back (program.Buffer l n d) h = ap program_of (four_back 2 l n d (omega arith) h.0 h.1 h.2)
 
-erase_back : (e : SuspendedErase) → EraseFitting e → Back erase_numbers erase_of e
-erase_back erase.Nothing h = refl
-erase_back (erase.Erase b n) h = ap erase_of (four_back 1 b n 0 (omega arith) h.0 h.1 (omega arith))
+erase_back : (e : Option SuspendedErase) → EraseFitting e → Back erase_numbers erase_of e
+erase_back None h = refl
+erase_back (Some e) h = ap erase_of (four_back 1 e.block e.done 0 (omega arith) h.0 h.1 (omega arith))
 
 -- ---- the whole state
 

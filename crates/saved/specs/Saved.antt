@@ -17,12 +17,11 @@ use Rattle.semantics.specs.declared.Running.TheVariants as running
 use Rattle.semantics.specs.declared.SuspendedProgram.{SuspendedProgram}
 use Rattle.semantics.specs.declared.SuspendedProgram.TheVariants as program
 use Rattle.semantics.specs.declared.SuspendedErase.{SuspendedErase}
-use Rattle.semantics.specs.declared.SuspendedErase.TheVariants as erase
 use Rattle.semantics.specs.declared.Activity.{Activity}
 use Rattle.semantics.specs.declared.Control.{Control}
 use Rattle.semantics.specs.declared.Flags.{Flags}
 use Rattle.semantics.specs.declared.State.{State}
-use Rattle.semantics.specs.State.{with_protection, activity, flags_of, power_up}
+use Rattle.semantics.specs.State.{with_protection, activity, flags_of, power_up, suspended_erase}
 use Rattle.semantics.specs.Tabulate.{tabulate}
 use Rattle.semantics.specs.Reading.{bit_if}
 use Rattle.saved.specs.declared.Four.{Four}
@@ -111,12 +110,12 @@ program_of f =
     (program.Buffer f.1 f.2 f.3))
 
 -- 0 nothing; 1 erase, block, words done
-abbrev pub erase_numbers : SuspendedErase → Four
-erase_numbers erase.Nothing = (0, 0, 0, 0)
-erase_numbers (erase.Erase b n) = (1, b, n, 0)
+abbrev pub erase_numbers : Option SuspendedErase → Four
+erase_numbers None = (0, 0, 0, 0)
+erase_numbers (Some e) = (1, e.block, e.done, 0)
 
-abbrev pub erase_of : Four → SuspendedErase
-erase_of f = cond (eqb f.0 0) erase.Nothing (erase.Erase f.1 f.2)
+abbrev pub erase_of : Four → Option SuspendedErase
+erase_of f = cond (eqb f.0 0) None (Some (suspended_erase f.1 f.2))
 
 abbrev pub flag_numbers : Flags → List ℕ
 flag_numbers f = bit_if f.sr5 1 ∷ bit_if f.sr4 1 ∷ bit_if f.sr3 1 ∷ bit_if f.sr1 1 ∷ []
@@ -294,7 +293,7 @@ decoded_of ws = cond (activity_same ws (activity_of ws)) (Some (activity_of ws))
 
 -- nothing is pending, runs or is suspended
 abbrev pub resting : Activity
-resting = activity setup.Nothing running.Idle program.Nothing erase.Nothing
+resting = activity setup.Nothing running.Idle program.Nothing None
 
 -- the four flags 0 or 1, and so the supply; the configuration register is any 16 bits, of which `well_formed` judges the
 -- reserved ones

@@ -27,7 +27,7 @@ const RESTING: Activity = Activity {
     setup: Setup::Nothing,
     running: Running::Idle,
     program: SuspendedProgram::Nothing,
-    erase: SuspendedErase::Nothing,
+    erase: None,
 };
 
 // ---- what is pending, runs or is suspended, as numbers and back
@@ -137,24 +137,24 @@ impl From<Four> for SuspendedProgram {
     }
 }
 
-impl From<SuspendedErase> for Four {
+impl From<Option<SuspendedErase>> for Four {
     ghost from_gives = { λ e f. f ≡ erase_numbers e };
 
-    fn from(erase: SuspendedErase) -> Four {
+    fn from(erase: Option<SuspendedErase>) -> Four {
         match erase {
-            SuspendedErase::Nothing => Four(0, 0, 0, 0),
-            SuspendedErase::Erase { block, done } => Four(1, block, done, 0),
+            None => Four(0, 0, 0, 0),
+            Some(SuspendedErase { block, done }) => Four(1, block, done, 0),
         }
     }
 }
 
-impl From<Four> for SuspendedErase {
+impl From<Four> for Option<SuspendedErase> {
     ghost from_gives = { λ f e. e ≡ erase_of f };
 
-    fn from(Four(kind, a, b, _): Four) -> SuspendedErase {
+    fn from(Four(kind, block, done, _): Four) -> Option<SuspendedErase> {
         match kind {
-            0 => SuspendedErase::Nothing,
-            _ => SuspendedErase::Erase { block: a, done: b },
+            0 => None,
+            _ => Some(SuspendedErase { block, done }),
         }
     }
 }
@@ -234,7 +234,7 @@ fn activity_of(words: &[u64; 25]) -> Activity
         setup: Setup::from(Four::at(words, 3)),
         running: Running::from(Four::at(words, 5)),
         program: SuspendedProgram::from(Four::at(words, 7)),
-        erase: SuspendedErase::from(Four::at(words, 9)),
+        erase: Option::from(Four::at(words, 9)),
     }
 }
 

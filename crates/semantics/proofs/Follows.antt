@@ -1,7 +1,7 @@
 -- The device goes, in what bears on the array, by the recorder's rules: each of its writes is one event of the recorder
 -- on what is under way. Only this file goes through the cycles of both.
 -- Assumes nothing.
-use Rattle.std.specs.Prelude.{◌≡◌, ◌&&◌, ◌||◌, length, set, replicate}
+use Rattle.std.specs.Prelude.{◌≡◌, ◌&&◌, ◌||◌, length, set, replicate, Option, Some, None}
 use Rattle.std.proofs.Math.Path.{refl, sym, ap, fun_ext}
 use Rattle.std.proofs.Common.{◌∙◌, true≢false, arith}
 use mathlib.Core.List.{List}
@@ -20,7 +20,6 @@ use Rattle.semantics.specs.declared.Running.TheVariants as running
 use Rattle.semantics.specs.declared.SuspendedProgram.{SuspendedProgram}
 use Rattle.semantics.specs.declared.SuspendedProgram.TheVariants as program
 use Rattle.semantics.specs.declared.SuspendedErase.{SuspendedErase}
-use Rattle.semantics.specs.declared.SuspendedErase.TheVariants as erase
 use Rattle.semantics.specs.declared.Command.{Command}
 use Rattle.semantics.specs.declared.Command.TheVariants as command
 use Rattle.semantics.specs.declared.State.{State}
@@ -107,10 +106,10 @@ module _ (g : Geometry) where
     follows_put h i v y bs f = (seen_put h i y bs ∙ f.0 ∙ ap (conditions_after v) (sym seen_own), f.1, f.2)
 
     -- a view with these under way: every view is one, by its own
-    abbrev at : View → Setup → Running → SuspendedProgram → SuspendedErase → View
+    abbrev at : View → Setup → Running → SuspendedProgram → Option SuspendedErase → View
     at x c r q e = with_activity x (activity c r q e)
 
-    follows_suspend : (x : View) {r : Running} {q : SuspendedProgram} {e : SuspendedErase} → Beside r q e
+    follows_suspend : (x : View) {r : Running} {q : SuspendedProgram} {e : Option SuspendedErase} → Beside r q e
         → FollowsAt (cond (runs r) suspend nothing) (at x setup.Nothing r q e) (with_activity x (suspended (activity setup.Nothing r q e) r))
     follows_suspend x (none_is_running q e) = (refl, refl, λ m. refl)
     follows_suspend x (program_is_running l w e) = (refl, refl, λ m. refl)
@@ -118,22 +117,22 @@ module _ (g : Geometry) where
     follows_suspend x (erase_is_running b n) = (refl, refl, λ m. refl)
 
     -- D0h, with the supply on and off. The words of a buffer program that it ends are no longer in the buffer
-    abbrev Resumes : View → Bool → Running → SuspendedProgram → SuspendedErase → Type 0
+    abbrev Resumes : View → Bool → Running → SuspendedProgram → Option SuspendedErase → Type 0
     Resumes x t r q e =
         FollowsTo
         (cond (runs r) nothing (cond (held? (under_way_of s.buffer r q e) is_program) (cond t resume_program end_program) (cond (held? (under_way_of s.buffer r q e) is_erase) (cond t resume_erase end_erase) nothing)))
         (at x setup.Nothing r q e) (with_control x (resume (at x setup.Nothing r q e).control)) (held_after q (resume (at x setup.Nothing r q e).control).activity s.buffer)
 
-    follows_resume : (x : View) (t : Bool) → x.control.supply ≡ t → {r : Running} {q : SuspendedProgram} {e : SuspendedErase} → Beside r q e → Resumes x t r q e
+    follows_resume : (x : View) (t : Bool) → x.control.supply ≡ t → {r : Running} {q : SuspendedProgram} {e : Option SuspendedErase} → Beside r q e → Resumes x t r q e
     unfolding resume ended_if_unsupplied ended held_after kept_if
     follows_resume x true h (none_is_running (program.Program l w) e) = rw h (refl, refl, λ m. refl)
     follows_resume x true h (none_is_running (program.Buffer l n d) e) = rw h (refl, refl, λ m. refl)
-    follows_resume x true h (none_is_running program.Nothing erase.Nothing) = rw h (refl, refl, λ m. refl)
-    follows_resume x true h (none_is_running program.Nothing (erase.Erase b n)) = rw h (refl, refl, λ m. refl)
+    follows_resume x true h (none_is_running program.Nothing None) = rw h (refl, refl, λ m. refl)
+    follows_resume x true h (none_is_running program.Nothing (Some e)) = rw h (refl, refl, λ m. refl)
     follows_resume x false h (none_is_running (program.Program l w) e) = rw h (refl, refl, λ m. refl)
     follows_resume x false h (none_is_running (program.Buffer l n d) e) = rw h (refl, refl, λ m. refl)
-    follows_resume x false h (none_is_running program.Nothing erase.Nothing) = rw h (refl, refl, λ m. refl)
-    follows_resume x false h (none_is_running program.Nothing (erase.Erase b n)) = rw h (refl, refl, λ m. refl)
+    follows_resume x false h (none_is_running program.Nothing None) = rw h (refl, refl, λ m. refl)
+    follows_resume x false h (none_is_running program.Nothing (Some e)) = rw h (refl, refl, λ m. refl)
     follows_resume x t h (program_is_running l w e) = (refl, refl, λ m. refl)
     follows_resume x t h (buffer_is_running l n d e) = (refl, refl, λ m. refl)
     follows_resume x t h (erase_is_running b n) = (refl, refl, λ m. refl)
@@ -148,7 +147,7 @@ module _ (g : Geometry) where
     not_or true b = refl
     not_or false b = refl
 
-    module _ (x : View) (d : Conditions) (r : Running) (q : SuspendedProgram) (e : SuspendedErase) where
+    module _ (x : View) (d : Conditions) (r : Running) (q : SuspendedProgram) (e : Option SuspendedErase) where
       abbrev first : View
       first = at x setup.Nothing r q e
 
@@ -197,7 +196,7 @@ module _ (g : Geometry) where
         go true i = refl
         go false i = refl
 
-    follows_lock : (x : View) (c : Setup) (r : Running) (q : SuspendedProgram) (e : SuspendedErase) (d : ℕ) (h k z : Bool) → eqb d 0x01 ≡ h → eqb d 0xD0 ≡ k → eqb d 0x03 ≡ z
+    follows_lock : (x : View) (c : Setup) (r : Running) (q : SuspendedProgram) (e : Option SuspendedErase) (d : ℕ) (h k z : Bool) → eqb d 0x01 ≡ h → eqb d 0xD0 ≡ k → eqb d 0x03 ≡ z
         → FollowsAt (cond k (unprotected_is p.block true) (cond h (unprotected_is p.block false) (setup_is no_setup))) (at x c r q e) (lock_cycle (settle (at x c r q e)) p (lock_command_of d))
     unfolding lock_cycle lock_command_of settle
     follows_lock x c r q e d true true z hh hk hz = absurd (omega (arith, eqb-true d 0x01 hh, eqb-true d 0xD0 hk))
@@ -210,11 +209,11 @@ module _ (g : Geometry) where
 
     -- ---- the cycles of a load. Nothing else is under way but a suspended erase, so that the buffer is the load's alone
 
-    abbrev loading : View → Setup → SuspendedErase → View
+    abbrev loading : View → Setup → Option SuspendedErase → View
     loading x c e = at x c running.Idle program.Nothing e
 
     -- where the cycle is right, the load goes on, with the buffer f true
-    follows_loads : (x : View) (c : Setup) (e : SuspendedErase) (t : Setup) (d : recorder.Setup) (f : Bool → List ℕ) (b : Bool) → (b ≡ true → setup_of (f true) t ≡ d)
+    follows_loads : (x : View) (c : Setup) (e : Option SuspendedErase) (t : Setup) (d : recorder.Setup) (f : Bool → List ℕ) (b : Bool) → (b ≡ true → setup_of (f true) t ≡ d)
         → FollowsTo (cond b (setup_is d) (setup_is no_setup)) (loading x c e) (loads b (loading x c e) t) (f b)
     unfolding loads settle
     follows_loads x c e t d f true z = (ap (λ (i : recorder.Setup). record { supply = x.control.supply; unprotected = (seen s.buffer x).unprotected; setup = i }) (z refl), refl, λ m. refl)
@@ -222,25 +221,25 @@ module _ (g : Geometry) where
 
   -- a write, by the set-up that is pending
   module _ (s : State) (a w : ℕ) where
-    abbrev seen_as : Setup → Running → SuspendedProgram → SuspendedErase → View
+    abbrev seen_as : Setup → Running → SuspendedProgram → Option SuspendedErase → View
     seen_as c r q e = with_activity (view_at s (place_of g a)) (activity c r q e)
 
     -- the recorder's event of the write, and the device's view and buffer after it
-    abbrev Goes : Setup → Running → SuspendedProgram → SuspendedErase → Type 0
+    abbrev Goes : Setup → Running → SuspendedProgram → Option SuspendedErase → Type 0
     Goes c r q e =
         FollowsTo s (place_of g a)
         (cycle g (conditions (state.with_activity s (activity c r q e))) (runs r) (held? (under_way_of s.buffer r q e)) (setup_of s.buffer c) (location g a) (w % 256) w)
         (seen_as c r q e) (writing.cycle g (seen_as c r q e) c (place_of g a) w)
         (held_after q (writing.cycle g (seen_as c r q e) c (place_of g a) w).control.activity (loaded g c (place_of g a) w (writing.cycle g (seen_as c r q e) c (place_of g a) w).control.activity.running s.buffer))
 
-    abbrev ReadyAt : Setup → Running → SuspendedProgram → SuspendedErase → Type 0
+    abbrev ReadyAt : Setup → Running → SuspendedProgram → Option SuspendedErase → Type 0
     ReadyAt c r q e = Ready g (setup_of s.buffer c) (runs r) (held? (under_way_of s.buffer r q e))
 
-    free : (r : Running) (q : SuspendedProgram) (e : SuspendedErase) → held? (under_way_of s.buffer r q e) is_program ≡ false → program_suspended q ≡ false
+    free : (r : Running) (q : SuspendedProgram) (e : Option SuspendedErase) → held? (under_way_of s.buffer r q e) is_program ≡ false → program_suspended q ≡ false
     free r q e h = sym (under_way_program s.buffer r q e) ∙ h
 
     -- nothing runs and no program is suspended
-    lone : (c : Setup) (r : Running) (q : SuspendedProgram) (e : SuspendedErase) → runs r ≡ false → program_suspended q ≡ false → Goes c running.Idle program.Nothing e → Goes c r q e
+    lone : (c : Setup) (r : Running) (q : SuspendedProgram) (e : Option SuspendedErase) → runs r ≡ false → program_suspended q ≡ false → Goes c running.Idle program.Nothing e → Goes c r q e
     lone c running.Idle program.Nothing e i k f = f
     lone c running.Idle (program.Program l v) e i k f = absurd (true≢false k)
     lone c running.Idle (program.Buffer l n d) e i k f = absurd (true≢false k)
@@ -249,17 +248,17 @@ module _ (g : Geometry) where
     lone c (running.Buffer l n d) q e i k f = absurd (true≢false i)
 
     -- and no erase
-    lone_erase : (e : SuspendedErase) → erase_suspended e ≡ false → Goes setup.Erase running.Idle program.Nothing e
+    lone_erase : (e : Option SuspendedErase) → erase_suspended e ≡ false → Goes setup.Erase running.Idle program.Nothing e
     unfolding writing.cycle loaded held_after erase_cycle settle
-    lone_erase erase.Nothing k =
+    lone_erase None k =
         let u : Bool = is_unprotected s.unprotected (block_of g (location g a)) in
-        accepting (λ (v : Event) (y : View). FollowsTo s (place_of g a) v (seen_as setup.Erase running.Idle program.Nothing erase.Nothing) y s.buffer)
+        accepting (λ (v : Event) (y : View). FollowsTo s (place_of g a) v (seen_as setup.Erase running.Idle program.Nothing None) y s.buffer)
         (eqb (w % 256) 0xD0) s.control.supply (not u) (u && true) (and_not u)
         (accept (recorder.erase (block_of g (location g a)))) (setup_is no_setup) (refl, refl, λ m. refl) (refl, refl, λ m. refl) (refl, refl, λ m. refl) (refl, refl, λ m. refl)
-    lone_erase (erase.Erase b n) k = absurd (true≢false k)
+    lone_erase (Some e) k = absurd (true≢false k)
 
     -- the confirming cycle of a load, and the cycles before it
-    goes_words : (l n due : ℕ) (e : SuspendedErase) → length s.buffer ≡ 32 → n ≤ 32 → (b : Bool) → eqb due 0 ≡ b → Goes (setup.BufferWords l n due) running.Idle program.Nothing e
+    goes_words : (l n due : ℕ) (e : Option SuspendedErase) → length s.buffer ≡ 32 → n ≤ 32 → (b : Bool) → eqb due 0 ≡ b → Goes (setup.BufferWords l n due) running.Idle program.Nothing e
     unfolding writing.cycle words_cycle loaded words_loaded held_after confirm_right confirm_cycle program_runs settle kept_if later_right
     goes_words l n due e h k true z =
         rw (z, under_way_erasing g s.buffer running.Idle program.Nothing e (block_of g (location g a)))
@@ -278,7 +277,7 @@ module _ (g : Geometry) where
         (λ o. cond o (set s.buffer (location g a - l) w) empty_buffer) (within l n (location g a))
         (λ x. ap (λ (ws : List ℕ). words_setup l ws (due - 1)) (words_later s.buffer n (location g a - l) w h k (omega (arith, within_true l n (location g a) x)))))
 
-    follows_cycle : (c : Setup) (r : Running) (q : SuspendedProgram) (e : SuspendedErase) → Together r q e → ReadyAt c r q e → length s.buffer ≡ 32 → Goes c r q e
+    follows_cycle : (c : Setup) (r : Running) (q : SuspendedProgram) (e : Option SuspendedErase) → Together r q e → ReadyAt c r q e → length s.buffer ≡ 32 → Goes c r q e
     unfolding writing.cycle loaded held_after count_right first_right program_runs settle
     follows_cycle setup.Nothing r q e m y h =
         rw (commands_agree (w % 256)) (follows_first s (place_of g a) (view_at s (place_of g a)) (conditions (state.with_activity s (activity setup.Nothing r q e))) r q e m refl (command_of (w % 256)))

@@ -1,7 +1,7 @@
 -- "Left running, a program ends at 1 unit and an erase at the size of its block, counted over all work steps.", and document 02, item 5: "the progress sentence in 01 needs it on throughout", the
 -- supply. One operation is followed, through the stretches in which it is suspended too. A list may hold any step but two: a reset, and the supply going off.
 -- Assumes nothing.
-use Rattle.std.specs.Prelude.{[], ◌≡◌, List, ◌∷◌, Bool, cond, ◌&&◌, ◌||◌, ◌⊎◌, ℕ, ◌+◌, ◌-◌, ◌≤◌, ◌<◌, min, ltb, leb, eqb, length, None}
+use Rattle.std.specs.Prelude.{[], ◌≡◌, List, ◌∷◌, Bool, cond, ◌&&◌, ◌||◌, ◌⊎◌, ℕ, ◌+◌, ◌-◌, ◌≤◌, ◌<◌, min, ltb, leb, eqb, length, None, Option, Some}
 use Rattle.std.proofs.Math.Path.{refl, sym}
 use Rattle.std.proofs.Common.{ap, ◌∙◌, subst, true≢false, inl, inr}
 use Rattle.std.proofs.Math.Bool.{true, false}
@@ -17,7 +17,6 @@ use Rattle.semantics.specs.declared.Running.TheVariants as running
 use Rattle.semantics.specs.declared.SuspendedProgram.{SuspendedProgram}
 use Rattle.semantics.specs.declared.SuspendedProgram.TheVariants as program
 use Rattle.semantics.specs.declared.SuspendedErase.{SuspendedErase}
-use Rattle.semantics.specs.declared.SuspendedErase.TheVariants as erase
 use Rattle.semantics.specs.declared.Step.{Step}
 use Rattle.semantics.specs.declared.Step.TheVariants.{Read, Write, Work, Supply, Reset}
 use Rattle.semantics.specs.declared.Answer.TheVariants.{Refused}
@@ -164,20 +163,20 @@ module _ (g : Geometry) where
 
 module _ (g : Geometry) (bs : List ℕ) where
   -- the stack says what the device does: the units that it lacks, whether it runs, and whether it is under way
-  erase_lacks : (k : Followed) (e : SuspendedErase) → lacks g k (add_erase e) ≡ suspended_left g k program.Nothing e
-  erase_lacks the_program erase.Nothing = refl
-  erase_lacks the_erase erase.Nothing = refl
-  erase_lacks the_program (erase.Erase b n) = refl
-  erase_lacks the_erase (erase.Erase b n) = omega arith
+  erase_lacks : (k : Followed) (e : Option SuspendedErase) → lacks g k (add_erase e) ≡ suspended_left g k program.Nothing e
+  erase_lacks the_program None = refl
+  erase_lacks the_erase None = refl
+  erase_lacks the_program (Some e) = refl
+  erase_lacks the_erase (Some e) = omega arith
 
-  program_lives : (k : Followed) (p : SuspendedProgram) (e : SuspendedErase) → lacks g k (add_program bs p (add_erase e)) ≡ suspended_left g k p e
+  program_lives : (k : Followed) (p : SuspendedProgram) (e : Option SuspendedErase) → lacks g k (add_program bs p (add_erase e)) ≡ suspended_left g k p e
   program_lives k program.Nothing e = erase_lacks k e
   program_lives the_program (program.Program l w) e = omega (arith, erase_lacks the_program e)
   program_lives the_erase (program.Program l w) e = erase_lacks the_erase e
   program_lives the_program (program.Buffer l n d) e = omega (arith, erase_lacks the_program e, words_length bs n)
   program_lives the_erase (program.Buffer l n d) e = erase_lacks the_erase e
 
-  left_lacks : (k : Followed) {r : Running} {p : SuspendedProgram} {e : SuspendedErase} → Beside r p e → left_of g k r p e ≡ lacks g k (stack (under_way_of bs r p e))
+  left_lacks : (k : Followed) {r : Running} {p : SuspendedProgram} {e : Option SuspendedErase} → Beside r p e → left_of g k r p e ≡ lacks g k (stack (under_way_of bs r p e))
   unfolding units_left
   left_lacks k (none_is_running p e) = sym (program_lives k p e)
   left_lacks the_program (program_is_running l w e) = omega (arith, erase_lacks the_program e)
@@ -187,7 +186,7 @@ module _ (g : Geometry) (bs : List ℕ) where
   left_lacks the_program (erase_is_running b n) = refl
   left_lacks the_erase (erase_is_running b n) = omega arith
 
-  runs_top : (k : Followed) (r : Running) (p : SuspendedProgram) (e : SuspendedErase) → runs_now k r ≡ top g k (under_way_of bs r p e)
+  runs_top : (k : Followed) (r : Running) (p : SuspendedProgram) (e : Option SuspendedErase) → runs_now k r ≡ top g k (under_way_of bs r p e)
   runs_top k running.Idle p e = refl
   runs_top the_program (running.Program l w) p e = refl
   runs_top the_erase (running.Program l w) p e = refl
@@ -196,20 +195,20 @@ module _ (g : Geometry) (bs : List ℕ) where
   runs_top the_program (running.Buffer l n d) p e = refl
   runs_top the_erase (running.Buffer l n d) p e = refl
 
-  live_erase : (k : Followed) (e : SuspendedErase) → lives k running.Idle program.Nothing e ≡ any_live (is_of k) (add_erase e)
-  live_erase the_program erase.Nothing = refl
-  live_erase the_erase erase.Nothing = refl
-  live_erase the_program (erase.Erase b n) = refl
-  live_erase the_erase (erase.Erase b n) = refl
+  live_erase : (k : Followed) (e : Option SuspendedErase) → lives k running.Idle program.Nothing e ≡ any_live (is_of k) (add_erase e)
+  live_erase the_program None = refl
+  live_erase the_erase None = refl
+  live_erase the_program (Some e) = refl
+  live_erase the_erase (Some e) = refl
 
-  live_program : (k : Followed) (p : SuspendedProgram) (e : SuspendedErase) → lives k running.Idle p e ≡ any_live (is_of k) (add_program bs p (add_erase e))
+  live_program : (k : Followed) (p : SuspendedProgram) (e : Option SuspendedErase) → lives k running.Idle p e ≡ any_live (is_of k) (add_program bs p (add_erase e))
   live_program k program.Nothing e = live_erase k e
   live_program the_program (program.Program l w) e = refl
   live_program the_erase (program.Program l w) e = live_erase the_erase e
   live_program the_program (program.Buffer l n d) e = refl
   live_program the_erase (program.Buffer l n d) e = live_erase the_erase e
 
-  lives_any : (k : Followed) (r : Running) (p : SuspendedProgram) (e : SuspendedErase) → lives k r p e ≡ any_live (is_of k) (stack (under_way_of bs r p e))
+  lives_any : (k : Followed) (r : Running) (p : SuspendedProgram) (e : Option SuspendedErase) → lives k r p e ≡ any_live (is_of k) (stack (under_way_of bs r p e))
   lives_any k running.Idle p e = live_program k p e
   lives_any the_program (running.Program l w) p e = refl
   lives_any the_erase (running.Program l w) p e = live_program the_erase p e

@@ -1,6 +1,6 @@
 -- "Spare storage, if any, is zero": no step leaves a word in a place of the buffer that is not in use.
 -- Assumes nothing.
-use Rattle.std.specs.Prelude.{◌≡◌, List, Bool, ◌||◌, ℕ, ◌+◌, ◌-◌, ◌%◌, ltb, eqb, length, set}
+use Rattle.std.specs.Prelude.{◌≡◌, List, Bool, ◌||◌, ℕ, ◌+◌, ◌-◌, ◌%◌, ltb, eqb, length, set, Option, Some, None}
 use Rattle.std.proofs.Math.Path.{refl, ap, subst}
 use Rattle.std.proofs.Common.{sym, ◌∙◌, subst₂, true≢false, arith, length-set}
 use Rattle.std.proofs.Math.Bool.{true, false, cond}
@@ -14,7 +14,6 @@ use Rattle.semantics.specs.declared.Running.TheVariants as running
 use Rattle.semantics.specs.declared.SuspendedProgram.{SuspendedProgram}
 use Rattle.semantics.specs.declared.SuspendedProgram.TheVariants as program
 use Rattle.semantics.specs.declared.SuspendedErase.{SuspendedErase}
-use Rattle.semantics.specs.declared.SuspendedErase.TheVariants as erase
 use Rattle.semantics.specs.declared.Activity.{Activity}
 use Rattle.semantics.specs.declared.Command.{Command}
 use Rattle.semantics.specs.declared.State.{State}
@@ -24,7 +23,7 @@ use Rattle.semantics.specs.Branches.{of_cond, by_test}
 use Rattle.semantics.specs.Numbers.{within_true}
 use Rattle.semantics.specs.Tabulate.{length_tabulate}
 use Rattle.semantics.specs.State as state
-use Rattle.semantics.specs.State.{activity, with_running, runs, program_suspended, empty_buffer}
+use Rattle.semantics.specs.State.{activity, with_running, runs, program_suspended, empty_buffer, suspended_erase}
 use Rattle.semantics.specs.View.{view_at, with_activity}
 use Rattle.semantics.specs.Supply.{ended}
 use Rattle.semantics.proofs.Cycles.{nothing_pending, nothing_running, nothing_suspended, of_first, of_program, of_erase, of_lock}
@@ -85,21 +84,21 @@ buffer_on (running.Buffer l n d) bs = refl
 -- ---- a cycle
 
 -- a view with these under way
-abbrev at : View → Setup → Running → SuspendedProgram → SuspendedErase → View
+abbrev at : View → Setup → Running → SuspendedProgram → Option SuspendedErase → View
 at x c r q e = with_activity x (activity c r q e)
 
 -- a cycle of a load puts f true into the buffer where it is right, and else f false
-spared_loads : (x : View) (c : Setup) (e : SuspendedErase) (t : Setup) (f : Bool → List ℕ) (b : Bool) → (b ≡ true → zero_from (setup_places t) (f true) ≡ true) → (b ≡ false → zero_from 0 (f false) ≡ true)
+spared_loads : (x : View) (c : Setup) (e : Option SuspendedErase) (t : Setup) (f : Bool → List ℕ) (b : Bool) → (b ≡ true → zero_from (setup_places t) (f true) ≡ true) → (b ≡ false → zero_from 0 (f false) ≡ true)
     → Spared (loads b (at x c running.Idle program.Nothing e) t).control.activity (f b)
 unfolding loads settle places_used setup_places running_places program_places
 spared_loads x c e t f true h k = ap (λ (n : ℕ). zero_from n (f true)) (omega arith) ∙ h refl
 spared_loads x c e t f false h k = k refl
 
 module _ (g : Geometry) (s : State) (p : Place) (w : ℕ) where
-  abbrev seen : Setup → Running → SuspendedProgram → SuspendedErase → View
+  abbrev seen : Setup → Running → SuspendedProgram → Option SuspendedErase → View
   seen c r q e = at (view_at s p) c r q e
 
-  abbrev After : Setup → Running → SuspendedProgram → SuspendedErase → Type 0
+  abbrev After : Setup → Running → SuspendedProgram → Option SuspendedErase → Type 0
   After c r q e = Spared (cycle g (seen c r q e) c p w).control.activity (held_after q (cycle g (seen c r q e) c p w).control.activity (loaded g c p w (cycle g (seen c r q e) c p w).control.activity.running s.buffer))
 
   -- what a first cycle leaves, of which the buffer is as it was, or empty where D0h ended a buffer program
@@ -111,7 +110,7 @@ module _ (g : Geometry) (s : State) (p : Place) (w : ℕ) where
       → Spared x s.buffer → Left q a
   left q x a e i h = rw (held_left q a s.buffer e) (ap (λ (n : ℕ). zero_from n s.buffer) i ∙ h)
 
-  left_suspended : (r : Running) (q : SuspendedProgram) (e : SuspendedErase) → Together r q e
+  left_suspended : (r : Running) (q : SuspendedProgram) (e : Option SuspendedErase) → Together r q e
       → Spared (activity setup.Nothing r q e) s.buffer → Left q (suspended (activity setup.Nothing r q e) r)
   unfolding held_after places_used setup_places running_places program_places
   left_suspended running.Idle q e m h =
@@ -121,30 +120,30 @@ module _ (g : Geometry) (s : State) (p : Place) (w : ℕ) where
   left_suspended (running.Program l w) (program.Buffer k v d) e m h = absurd m
   left_suspended (running.Erase b n) q e m h =
       left q (activity setup.Nothing (running.Erase b n) q e)
-      (activity setup.Nothing running.Idle q (erase.Erase b n)) refl refl h
+      (activity setup.Nothing running.Idle q (Some (suspended_erase b n))) refl refl h
   left_suspended (running.Buffer l n d) program.Nothing e m h = ap (λ (k : ℕ). zero_from k s.buffer) (omega arith) ∙ h
   left_suspended (running.Buffer l n d) (program.Program k v) e m h = absurd m
   left_suspended (running.Buffer l n d) (program.Buffer k v i) e m h = absurd m
 
   -- D0h: t tells whether there is supply
-  left_resumed : (t : Bool) (r : Running) (q : SuspendedProgram) (e : SuspendedErase) → runs r ≡ false
+  left_resumed : (t : Bool) (r : Running) (q : SuspendedProgram) (e : Option SuspendedErase) → runs r ≡ false
       → Spared (activity setup.Nothing r q e) s.buffer
       → Left q (cond t (resumed (activity setup.Nothing r q e) q)
       (with_running (resumed (activity setup.Nothing r q e) q) running.Idle))
   unfolding held_after kept_if places_used setup_places running_places program_places
   left_resumed true running.Idle (program.Program l w) e i h = h
   left_resumed true running.Idle (program.Buffer l n d) e i h = ap (λ (k : ℕ). zero_from k s.buffer) (omega arith) ∙ h
-  left_resumed true running.Idle program.Nothing erase.Nothing i h = h
-  left_resumed true running.Idle program.Nothing (erase.Erase b n) i h = h
+  left_resumed true running.Idle program.Nothing None i h = h
+  left_resumed true running.Idle program.Nothing (Some e) i h = h
   left_resumed false running.Idle (program.Program l w) e i h = h
   left_resumed false running.Idle (program.Buffer l n d) e i h = zero_empty 0
-  left_resumed false running.Idle program.Nothing erase.Nothing i h = h
-  left_resumed false running.Idle program.Nothing (erase.Erase b n) i h = h
+  left_resumed false running.Idle program.Nothing None i h = h
+  left_resumed false running.Idle program.Nothing (Some e) i h = h
   left_resumed t (running.Program l w) q e i h = absurd (true≢false i)
   left_resumed t (running.Erase b n) q e i h = absurd (true≢false i)
   left_resumed t (running.Buffer l n d) q e i h = absurd (true≢false i)
 
-  spared_first : (r : Running) (q : SuspendedProgram) (e : SuspendedErase) → Together r q e → (c : Command)
+  spared_first : (r : Running) (q : SuspendedProgram) (e : Option SuspendedErase) → Together r q e → (c : Command)
       → Spared (activity setup.Nothing r q e) s.buffer
       → Left q (first_cycle (seen setup.Nothing r q e) p c).control.activity
   unfolding ended places_used setup_places
@@ -170,7 +169,7 @@ module _ (g : Geometry) (s : State) (p : Place) (w : ℕ) where
   abbrev Plain : View → Type 0
   Plain x = Spared x.control.activity s.buffer
 
-  spared_confirm : (l n due : ℕ) (e : SuspendedErase) → zero_from n s.buffer ≡ true
+  spared_confirm : (l n due : ℕ) (e : Option SuspendedErase) → zero_from n s.buffer ≡ true
       → Confirmed (confirm_cycle g (seen (setup.BufferWords l n due) running.Idle program.Nothing e) l n p w)
   unfolding confirm_cycle settle kept_if places_used setup_places running_places program_places
   spared_confirm l n due e h =
@@ -179,7 +178,7 @@ module _ (g : Geometry) (s : State) (p : Place) (w : ℕ) where
       (running.Buffer l n 0) (λ f. zero_empty 0) (ap (λ (k : ℕ). zero_from k s.buffer) (omega arith) ∙ h))
       (zero_empty 0)
 
-  spared_words : (l n due : ℕ) (e : SuspendedErase) → zero_from n s.buffer ≡ true → After (setup.BufferWords l n due) running.Idle program.Nothing e
+  spared_words : (l n due : ℕ) (e : Option SuspendedErase) → zero_from n s.buffer ≡ true → After (setup.BufferWords l n due) running.Idle program.Nothing e
   unfolding cycle words_cycle loaded words_loaded held_after later_right kept_if setup_places
   spared_words l n due e h = go (eqb due 0)
     where
@@ -203,7 +202,7 @@ module _ (g : Geometry) (s : State) (p : Place) (w : ℕ) where
           (λ z. zero_set n (p.location - l) w s.buffer (omega (arith, within_true l n p.location z)) h) (λ z. zero_empty 0)
 
   -- after a set-up nothing runs and no program is suspended
-  spared_second : (c : Setup) (e : SuspendedErase) → pending c ≡ true
+  spared_second : (c : Setup) (e : Option SuspendedErase) → pending c ≡ true
       → Ready g (setup_of s.buffer c) false (held? (under_way_of s.buffer running.Idle program.Nothing e))
       → Spared (activity c running.Idle program.Nothing e) s.buffer → After c running.Idle program.Nothing e
   unfolding cycle settle loaded held_after places_used setup_places running_places program_places
@@ -225,7 +224,7 @@ module _ (g : Geometry) (s : State) (p : Place) (w : ℕ) where
   spared_second (setup.BufferWords l n due) e z y h =
       spared_words l n due e (ap (λ (k : ℕ). zero_from k s.buffer) (omega arith) ∙ h)
 
-  alone : (c : Setup) → pending c ≡ true → (r : Running) (q : SuspendedProgram) (e : SuspendedErase)
+  alone : (c : Setup) → pending c ≡ true → (r : Running) (q : SuspendedProgram) (e : Option SuspendedErase)
       → Ready g (setup_of s.buffer c) (runs r) (held? (under_way_of s.buffer r q e))
       → Spared (activity c r q e) s.buffer → After c r q e
   alone c z r q e y h =
@@ -234,7 +233,7 @@ module _ (g : Geometry) (s : State) (p : Place) (w : ℕ) where
       → Spared (activity c t v e) s.buffer → After c t v e)
       (sym (nothing_running r a.0)) (sym (nothing_suspended q a.1)) (spared_second c e z) y h
 
-  spared_cycle : (c : Setup) (r : Running) (q : SuspendedProgram) (e : SuspendedErase) → Together r q e
+  spared_cycle : (c : Setup) (r : Running) (q : SuspendedProgram) (e : Option SuspendedErase) → Together r q e
       → Ready g (setup_of s.buffer c) (runs r) (held? (under_way_of s.buffer r q e))
       → Spared (activity c r q e) s.buffer → After c r q e
   unfolding cycle loaded
@@ -254,7 +253,7 @@ spared_written s m y p w h =
     spared_cycle (state.geometry s) s p w s.control.activity.setup s.control.activity.running s.control.activity.program s.control.activity.erase m y h
 
 -- work: what runs after it is what ran, with more done, or nothing
-pub spared_worked : (g : Geometry) (c : Setup) (r : Running) (p : SuspendedProgram) (e : SuspendedErase) (m : ℕ) (bs : List ℕ) → Spared (activity c r p e) bs
+pub spared_worked : (g : Geometry) (c : Setup) (r : Running) (p : SuspendedProgram) (e : Option SuspendedErase) (m : ℕ) (bs : List ℕ) → Spared (activity c r p e) bs
     → Spared (activity c (running_after g r m) p e) (buffer_after r (running_after g r m) bs)
 unfolding running_after buffer_after kept_if places_used running_places
 spared_worked g c running.Idle p e m bs h = h
@@ -266,7 +265,7 @@ spared_worked g c (running.Buffer l n d) p e m bs h =
     of_cond (λ (t : Running). Spared (activity c t p e) (kept_if (runs t) bs)) (ltb (d + m) n) _ _ h (zero_empty _)
 
 -- what runs ends
-pub spared_ended : (c : Setup) (r : Running) (p : SuspendedProgram) (e : SuspendedErase) (bs : List ℕ) → Spared (activity c r p e) bs → Spared (activity c running.Idle p e) (buffer_after r running.Idle bs)
+pub spared_ended : (c : Setup) (r : Running) (p : SuspendedProgram) (e : Option SuspendedErase) (bs : List ℕ) → Spared (activity c r p e) bs → Spared (activity c running.Idle p e) (buffer_after r running.Idle bs)
 unfolding buffer_after kept_if places_used running_places
 spared_ended c running.Idle p e bs h = h
 spared_ended c (running.Program l w) p e bs h = h

@@ -1,6 +1,6 @@
 -- The device as the recorder would see it: its conditions, and what is under way as a stack. The stack answers as the
 -- device does, and moves as it does by work and where the supply goes off. Assumes nothing.
-use Rattle.std.specs.Prelude.{◌≡◌, List, [], ◌∷◌, Bool, ◌&&◌, ◌||◌, ltb, eqb}
+use Rattle.std.specs.Prelude.{◌≡◌, List, [], ◌∷◌, Bool, ◌&&◌, ◌||◌, ltb, eqb, Option, Some, None}
 use Rattle.std.proofs.Math.Path.{refl, ap}
 use Rattle.std.proofs.Common.{sym, ◌∙◌, arith}
 use Rattle.std.proofs.Math.Bool.{true, false, cond, or-false}
@@ -17,7 +17,6 @@ use Rattle.semantics.specs.declared.Running.TheVariants as running
 use Rattle.semantics.specs.declared.SuspendedProgram.{SuspendedProgram}
 use Rattle.semantics.specs.declared.SuspendedProgram.TheVariants as program
 use Rattle.semantics.specs.declared.SuspendedErase.{SuspendedErase}
-use Rattle.semantics.specs.declared.SuspendedErase.TheVariants as erase
 use Rattle.semantics.specs.declared.Activity.{Activity}
 use Rattle.semantics.specs.declared.State.{State}
 use Rattle.semantics.specs.Branches.{by_cond}
@@ -46,9 +45,9 @@ abbrev pub conditions : State → Conditions
 conditions s = record { supply = s.control.supply; unprotected = λ b. is_unprotected s.unprotected b; setup = setup_of s.buffer s.control.activity.setup }
 
 -- what is under way as a stack
-abbrev pub add_erase : SuspendedErase → List (Live Operation)
-add_erase erase.Nothing = []
-add_erase (erase.Erase b n) = live (recorder.erase b) n ∷ []
+abbrev pub add_erase : Option SuspendedErase → List (Live Operation)
+add_erase None = []
+add_erase (Some e) = live (recorder.erase e.block) e.done ∷ []
 
 abbrev pub add_program : List ℕ → SuspendedProgram → List (Live Operation) → List (Live Operation)
 add_program bs program.Nothing l = l
@@ -61,7 +60,7 @@ add_running bs (running.Program a w) l = live (recorder.program a w) 0 ∷ l
 add_running bs (running.Erase b n) l = live (recorder.erase b) n ∷ l
 add_running bs (running.Buffer a n d) l = live (recorder.buffer a (words_in bs n)) d ∷ l
 
-abbrev pub under_way_of : List ℕ → Running → SuspendedProgram → SuspendedErase → Engine
+abbrev pub under_way_of : List ℕ → Running → SuspendedProgram → Option SuspendedErase → Engine
 under_way_of bs r p e = engine (runs r) (add_running bs r (add_program bs p (add_erase e)))
 
 abbrev pub under_way_in : List ℕ → Activity → Engine
@@ -71,13 +70,13 @@ abbrev pub under_way : State → Engine
 under_way s = under_way_in s.buffer s.control.activity
 
 -- which of the three go together
-abbrev pub Together : Running → SuspendedProgram → SuspendedErase → Type 0
+abbrev pub Together : Running → SuspendedProgram → Option SuspendedErase → Type 0
 Together running.Idle p e = Unit {0}
 Together (running.Program l w) program.Nothing e = Unit {0}
 Together (running.Program l w) (program.Program k v) e = ⊥
 Together (running.Program l w) (program.Buffer k v d) e = ⊥
-Together (running.Erase b n) program.Nothing erase.Nothing = Unit {0}
-Together (running.Erase b n) program.Nothing (erase.Erase c m) = ⊥
+Together (running.Erase b n) program.Nothing None = Unit {0}
+Together (running.Erase b n) program.Nothing (Some e) = ⊥
 Together (running.Erase b n) (program.Program k v) e = ⊥
 Together (running.Erase b n) (program.Buffer k v d) e = ⊥
 Together (running.Buffer l n d) program.Nothing e = Unit {0}
@@ -85,19 +84,19 @@ Together (running.Buffer l n d) (program.Program k v) e = ⊥
 Together (running.Buffer l n d) (program.Buffer k v i) e = ⊥
 
 -- the same as the four ways in which they do
-pub data Beside : Running → SuspendedProgram → SuspendedErase → Type 0 where
-  none_is_running : (p : SuspendedProgram) (e : SuspendedErase) → Beside running.Idle p e
-  program_is_running : (l w : ℕ) (e : SuspendedErase) → Beside (running.Program l w) program.Nothing e
-  buffer_is_running : (l n d : ℕ) (e : SuspendedErase) → Beside (running.Buffer l n d) program.Nothing e
-  erase_is_running : (b n : ℕ) → Beside (running.Erase b n) program.Nothing erase.Nothing
+pub data Beside : Running → SuspendedProgram → Option SuspendedErase → Type 0 where
+  none_is_running : (p : SuspendedProgram) (e : Option SuspendedErase) → Beside running.Idle p e
+  program_is_running : (l w : ℕ) (e : Option SuspendedErase) → Beside (running.Program l w) program.Nothing e
+  buffer_is_running : (l n d : ℕ) (e : Option SuspendedErase) → Beside (running.Buffer l n d) program.Nothing e
+  erase_is_running : (b n : ℕ) → Beside (running.Erase b n) program.Nothing None
 
-pub beside : (r : Running) (p : SuspendedProgram) (e : SuspendedErase) → Together r p e → Beside r p e
+pub beside : (r : Running) (p : SuspendedProgram) (e : Option SuspendedErase) → Together r p e → Beside r p e
 beside running.Idle p e m = none_is_running p e
 beside (running.Program l w) program.Nothing e m = program_is_running l w e
 beside (running.Program l w) (program.Program k v) e m = absurd m
 beside (running.Program l w) (program.Buffer k v d) e m = absurd m
-beside (running.Erase b n) program.Nothing erase.Nothing m = erase_is_running b n
-beside (running.Erase b n) program.Nothing (erase.Erase c k) m = absurd m
+beside (running.Erase b n) program.Nothing None m = erase_is_running b n
+beside (running.Erase b n) program.Nothing (Some e) m = absurd m
 beside (running.Erase b n) (program.Program k v) e m = absurd m
 beside (running.Erase b n) (program.Buffer k v d) e m = absurd m
 beside (running.Buffer l n d) program.Nothing e m = buffer_is_running l n d e
@@ -107,41 +106,41 @@ beside (running.Buffer l n d) (program.Buffer k v i) e m = absurd m
 -- ---- the stack answers as the device does
 
 module _ (bs : List ℕ) where
-  held_under_way : (r : Running) (p : SuspendedProgram) (e : SuspendedErase) (q : Operation → Bool) → held? (under_way_of bs r p e) q ≡ any_live q (add_program bs p (add_erase e))
+  held_under_way : (r : Running) (p : SuspendedProgram) (e : Option SuspendedErase) (q : Operation → Bool) → held? (under_way_of bs r p e) q ≡ any_live q (add_program bs p (add_erase e))
   held_under_way running.Idle p e q = refl
   held_under_way (running.Program l w) p e q = refl
   held_under_way (running.Erase b n) p e q = refl
   held_under_way (running.Buffer l n d) p e q = refl
 
-  pub under_way_program : (r : Running) (p : SuspendedProgram) (e : SuspendedErase) → held? (under_way_of bs r p e) is_program ≡ program_suspended p
+  pub under_way_program : (r : Running) (p : SuspendedProgram) (e : Option SuspendedErase) → held? (under_way_of bs r p e) is_program ≡ program_suspended p
   under_way_program r p e = held_under_way r p e is_program ∙ go p e
     where
-      go : (p : SuspendedProgram) (e : SuspendedErase) → any_live is_program (add_program bs p (add_erase e)) ≡ program_suspended p
+      go : (p : SuspendedProgram) (e : Option SuspendedErase) → any_live is_program (add_program bs p (add_erase e)) ≡ program_suspended p
       go (program.Program l w) e = refl
       go (program.Buffer l n d) e = refl
-      go program.Nothing erase.Nothing = refl
-      go program.Nothing (erase.Erase b n) = refl
+      go program.Nothing None = refl
+      go program.Nothing (Some e) = refl
 
-  pub under_way_any : (r : Running) (p : SuspendedProgram) (e : SuspendedErase) → held? (under_way_of bs r p e) is_any ≡ (program_suspended p || erase_suspended e)
+  pub under_way_any : (r : Running) (p : SuspendedProgram) (e : Option SuspendedErase) → held? (under_way_of bs r p e) is_any ≡ (program_suspended p || erase_suspended e)
   under_way_any r p e = held_under_way r p e is_any ∙ go p e
     where
-      go : (p : SuspendedProgram) (e : SuspendedErase) → any_live is_any (add_program bs p (add_erase e)) ≡ (program_suspended p || erase_suspended e)
+      go : (p : SuspendedProgram) (e : Option SuspendedErase) → any_live is_any (add_program bs p (add_erase e)) ≡ (program_suspended p || erase_suspended e)
       go (program.Program l w) e = refl
       go (program.Buffer l n d) e = refl
-      go program.Nothing erase.Nothing = refl
-      go program.Nothing (erase.Erase b n) = refl
+      go program.Nothing None = refl
+      go program.Nothing (Some e) = refl
 
 module _ (g : Geometry) (bs : List ℕ) where
-  pub under_way_erasing : (r : Running) (p : SuspendedProgram) (e : SuspendedErase) (b : ℕ) → held? (under_way_of bs r p e) (is_erase_of g b) ≡ erasing e b
+  pub under_way_erasing : (r : Running) (p : SuspendedProgram) (e : Option SuspendedErase) (b : ℕ) → held? (under_way_of bs r p e) (is_erase_of g b) ≡ erasing e b
   under_way_erasing r p e b = held_under_way bs r p e (is_erase_of g b) ∙ go p e
     where
-      go : (p : SuspendedProgram) (e : SuspendedErase) → any_live (is_erase_of g b) (add_program bs p (add_erase e)) ≡ erasing e b
-      go (program.Program l w) erase.Nothing = refl
-      go (program.Program l w) (erase.Erase c n) = or-false (eqb c b)
-      go (program.Buffer l n d) erase.Nothing = refl
-      go (program.Buffer l n d) (erase.Erase c i) = or-false (eqb c b)
-      go program.Nothing erase.Nothing = refl
-      go program.Nothing (erase.Erase c n) = or-false (eqb c b)
+      go : (p : SuspendedProgram) (e : Option SuspendedErase) → any_live (is_erase_of g b) (add_program bs p (add_erase e)) ≡ erasing e b
+      go (program.Program l w) None = refl
+      go (program.Program l w) (Some e) = or-false (eqb e.block b)
+      go (program.Buffer l n d) None = refl
+      go (program.Buffer l n d) (Some e) = or-false (eqb e.block b)
+      go program.Nothing None = refl
+      go program.Nothing (Some e) = or-false (eqb e.block b)
 
   -- ---- the stack moves as the device does
 
@@ -156,7 +155,7 @@ module _ (g : Geometry) (bs : List ℕ) where
   abbrev after_units : ℕ → Running → Running
   after_units n r = running_after g r (units_done g r n)
 
-  pub under_way_worked : (n : ℕ) (r : Running) (p : SuspendedProgram) (e : SuspendedErase) → Lacking r → Together r p e
+  pub under_way_worked : (n : ℕ) (r : Running) (p : SuspendedProgram) (e : Option SuspendedErase) → Lacking r → Together r p e
       → under_way_of (buffer_after r (after_units n r) bs) (after_units n r) p e ≡ engine_after g (units n) (under_way_of bs r p e)
   unfolding running_after units_done units_left buffer_after kept_if
   under_way_worked n running.Idle p e h i = refl
@@ -178,7 +177,7 @@ module _ (g : Geometry) (bs : List ℕ) where
       (λ x. let y = ltb-true m k x in rw (ne_eqb m k (λ z. omega arith))) (λ x. rw (eq-eqb m k (omega (arith, ltb-false m k x)))))
 
   -- the same where the supply goes off: what runs ends
-  pub under_way_off : (r : Running) (p : SuspendedProgram) (e : SuspendedErase) → Together r p e
+  pub under_way_off : (r : Running) (p : SuspendedProgram) (e : Option SuspendedErase) → Together r p e
       → under_way_of (buffer_after r running.Idle bs) running.Idle p e ≡ engine_after g (supplied false) (under_way_of bs r p e)
   unfolding buffer_after kept_if
   under_way_off running.Idle p e m = refl
@@ -202,7 +201,7 @@ module _ (g : Geometry) (bs : List ℕ) where
   same false z h = refl
 
   -- the words after work, as the recorder's event has them
-  pub words_under_way : (n : ℕ) (r : Running) (p : SuspendedProgram) (e : SuspendedErase) (m : ℕ → ℕ) (L : ℕ)
+  pub words_under_way : (n : ℕ) (r : Running) (p : SuspendedProgram) (e : Option SuspendedErase) (m : ℕ → ℕ) (L : ℕ)
       → word_after g bs r (units_done g r n) L (m L) ≡ words_after_event g (units n) (under_way_of bs r p e) m L
   unfolding word_after units_done units_left
   words_under_way n running.Idle p e m L = refl

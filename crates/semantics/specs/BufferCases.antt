@@ -1,7 +1,7 @@
 -- Cases of document 02, item 1, and section 4.9 of the data sheet: the load of the write buffer, its wrong cycles, a buffer program, and the states that are well formed.
 -- FurtherCases computes them.
 -- Assumes nothing.
-use Rattle.std.specs.Prelude.{ℕ, ◌+◌, true, false, List, [], ◌∷◌, ◌++◌, replicate}
+use Rattle.std.specs.Prelude.{ℕ, ◌+◌, true, false, List, [], ◌∷◌, ◌++◌, replicate, Option, Some, None}
 use Rattle.refusal.specs.declared.Refusal.TheVariants as refusal
 use Rattle.geometry.specs.declared.Part.TheVariants.{BenchBottom, BenchTop}
 use Rattle.semantics.specs.declared.Step.TheVariants.{Write}
@@ -12,8 +12,7 @@ use Rattle.semantics.specs.declared.Setup.TheVariants as setup
 use Rattle.semantics.specs.declared.Running.TheVariants as running
 use Rattle.semantics.specs.declared.SuspendedProgram.TheVariants as suspended_program
 use Rattle.semantics.specs.declared.SuspendedErase.{SuspendedErase}
-use Rattle.semantics.specs.declared.SuspendedErase.TheVariants as suspended_erase
-use Rattle.semantics.specs.State.{with_buffer}
+use Rattle.semantics.specs.State.{with_buffer, suspended_erase}
 use Rattle.semantics.specs.Cases.{◌⟶◌, Exchange, Case, plays, starts, write, cycles, shows, works, supply, reset, unprotect, protect, program, erase, prepared, bench}
 use Rattle.semantics.specs.RefusalCases.{under_way, bad, good}
 
@@ -48,17 +47,17 @@ from w l = plays BenchBottom (bench w) l
 abbrev filled : ℕ → ℕ → ℕ → List ℕ
 filled n w rest = replicate n w ++ replicate rest 0
 
-abbrev loading : Setup → SuspendedErase → List ℕ → State
+abbrev loading : Setup → Option SuspendedErase → List ℕ → State
 loading c e bs = with_buffer (under_way BenchBottom c running.Idle suspended_program.Nothing e) bs
 
-abbrev runs : ℕ → ℕ → ℕ → SuspendedErase → List ℕ → State
+abbrev runs : ℕ → ℕ → ℕ → Option SuspendedErase → List ℕ → State
 runs l n d e bs = with_buffer (under_way BenchBottom setup.Nothing (running.Buffer l n d) suspended_program.Nothing e) bs
 
-abbrev waits : ℕ → ℕ → ℕ → SuspendedErase → List ℕ → State
+abbrev waits : ℕ → ℕ → ℕ → Option SuspendedErase → List ℕ → State
 waits l n d e bs = with_buffer (under_way BenchBottom setup.Nothing running.Idle (suspended_program.Buffer l n d) e) bs
 
-abbrev none : SuspendedErase
-none = suspended_erase.Nothing
+abbrev none : Option SuspendedErase
+none = None
 
 abbrev pub buffer_cases : List Case
 buffer_cases =
@@ -149,15 +148,15 @@ buffer_cases =
     ∷ bad (with_buffer (under_way BenchBottom (setup.BufferCount 4) (running.Program 0x40 1) suspended_program.Nothing none) (filled 0 0 32))
     ∷ bad (with_buffer (under_way BenchBottom (setup.BufferFirst 4 1) running.Idle (suspended_program.Program 0x40 1) none) (filled 0 0 32))
     ∷ bad (with_buffer (under_way BenchBottom (setup.BufferWords 0x40 1 0) (running.Erase 4 0) suspended_program.Nothing none) (filled 1 1 31))
-    ∷ good (loading (setup.BufferWords 0x40 1 0) (suspended_erase.Erase 4 0) (filled 1 1 31)) ∷ good (loading (setup.BufferCount 4) (suspended_erase.Erase 4 0) (filled 0 0 32))
+    ∷ good (loading (setup.BufferWords 0x40 1 0) (Some (suspended_erase 4 0)) (filled 1 1 31)) ∷ good (loading (setup.BufferCount 4) (Some (suspended_erase 4 0)) (filled 0 0 32))
     -- a buffer program, running or suspended: its words lie in one block, and are more than it has done
     ∷ good (runs 0x7E 2 1 none (filled 2 1 30)) ∷ bad (runs 0x7F 2 1 none (filled 2 1 30)) ∷ bad (runs 0x7E 2 2 none (filled 2 1 30)) ∷ bad (runs 0x4000 1 0 none (filled 1 1 31))
     ∷ bad (runs 0x40 33 0 none (filled 32 1 0))
     ∷ good (waits 0x7E 2 1 none (filled 2 1 30)) ∷ bad (waits 0x7F 2 1 none (filled 2 1 30)) ∷ bad (waits 0x7E 2 2 none (filled 2 1 30)) ∷ bad (waits 0x4000 1 0 none (filled 1 1 31))
     ∷ bad (waits 0x40 33 0 none (filled 32 1 0))
     -- in another block than the suspended erase, and beside nothing else
-    ∷ good (runs 0x80 1 0 (suspended_erase.Erase 4 0) (filled 1 1 31)) ∷ bad (runs 0x40 1 0 (suspended_erase.Erase 4 0) (filled 1 1 31))
-    ∷ good (waits 0x80 1 0 (suspended_erase.Erase 4 0) (filled 1 1 31)) ∷ bad (waits 0x40 1 0 (suspended_erase.Erase 4 0) (filled 1 1 31))
+    ∷ good (runs 0x80 1 0 (Some (suspended_erase 4 0)) (filled 1 1 31)) ∷ bad (runs 0x40 1 0 (Some (suspended_erase 4 0)) (filled 1 1 31))
+    ∷ good (waits 0x80 1 0 (Some (suspended_erase 4 0)) (filled 1 1 31)) ∷ bad (waits 0x40 1 0 (Some (suspended_erase 4 0)) (filled 1 1 31))
     ∷ bad (with_buffer (under_way BenchBottom setup.Program (running.Buffer 0x40 1 0) suspended_program.Nothing none) (filled 1 1 31))
     ∷ bad (with_buffer (under_way BenchBottom setup.Nothing (running.Buffer 0x40 1 0) (suspended_program.Program 0x80 1) none) (filled 1 1 31))
     ∷ bad (with_buffer (under_way BenchBottom setup.Program running.Idle (suspended_program.Buffer 0x40 1 0) none) (filled 1 1 31))

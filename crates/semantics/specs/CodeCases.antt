@@ -2,7 +2,7 @@
 -- computed over what it sees at its place, with no array and no other bank or block. Bench bottom: 80h is the lowest
 -- location of block 5.
 -- Assumes nothing.
-use Rattle.std.specs.Prelude.{ℕ, ◌+◌, ◌*◌, Bool, true, false, not, ◌&&◌, List, [], ◌∷◌, T, eqb}
+use Rattle.std.specs.Prelude.{ℕ, ◌+◌, ◌*◌, Bool, true, false, not, ◌&&◌, List, [], ◌∷◌, T, eqb, Option, Some, None}
 use Rattle.geometry.specs.declared.Part.TheVariants.{BenchBottom}
 use Rattle.geometry.specs.Blocks.{geometry_of, mirror, block_from, block_of, size_of, start_from, start_of}
 use Rattle.semantics.specs.declared.Mode.{Mode}
@@ -13,11 +13,10 @@ use Rattle.semantics.specs.declared.Running.{Running}
 use Rattle.semantics.specs.declared.Running.TheVariants as running
 use Rattle.semantics.specs.declared.SuspendedProgram.TheVariants as suspended_program
 use Rattle.semantics.specs.declared.SuspendedErase.{SuspendedErase}
-use Rattle.semantics.specs.declared.SuspendedErase.TheVariants as suspended_erase
 use Rattle.semantics.specs.declared.Flags.{Flags}
 use Rattle.semantics.specs.declared.Place.{Place}
 use Rattle.semantics.specs.declared.View.{View}
-use Rattle.semantics.specs.State.{activity, flags_of, no_flags}
+use Rattle.semantics.specs.State.{activity, flags_of, no_flags, suspended_erase}
 use Rattle.semantics.specs.Register.{without_reserved}
 use Rattle.semantics.specs.Supply.{end_flags, ended, ended_if_unsupplied}
 use Rattle.semantics.specs.Writing.{command_of, resume, accepts, set_up, clear_status, first_cycle, program_runs, erase_cycle, lock_command_of, lock_cycle, settle, loads, count_right, first_right, later_right, confirm_right, confirm_cycle, words_cycle, cycle}
@@ -29,11 +28,11 @@ at80 = record { address = 0x80; location = 0x80; bank = 0; block = 5 }
 
 -- the view there: with supply on, such flags, the block unprotected or not, a set-up, and what runs or is suspended;
 -- signature mode, and a register of 1204h
-abbrev seen : Flags → Bool → Setup → Running → SuspendedErase → View
+abbrev seen : Flags → Bool → Setup → Running → Option SuspendedErase → View
 seen f o s r e = record { mode = Signature; unprotected = o; control = record { activity = activity s r suspended_program.Nothing e; flags = f; configuration = 0x1204; supply = true } }
 
 abbrev idle : Bool → Setup → View
-idle o s = seen no_flags o s running.Idle suspended_erase.Nothing
+idle o s = seen no_flags o s running.Idle None
 
 -- after a cycle of the word w on it
 abbrev after : View → ℕ → View
@@ -101,11 +100,11 @@ code_cases =
     ∷ exactly (λ c. shows 3 (after (idle false setup.Nothing) c)) (0x98 ∷ [])
     ∷ exactly (λ c. not (shows 2 (after (idle false setup.Nothing) c))) (0x10 ∷ 0x20 ∷ 0x40 ∷ 0x60 ∷ 0x70 ∷ 0x98 ∷ 0xE8 ∷ 0xFF ∷ [])
     -- 50h clears the flags, and no code sets one
-    ∷ exactly (λ c. clear (after (seen (flags_of true true true true) false setup.Nothing running.Idle suspended_erase.Nothing) c)) (0x50 ∷ [])
+    ∷ exactly (λ c. clear (after (seen (flags_of true true true true) false setup.Nothing running.Idle None) c)) (0x50 ∷ [])
     ∷ exactly (λ c. not (clear (after (idle false setup.Nothing) c))) []
     -- B0h suspends an erase, and D0h resumes it
-    ∷ exactly (λ c. works 0 (after (seen no_flags true setup.Nothing (running.Erase 4 3) suspended_erase.Nothing) c)) (0xB0 ∷ [])
-    ∷ exactly (λ c. works 2 (after (seen no_flags true setup.Nothing running.Idle (suspended_erase.Erase 4 3)) c)) (0xD0 ∷ [])
+    ∷ exactly (λ c. works 0 (after (seen no_flags true setup.Nothing (running.Erase 4 3) None) c)) (0xB0 ∷ [])
+    ∷ exactly (λ c. works 2 (after (seen no_flags true setup.Nothing running.Idle (Some (suspended_erase 4 3))) c)) (0xD0 ∷ [])
     -- after 60h: 01h alone protects, D0h alone unprotects, 03h alone sets the register, to 0080h, and every other
     -- code is wrong
     ∷ exactly (λ c. not (after (idle true setup.Lock) c).unprotected) (0x01 ∷ [])

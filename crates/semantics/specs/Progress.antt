@@ -2,7 +2,7 @@
 -- supply. One operation is followed, through the stretches in which it is suspended too. A list may hold any step but two: a reset, and the supply going off. Definitions only; that it
 -- is so is `progress` (proofs/Progress).
 -- Assumes nothing.
-use Rattle.std.specs.Prelude.{[], ◌≡◌, List, ◌∷◌, Bool, true, false, cond, ◌&&◌, ◌||◌, ℕ, ◌+◌, ◌-◌, leb, length}
+use Rattle.std.specs.Prelude.{[], ◌≡◌, List, ◌∷◌, Bool, true, false, cond, ◌&&◌, ◌||◌, ℕ, ◌+◌, ◌-◌, leb, length, Option, Some, None}
 use Rattle.geometry.specs.declared.Geometry.{Geometry}
 use Rattle.geometry.specs.Blocks.{words, size_of}
 use Rattle.semantics.specs.declared.Running.{Running}
@@ -10,7 +10,6 @@ use Rattle.semantics.specs.declared.Running.TheVariants as running
 use Rattle.semantics.specs.declared.SuspendedProgram.{SuspendedProgram}
 use Rattle.semantics.specs.declared.SuspendedProgram.TheVariants as program
 use Rattle.semantics.specs.declared.SuspendedErase.{SuspendedErase}
-use Rattle.semantics.specs.declared.SuspendedErase.TheVariants as erase
 use Rattle.semantics.specs.declared.State.{State}
 use Rattle.semantics.specs.declared.Step.{Step}
 use Rattle.semantics.specs.declared.Step.TheVariants.{Read, Write, Work, Supply, Reset}
@@ -35,7 +34,7 @@ runs_now the_program (running.Buffer l n d) = true
 runs_now the_erase (running.Buffer l n d) = false
 
 -- it runs or is suspended
-abbrev pub lives : Followed → Running → SuspendedProgram → SuspendedErase → Bool
+abbrev pub lives : Followed → Running → SuspendedProgram → Option SuspendedErase → Bool
 lives the_program r p e = runs_now the_program r || program_suspended p
 lives the_erase r p e = runs_now the_erase r || erase_suspended e
 
@@ -46,15 +45,15 @@ module _ (g : Geometry) where
   program_left (program.Program l w) = 1
   program_left (program.Buffer l n d) = n - d
 
-  abbrev pub erase_left : SuspendedErase → ℕ
-  erase_left erase.Nothing = 0
-  erase_left (erase.Erase b n) = size_of g b - n
+  abbrev pub erase_left : Option SuspendedErase → ℕ
+  erase_left None = 0
+  erase_left (Some e) = size_of g e.block - e.done
 
-  abbrev pub suspended_left : Followed → SuspendedProgram → SuspendedErase → ℕ
+  abbrev pub suspended_left : Followed → SuspendedProgram → Option SuspendedErase → ℕ
   suspended_left the_program p e = program_left p
   suspended_left the_erase p e = erase_left e
 
-  abbrev pub left_of : Followed → Running → SuspendedProgram → SuspendedErase → ℕ
+  abbrev pub left_of : Followed → Running → SuspendedProgram → Option SuspendedErase → ℕ
   left_of k r p e = cond (runs_now k r) (units_left g r) (suspended_left k p e)
 
 -- the same of a device's state

@@ -1,7 +1,7 @@
 -- Cases of the refusal card: each number at its limits, the lowest where several apply, nothing changed by a step that is refused; and of each part of document
 -- 01's sentence on states that are well formed, a state that breaks this part alone and one at its edge. FurtherCases computes them.
 -- Assumes nothing.
-use Rattle.std.specs.Prelude.{ℕ, true, false, List, [], ◌∷◌, ◌++◌, replicate}
+use Rattle.std.specs.Prelude.{ℕ, true, false, List, [], ◌∷◌, ◌++◌, replicate, Option, Some, None}
 use Rattle.refusal.specs.declared.Refusal.{Refusal}
 use Rattle.refusal.specs.declared.Refusal.TheVariants as refusal
 use Rattle.geometry.specs.declared.Part.{Part}
@@ -16,13 +16,12 @@ use Rattle.semantics.specs.declared.Running.TheVariants as running
 use Rattle.semantics.specs.declared.SuspendedProgram.{SuspendedProgram}
 use Rattle.semantics.specs.declared.SuspendedProgram.TheVariants as suspended_program
 use Rattle.semantics.specs.declared.SuspendedErase.{SuspendedErase}
-use Rattle.semantics.specs.declared.SuspendedErase.TheVariants as suspended_erase
-use Rattle.semantics.specs.State.{power_up, activity, runs, with_activity, with_protection, with_supply}
+use Rattle.semantics.specs.State.{power_up, activity, runs, with_activity, with_protection, with_supply, suspended_erase}
 use Rattle.semantics.specs.Cases.{◌⟶◌, Exchange, words, Case, plays, starts, unreported, write, shows, works, program, prepared, bench}
 
 -- ---- states that differ from power-up in what is under way, with supply on where something runs, or in the last of the protection words
 
-abbrev pub under_way : Part → Setup → Running → SuspendedProgram → SuspendedErase → State
+abbrev pub under_way : Part → Setup → Running → SuspendedProgram → Option SuspendedErase → State
 under_way p s r q e = with_supply (with_activity (power_up p) (activity s r q e)) (runs r)
 
 abbrev pub last_word : ℕ → State
@@ -30,17 +29,17 @@ last_word w = with_protection (power_up BenchBottom) (replicate 4 0 ++ w ∷ [])
 
 -- a program and an erase that run: at location l; of block b, with n words done
 abbrev program_runs : ℕ → State
-program_runs l = under_way BenchBottom setup.Nothing (running.Program l 0x1234) suspended_program.Nothing suspended_erase.Nothing
+program_runs l = under_way BenchBottom setup.Nothing (running.Program l 0x1234) suspended_program.Nothing None
 
 abbrev erase_runs : ℕ → ℕ → State
-erase_runs b n = under_way BenchBottom setup.Nothing (running.Erase b n) suspended_program.Nothing suspended_erase.Nothing
+erase_runs b n = under_way BenchBottom setup.Nothing (running.Erase b n) suspended_program.Nothing None
 
 -- suspended ones
 abbrev program_waits : ℕ → State
-program_waits l = under_way BenchBottom setup.Nothing running.Idle (suspended_program.Program l 0x1234) suspended_erase.Nothing
+program_waits l = under_way BenchBottom setup.Nothing running.Idle (suspended_program.Program l 0x1234) None
 
 abbrev erase_waits : ℕ → ℕ → State
-erase_waits b n = under_way BenchBottom setup.Nothing running.Idle suspended_program.Nothing (suspended_erase.Erase b n)
+erase_waits b n = under_way BenchBottom setup.Nothing running.Idle suspended_program.Nothing (Some (suspended_erase b n))
 
 -- ---- a state that is not well formed, by the refusal of a step on it; and one that is
 
@@ -79,26 +78,26 @@ refusal_cases =
     (prepared 0x40 ++ write 0x40 0x40 ++ (Write 0x1000040 0xFF ⟶ Refused refusal.Address) ∷ (Work 65536 ⟶ Refused refusal.WorkCount) ∷ write 0x40 0x1234 ++ (Work 65536 ⟶ Refused refusal.WorkCount) ∷ (Write 0x1000040 0xB0 ⟶ Refused refusal.Address)
     ∷ shows 0x40 0x00 ++ write 0x40 0xB0 ++ shows 0x40 0x84 ++ write 0x40 0xFF ++ shows 0x40 0xFFFF ++ (Write 0x1000040 0x70 ⟶ Refused refusal.Address) ∷ (Read 0x1000040 ⟶ Refused refusal.Address) ∷ shows 0x40 0xFFFF)
     -- "a running operation means no set-up pending"
-    ∷ bad (under_way BenchBottom setup.Program (running.Program 0x40 0) suspended_program.Nothing suspended_erase.Nothing)
-    ∷ bad (under_way BenchBottom setup.Erase (running.Program 0x40 0) suspended_program.Nothing suspended_erase.Nothing)
-    ∷ bad (under_way BenchBottom setup.Lock (running.Erase 4 0) suspended_program.Nothing suspended_erase.Nothing)
-    ∷ good (under_way BenchBottom setup.Program running.Idle suspended_program.Nothing suspended_erase.Nothing)
-    ∷ good (under_way BenchBottom setup.Erase running.Idle suspended_program.Nothing suspended_erase.Nothing)
-    ∷ good (under_way BenchBottom setup.Lock running.Idle suspended_program.Nothing suspended_erase.Nothing)
+    ∷ bad (under_way BenchBottom setup.Program (running.Program 0x40 0) suspended_program.Nothing None)
+    ∷ bad (under_way BenchBottom setup.Erase (running.Program 0x40 0) suspended_program.Nothing None)
+    ∷ bad (under_way BenchBottom setup.Lock (running.Erase 4 0) suspended_program.Nothing None)
+    ∷ good (under_way BenchBottom setup.Program running.Idle suspended_program.Nothing None)
+    ∷ good (under_way BenchBottom setup.Erase running.Idle suspended_program.Nothing None)
+    ∷ good (under_way BenchBottom setup.Lock running.Idle suspended_program.Nothing None)
     -- "and no suspended program"
-    ∷ bad (under_way BenchBottom setup.Nothing (running.Program 0x40 0) (suspended_program.Program 0x80 0) suspended_erase.Nothing)
-    ∷ bad (under_way BenchBottom setup.Nothing (running.Erase 4 0) (suspended_program.Program 0x80 0) suspended_erase.Nothing)
+    ∷ bad (under_way BenchBottom setup.Nothing (running.Program 0x40 0) (suspended_program.Program 0x80 0) None)
+    ∷ bad (under_way BenchBottom setup.Nothing (running.Erase 4 0) (suspended_program.Program 0x80 0) None)
     -- "a suspended program means no set-up pending"
-    ∷ bad (under_way BenchBottom setup.Program running.Idle (suspended_program.Program 0x80 0) suspended_erase.Nothing)
-    ∷ bad (under_way BenchBottom setup.Erase running.Idle (suspended_program.Program 0x80 0) suspended_erase.Nothing)
-    ∷ bad (under_way BenchBottom setup.Lock running.Idle (suspended_program.Program 0x80 0) suspended_erase.Nothing)
-    ∷ good (under_way BenchBottom setup.Nothing running.Idle (suspended_program.Program 0x80 0) (suspended_erase.Erase 4 0))
+    ∷ bad (under_way BenchBottom setup.Program running.Idle (suspended_program.Program 0x80 0) None)
+    ∷ bad (under_way BenchBottom setup.Erase running.Idle (suspended_program.Program 0x80 0) None)
+    ∷ bad (under_way BenchBottom setup.Lock running.Idle (suspended_program.Program 0x80 0) None)
+    ∷ good (under_way BenchBottom setup.Nothing running.Idle (suspended_program.Program 0x80 0) (Some (suspended_erase 4 0)))
     -- "a suspended erase means no running erase and no erase set-up pending"
-    ∷ bad (under_way BenchBottom setup.Nothing (running.Erase 5 0) suspended_program.Nothing (suspended_erase.Erase 4 0))
-    ∷ bad (under_way BenchBottom setup.Erase running.Idle suspended_program.Nothing (suspended_erase.Erase 4 0))
-    ∷ good (under_way BenchBottom setup.Nothing (running.Program 0x80 0) suspended_program.Nothing (suspended_erase.Erase 4 0))
-    ∷ good (under_way BenchBottom setup.Program running.Idle suspended_program.Nothing (suspended_erase.Erase 4 0))
-    ∷ good (under_way BenchBottom setup.Lock running.Idle suspended_program.Nothing (suspended_erase.Erase 4 0))
+    ∷ bad (under_way BenchBottom setup.Nothing (running.Erase 5 0) suspended_program.Nothing (Some (suspended_erase 4 0)))
+    ∷ bad (under_way BenchBottom setup.Erase running.Idle suspended_program.Nothing (Some (suspended_erase 4 0)))
+    ∷ good (under_way BenchBottom setup.Nothing (running.Program 0x80 0) suspended_program.Nothing (Some (suspended_erase 4 0)))
+    ∷ good (under_way BenchBottom setup.Program running.Idle suspended_program.Nothing (Some (suspended_erase 4 0)))
+    ∷ good (under_way BenchBottom setup.Lock running.Idle suspended_program.Nothing (Some (suspended_erase 4 0)))
     -- "locations and blocks are of the part"
     ∷ good (program_runs 0x3FFF)
     ∷ bad (program_runs 0x4000)
@@ -116,10 +115,10 @@ refusal_cases =
     ∷ good (erase_waits 3 15)
     ∷ bad (erase_waits 3 16)
     -- "a program that runs or is suspended beside a suspended erase lies in another block"
-    ∷ bad (under_way BenchBottom setup.Nothing (running.Program 0x7F 0) suspended_program.Nothing (suspended_erase.Erase 4 0))
-    ∷ bad (under_way BenchBottom setup.Nothing running.Idle (suspended_program.Program 0x40 0) (suspended_erase.Erase 4 0))
-    ∷ good (under_way BenchTop setup.Nothing (running.Program 0x7F 0) suspended_program.Nothing (suspended_erase.Erase 4 0))
-    ∷ bad (under_way BenchTop setup.Nothing running.Idle (suspended_program.Program 0x3F80 0) (suspended_erase.Erase 4 0))
+    ∷ bad (under_way BenchBottom setup.Nothing (running.Program 0x7F 0) suspended_program.Nothing (Some (suspended_erase 4 0)))
+    ∷ bad (under_way BenchBottom setup.Nothing running.Idle (suspended_program.Program 0x40 0) (Some (suspended_erase 4 0)))
+    ∷ good (under_way BenchTop setup.Nothing (running.Program 0x7F 0) suspended_program.Nothing (Some (suspended_erase 4 0)))
+    ∷ bad (under_way BenchTop setup.Nothing running.Idle (suspended_program.Program 0x3F80 0) (Some (suspended_erase 4 0)))
     -- "spare storage, if any, is zero": blocks 256 to 258 are the last word's three lowest digits
     ∷ good (last_word 7)
     ∷ bad (last_word 8)

@@ -1,6 +1,6 @@
 -- Cases of the configuration register and its reserved bits: document 02, item 4. FurtherCases computes them.
 -- Assumes nothing.
-use Rattle.std.specs.Prelude.{ℕ, ◌-◌, true, false, List, [], ◌∷◌, ◌++◌, replicate}
+use Rattle.std.specs.Prelude.{ℕ, ◌-◌, true, false, List, [], ◌∷◌, ◌++◌, replicate, Option, Some, None}
 use Rattle.refusal.specs.declared.Refusal.TheVariants as refusal
 use Rattle.geometry.specs.declared.Part.{Part}
 use Rattle.geometry.specs.declared.Part.TheVariants.{FullBottom, FullTop, BenchBottom, BenchTop}
@@ -16,8 +16,7 @@ use Rattle.semantics.specs.declared.Running.TheVariants as running
 use Rattle.semantics.specs.declared.SuspendedProgram.{SuspendedProgram}
 use Rattle.semantics.specs.declared.SuspendedProgram.TheVariants as suspended_program
 use Rattle.semantics.specs.declared.SuspendedErase.{SuspendedErase}
-use Rattle.semantics.specs.declared.SuspendedErase.TheVariants as suspended_erase
-use Rattle.semantics.specs.State.{power_up, with_control, with_protection, with_buffer, with_flags, with_supply, set_configuration, flags_of}
+use Rattle.semantics.specs.State.{power_up, with_control, with_protection, with_buffer, with_flags, with_supply, set_configuration, flags_of, suspended_erase}
 use Rattle.semantics.specs.Writing.{written}
 use Rattle.semantics.specs.Steps.{step_of}
 use Rattle.semantics.specs.Cases.{◌⟶◌, Exchange, words, Case, plays, starts, reports, counted, unreported, write, cycles, shows, works, supply, reset, unprotect, protect, program, erase, prepared, bench}
@@ -48,22 +47,22 @@ abbrev refused : ℕ → List Case
 refused w = starts (registered w) (bench 0) (all refusal.Malformed) ∷ starts (registered w) (words 3 0) (all refusal.ArrayLength) ∷ unreported (registered w) refusal.Malformed ∷ []
 
 -- what is under way, on the bench bottom part with register w
-abbrev busy : Setup → Running → SuspendedProgram → SuspendedErase → ℕ → State
+abbrev busy : Setup → Running → SuspendedProgram → Option SuspendedErase → ℕ → State
 busy s r q e w = configured (under_way BenchBottom s r q e) w
 
 -- with a set-up alone, or something that runs alone
 abbrev pends : Setup → ℕ → State
-pends s w = busy s running.Idle suspended_program.Nothing suspended_erase.Nothing w
+pends s w = busy s running.Idle suspended_program.Nothing None w
 
 abbrev working : Running → ℕ → State
-working r w = busy setup.Nothing r suspended_program.Nothing suspended_erase.Nothing w
+working r w = busy setup.Nothing r suspended_program.Nothing None w
 
 -- with a suspended program alone, or a suspended erase alone
 abbrev waits : SuspendedProgram → ℕ → State
-waits q w = busy setup.Nothing running.Idle q suspended_erase.Nothing w
+waits q w = busy setup.Nothing running.Idle q None w
 
 abbrev erase_waits : ℕ → State
-erase_waits w = busy setup.Nothing running.Idle suspended_program.Nothing (suspended_erase.Erase 4 0) w
+erase_waits w = busy setup.Nothing running.Idle suspended_program.Nothing (Some (suspended_erase 4 0)) w
 
 -- a state of any part, taken for one of the bench bottom part, whose array a case has room for
 abbrev on_bench : State → State
@@ -161,7 +160,7 @@ register_cases =
     ∷ refused 0x4000 ++ refused 0x0020 ++ refused 0x0010 ++ refused 0xFFFF
     ++ bad (registered 0x4030) ∷ bad (registered 0xFFCF) ∷ bad (registered 0xBFEF) ∷ bad (registered 0xBFDF) ∷ bad (configured (power_up BenchTop) 0x4000)
     ∷ bad (working (running.Program 0x40 0x1234) 0x0010)
-    ∷ bad (busy setup.Lock running.Idle suspended_program.Nothing (suspended_erase.Erase 4 0) 0x4000)
+    ∷ bad (busy setup.Lock running.Idle suspended_program.Nothing (Some (suspended_erase 4 0)) 0x4000)
     -- with two of them set
     ∷ bad (registered 0x4020) ∷ bad (registered 0x4010) ∷ bad (registered 0x0030)
     -- each set-up, what runs, what is suspended

@@ -1,6 +1,6 @@
 -- What a device holds, and the states that differ from another in one field: document 01, "What a device holds".
 -- Assumes nothing.
-use Rattle.std.specs.Prelude.{ℕ, Bool, true, false, ◌||◌, List, get_or, replicate}
+use Rattle.std.specs.Prelude.{ℕ, Bool, true, false, ◌||◌, List, get_or, replicate, Option, Some, None}
 use Rattle.geometry.specs.declared.Part.{Part}
 use Rattle.geometry.specs.declared.Geometry.{Geometry}
 use Rattle.geometry.specs.Blocks.{geometry_of}
@@ -15,7 +15,6 @@ use Rattle.semantics.specs.declared.Running.TheVariants as running
 use Rattle.semantics.specs.declared.SuspendedProgram.{SuspendedProgram}
 use Rattle.semantics.specs.declared.SuspendedProgram.TheVariants as program
 use Rattle.semantics.specs.declared.SuspendedErase.{SuspendedErase}
-use Rattle.semantics.specs.declared.SuspendedErase.TheVariants as erase
 use Rattle.semantics.specs.declared.Activity.{Activity}
 use Rattle.semantics.specs.declared.Flags.{Flags}
 use Rattle.semantics.specs.declared.Control.{Control}
@@ -66,7 +65,11 @@ mode_of s k = mode_in s.banks k
 
 -- ---- what is under way
 
-abbrev pub activity : Setup → Running → SuspendedProgram → SuspendedErase → Activity
+-- the erase of block b, suspended when it has done n words
+abbrev pub suspended_erase : ℕ → ℕ → SuspendedErase
+suspended_erase b n = record { block = b; done = n }
+
+abbrev pub activity : Setup → Running → SuspendedProgram → Option SuspendedErase → Activity
 activity s r p e = record { setup = s; running = r; program = p; erase = e }
 
 abbrev pub with_setup : Activity → Setup → Activity
@@ -88,9 +91,9 @@ program_suspended program.Nothing = false
 program_suspended (program.Program l w) = true
 program_suspended (program.Buffer l n d) = true
 
-abbrev pub erase_suspended : SuspendedErase → Bool
-erase_suspended erase.Nothing = false
-erase_suspended (erase.Erase b n) = true
+abbrev pub erase_suspended : Option SuspendedErase → Bool
+erase_suspended None = false
+erase_suspended (Some e) = true
 
 -- ---- the buffer
 
@@ -119,6 +122,6 @@ power_up p = record {
   part = p;
   banks = replicate 16 (record { mode = Array });
   unprotected = all_protected;
-  control = record { activity = activity setup.Nothing running.Idle program.Nothing erase.Nothing; flags = no_flags; configuration = 0xBFCF; supply = false };
+  control = record { activity = activity setup.Nothing running.Idle program.Nothing None; flags = no_flags; configuration = 0xBFCF; supply = false };
   buffer = empty_buffer;
 }

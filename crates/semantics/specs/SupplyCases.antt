@@ -1,7 +1,7 @@
 -- Cases of the supply that goes off, and of D0h without it: document 02, item 5. FurtherCases computes them.
 -- Bench bottom: block 0 has the locations 0 to F, block 4 40 to 7F, block 5 80 to BF, all in bank 0, and block 19 400 to 43F, in bank 1.
 -- Assumes nothing.
-use Rattle.std.specs.Prelude.{ℕ, Bool, true, false, List, [], ◌∷◌, ◌++◌, replicate}
+use Rattle.std.specs.Prelude.{ℕ, Bool, true, false, List, [], ◌∷◌, ◌++◌, replicate, Option, Some, None}
 use Rattle.refusal.specs.declared.Refusal.TheVariants as refusal
 use Rattle.geometry.specs.declared.Part.{Part}
 use Rattle.geometry.specs.declared.Part.TheVariants.{FullBottom, FullTop, BenchBottom, BenchTop}
@@ -12,9 +12,8 @@ use Rattle.semantics.specs.declared.Running.TheVariants as running
 use Rattle.semantics.specs.declared.SuspendedProgram.{SuspendedProgram}
 use Rattle.semantics.specs.declared.SuspendedProgram.TheVariants as suspended_program
 use Rattle.semantics.specs.declared.SuspendedErase.{SuspendedErase}
-use Rattle.semantics.specs.declared.SuspendedErase.TheVariants as suspended_erase
 use Rattle.semantics.specs.declared.State.{State}
-use Rattle.semantics.specs.State.{with_buffer, with_supply}
+use Rattle.semantics.specs.State.{with_buffer, with_supply, suspended_erase}
 use Rattle.semantics.specs.Steps.{switched_to}
 use Rattle.semantics.specs.Cases.{Exchange, words, Case, plays, starts, reports, counted, unreported, write, cycles, shows, works, supply, reset, unprotect, program, erase, reads, prepared, bench}
 use Rattle.semantics.specs.RefusalCases.{under_way, bad, good, all}
@@ -56,28 +55,28 @@ holds a w = write a 0xFF ++ shows a w
 -- ---- states
 
 -- something runs, with supply on or off; a buffer of two words where it is a buffer program
-abbrev runs : Part → Running → SuspendedErase → Bool → State
+abbrev runs : Part → Running → Option SuspendedErase → Bool → State
 runs p r e t = with_supply (under_way p setup.Nothing r suspended_program.Nothing e) t
 
-abbrev runs_two : SuspendedErase → Bool → State
+abbrev runs_two : Option SuspendedErase → Bool → State
 runs_two e t = with_buffer (runs BenchBottom (running.Buffer 0x80 2 0) e t) (0xAAAA ∷ 0xBBBB ∷ replicate 30 0)
 
 -- something is suspended or pending, with supply off or on
-abbrev waits : SuspendedProgram → SuspendedErase → Bool → State
+abbrev waits : SuspendedProgram → Option SuspendedErase → Bool → State
 waits q e t = with_supply (under_way BenchBottom setup.Nothing running.Idle q e) t
 
-abbrev waits_two : SuspendedErase → Bool → State
+abbrev waits_two : Option SuspendedErase → Bool → State
 waits_two e t = with_buffer (waits (suspended_program.Buffer 0x80 2 0) e t) (0xAAAA ∷ 0xBBBB ∷ replicate 30 0)
 
 abbrev pends : Setup → Bool → State
-pends c t = with_supply (under_way BenchBottom c running.Idle suspended_program.Nothing suspended_erase.Nothing) t
+pends c t = with_supply (under_way BenchBottom c running.Idle suspended_program.Nothing None) t
 
-abbrev none : SuspendedErase
-none = suspended_erase.Nothing
+abbrev none : Option SuspendedErase
+none = None
 
 -- the erase of block 4, with three words done, suspended
-abbrev three : SuspendedErase
-three = suspended_erase.Erase 4 3
+abbrev three : Option SuspendedErase
+three = Some (suspended_erase 4 3)
 
 -- a state that is not well formed: every step is refused 2, and on an array of another length 1, and the report is refused 2
 abbrev refused : State → List Case

@@ -1,7 +1,7 @@
 -- Whole states of document 02, item 5, on every part, with mixed modes, another register than the default, all blocks protected or unprotected, and several flags: what a step that is accepted leaves, and
 -- which are well formed. No array is needed. The checker computes them.
 -- Assumes nothing.
-use Rattle.std.specs.Prelude.{ℕ, Bool, true, false, cond, List, [], ◌∷◌, ◌++◌, map, ◌≡◌, refl, replicate}
+use Rattle.std.specs.Prelude.{ℕ, Bool, true, false, cond, List, [], ◌∷◌, ◌++◌, map, ◌≡◌, refl, replicate, Option, Some, None}
 use Rattle.geometry.specs.Blocks.{mirror, block_from, block_of, bank_of, size_of, start_from, start_of}
 use Rattle.protection.specs.Words.{bit, bit_at, is_unprotected, with_unprotected, spare_zero, all_protected}
 use Rattle.geometry.specs.declared.Part.{Part}
@@ -13,7 +13,6 @@ use Rattle.semantics.specs.declared.Running.TheVariants as running
 use Rattle.semantics.specs.declared.SuspendedProgram.{SuspendedProgram}
 use Rattle.semantics.specs.declared.SuspendedProgram.TheVariants as suspended_program
 use Rattle.semantics.specs.declared.SuspendedErase.{SuspendedErase}
-use Rattle.semantics.specs.declared.SuspendedErase.TheVariants as suspended_erase
 use Rattle.semantics.specs.declared.Activity.{Activity}
 use Rattle.semantics.specs.declared.Flags.{Flags}
 use Rattle.semantics.specs.declared.Mode.TheVariants.{Array, Status, Signature, Query}
@@ -21,7 +20,7 @@ use Rattle.semantics.specs.declared.Bank.{Bank}
 use Rattle.semantics.specs.declared.Step.{Step}
 use Rattle.semantics.specs.declared.Step.TheVariants.{Write, Supply, Reset}
 use Rattle.semantics.specs.declared.State.{State}
-use Rattle.semantics.specs.State.{with_supply, activity, flags_of, no_flags, empty_buffer, power_up}
+use Rattle.semantics.specs.State.{with_supply, activity, flags_of, no_flags, empty_buffer, power_up, suspended_erase}
 use Rattle.semantics.specs.Register.{reserved_zero}
 use Rattle.semantics.specs.WellFormed.{running_alone, program_alone, erase_alone, erase_fits, words_fit, buffer_fits, setup_fits, running_fits, program_fits, suspended_erase_fits, all_fit, running_apart, program_apart, apart, activity_formed, setup_places, running_places, program_places, places_used, zero_from, runs_supplied, well_formed}
 use Rattle.semantics.specs.Supply.{end_flags, ended, ended_if_unsupplied, switched}
@@ -29,12 +28,12 @@ use Rattle.semantics.specs.Writing.{command_of, resume, accepts, set_up, clear_s
 use Rattle.semantics.specs.Working.{buffer_after}
 use Rattle.semantics.specs.Steps.{switched_to, accepted}
 
-abbrev none : SuspendedErase
-none = suspended_erase.Nothing
+abbrev none : Option SuspendedErase
+none = None
 
 -- the erase of block 4, with three words done, suspended
-abbrev three : SuspendedErase
-three = suspended_erase.Erase 4 3
+abbrev three : Option SuspendedErase
+three = Some (suspended_erase 4 3)
 
 -- ---- a step that is accepted leaves just this state
 
@@ -76,7 +75,7 @@ abbrev erase_ended : Flags → Flags
 erase_ended f = flags_of true f.sr4 true f.sr1
 
 -- supply off ends what runs, and supply on leaves it
-abbrev cut : Part → Bool → Running → SuspendedErase → Flags → Flags → List ℕ → List Move
+abbrev cut : Part → Bool → Running → Option SuspendedErase → Flags → Flags → List ℕ → List Move
 cut p o r e f h bs =
     leaves (stands p o (activity setup.Nothing r suspended_program.Nothing e) f true bs) (Supply false) (stands p o (activity setup.Nothing running.Idle suspended_program.Nothing e) h false empty)
     ∷ leaves (stands p o (activity setup.Nothing r suspended_program.Nothing e) f true bs) (Supply true) (stands p o (activity setup.Nothing r suspended_program.Nothing e) f true bs)
@@ -112,10 +111,10 @@ ignored p o a f bs =
     ∷ []
 
 -- what is under way: a set-up beside a suspended erase; a suspended program, or none, and a suspended erase, or none
-abbrev pending_beside : Setup → SuspendedErase → Activity
+abbrev pending_beside : Setup → Option SuspendedErase → Activity
 pending_beside c e = activity c running.Idle suspended_program.Nothing e
 
-abbrev waiting : SuspendedProgram → SuspendedErase → Activity
+abbrev waiting : SuspendedProgram → Option SuspendedErase → Activity
 waiting q e = activity setup.Nothing running.Idle q e
 
 abbrev one : SuspendedProgram
@@ -127,7 +126,7 @@ both d = suspended_program.Buffer 0x80 3 d
 abbrev no_program : SuspendedProgram
 no_program = suspended_program.Nothing
 
-abbrev beside : Part → Bool → Flags → SuspendedErase → List Move
+abbrev beside : Part → Bool → Flags → Option SuspendedErase → List Move
 beside p o f e =
     cut p o (running.Program 0x80 0x1234) e f (program_ended f) empty ++ cut p o (running.Buffer 0x80 3 0) e f (program_ended f) words ++ cut p o (running.Buffer 0x80 3 2) e f (program_ended f) words
     ++ noted p o (pending_beside setup.Nothing e) f empty ++ noted p o (pending_beside setup.Program e) f empty ++ noted p o (pending_beside setup.Lock e) f empty
@@ -146,10 +145,10 @@ moves_of p o f =
     beside p o f none ++ beside p o f three
     ++ cut p o (running.Erase 4 1) none f (erase_ended f) empty ++ cut p o (running.Erase 4 3) none f (erase_ended f) empty
     ++ noted p o (pending_beside setup.Erase none) f empty
-    ++ ends p o (waiting no_program three) (waiting no_program none) f (erase_ended f) empty empty ++ ends p o (waiting no_program (suspended_erase.Erase 0 0)) (waiting no_program none) f (erase_ended f) empty empty
+    ++ ends p o (waiting no_program three) (waiting no_program none) f (erase_ended f) empty empty ++ ends p o (waiting no_program (Some (suspended_erase 0 0))) (waiting no_program none) f (erase_ended f) empty empty
     ++ ends p o (waiting no_program none) (waiting no_program none) f f empty empty
     ++ resumes p o (waiting no_program three) (activity setup.Nothing (running.Erase 4 3) no_program none) f empty
-    ++ resumes p o (waiting no_program (suspended_erase.Erase 0 0)) (activity setup.Nothing (running.Erase 0 0) no_program none) f empty
+    ++ resumes p o (waiting no_program (Some (suspended_erase 0 0))) (activity setup.Nothing (running.Erase 0 0) no_program none) f empty
     ++ resumes p o (waiting no_program none) (waiting no_program none) f empty
     ++ leaves (stands p o (waiting no_program three) f false empty) (Write 0x40 0xB0) (stands p o (waiting no_program three) f false empty) ∷ []
 
@@ -170,14 +169,14 @@ moves_hold = refl
 
 -- ---- states that are well formed, on every part: what stands where nothing runs, with supply or without it (t); what runs, with it
 
-abbrev standing : Bool → Part → Bool → Flags → SuspendedErase → List State
+abbrev standing : Bool → Part → Bool → Flags → Option SuspendedErase → List State
 standing t p o f e =
     stands p o (pending_beside setup.Nothing e) f t empty ∷ stands p o (pending_beside setup.Program e) f t empty ∷ stands p o (pending_beside setup.Lock e) f t empty
     ∷ stands p o (pending_beside (setup.BufferCount 4) e) f t empty ∷ stands p o (pending_beside (setup.BufferFirst 4 3) e) f t empty ∷ stands p o (pending_beside (setup.BufferWords 0x80 3 2) e) f t words
     ∷ stands p o (pending_beside (setup.BufferWords 0x80 3 0) e) f t words ∷ stands p o (waiting one e) f t empty ∷ stands p o (waiting (both 0) e) f t words ∷ stands p o (waiting (both 2) e) f t words
     ∷ []
 
-abbrev running_beside : Bool → Part → Bool → Flags → SuspendedErase → List State
+abbrev running_beside : Bool → Part → Bool → Flags → Option SuspendedErase → List State
 running_beside t p o f e =
     stands p o (activity setup.Nothing (running.Program 0x80 0x1234) no_program e) f t empty ∷ stands p o (activity setup.Nothing (running.Buffer 0x80 3 0) no_program e) f t words
     ∷ stands p o (activity setup.Nothing (running.Buffer 0x80 3 2) no_program e) f t words

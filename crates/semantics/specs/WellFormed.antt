@@ -1,7 +1,7 @@
 -- When a state is well formed (document 01: well made): one test for each part of document 01's sentence, in its order, and what document 02 says:
 -- item 1 of a load and of a buffer program, item 4 of the configuration register, item 5 of the supply; no other.
 -- Assumes nothing.
-use Rattle.std.specs.Prelude.{ℕ, zero, suc, ◌+◌, Bool, true, false, not, ◌&&◌, ◌||◌, List, [], ◌∷◌, ltb, leb, eqb}
+use Rattle.std.specs.Prelude.{ℕ, zero, suc, ◌+◌, Bool, true, false, not, ◌&&◌, ◌||◌, List, [], ◌∷◌, ltb, leb, eqb, Option, Some, None}
 use Rattle.geometry.specs.declared.Geometry.{Geometry}
 use Rattle.geometry.specs.Blocks.{words, blocks, block_of, start_of, size_of}
 use Rattle.protection.specs.Words.{spare_zero}
@@ -12,7 +12,6 @@ use Rattle.semantics.specs.declared.Running.TheVariants as running
 use Rattle.semantics.specs.declared.SuspendedProgram.{SuspendedProgram}
 use Rattle.semantics.specs.declared.SuspendedProgram.TheVariants as program
 use Rattle.semantics.specs.declared.SuspendedErase.{SuspendedErase}
-use Rattle.semantics.specs.declared.SuspendedErase.TheVariants as erase
 use Rattle.semantics.specs.declared.Activity.{Activity}
 use Rattle.semantics.specs.declared.Control.{Control}
 use Rattle.semantics.specs.declared.State.{State}
@@ -48,9 +47,9 @@ is_erase (running.Erase b n) = true
 is_erase (running.Buffer l n d) = false
 
 -- the suspended erase, if there is one, is of block b
-abbrev pub erasing : SuspendedErase → ℕ → Bool
-erasing erase.Nothing b = false
-erasing (erase.Erase c n) b = eqb c b
+abbrev pub erasing : Option SuspendedErase → ℕ → Bool
+erasing None b = false
+erasing (Some e) b = eqb e.block b
 
 -- "a running operation means no set-up pending and no suspended program"
 unfoldable pub running_alone : Activity → Bool
@@ -102,21 +101,21 @@ program_fits g program.Nothing = true
 program_fits g (program.Program l w) = ltb l (words g)
 program_fits g (program.Buffer l n d) = buffer_fits g l n d
 
-unfoldable pub suspended_erase_fits : Geometry → SuspendedErase → Bool
-suspended_erase_fits g erase.Nothing = true
-suspended_erase_fits g (erase.Erase b n) = erase_fits g b n
+unfoldable pub suspended_erase_fits : Geometry → Option SuspendedErase → Bool
+suspended_erase_fits g None = true
+suspended_erase_fits g (Some e) = erase_fits g e.block e.done
 
 -- "locations and blocks are of the part, and an erase has done fewer words than its block has"
 unfoldable pub all_fit : Geometry → Activity → Bool
 all_fit g a = setup_fits g a.setup && (running_fits g a.running && (program_fits g a.program && suspended_erase_fits g a.erase))
 
-unfoldable pub running_apart : Geometry → SuspendedErase → Running → Bool
+unfoldable pub running_apart : Geometry → Option SuspendedErase → Running → Bool
 running_apart g e running.Idle = true
 running_apart g e (running.Program l w) = not (erasing e (block_of g l))
 running_apart g e (running.Erase b n) = true
 running_apart g e (running.Buffer l n d) = not (erasing e (block_of g l))
 
-unfoldable pub program_apart : Geometry → SuspendedErase → SuspendedProgram → Bool
+unfoldable pub program_apart : Geometry → Option SuspendedErase → SuspendedProgram → Bool
 program_apart g e program.Nothing = true
 program_apart g e (program.Program l w) = not (erasing e (block_of g l))
 program_apart g e (program.Buffer l n d) = not (erasing e (block_of g l))

@@ -1,7 +1,7 @@
 -- The write step: document 01, "Write, address, data.", and document 02, item 1, with section 4.9 of the data sheet, for the load of a buffer program, item 4, for what 03h stores, and item 5, for D0h
 -- without supply. A cycle is said over what it sees at the place of its address; what it does not see stays. What a cycle makes of the buffer is said after that.
 -- Assumes nothing.
-use Rattle.std.specs.Prelude.{ℕ, ◌+◌, ◌-◌, ◌%◌, Bool, true, false, not, cond, ◌&&◌, ◌||◌, List, ltb, leb, eqb, set}
+use Rattle.std.specs.Prelude.{ℕ, ◌+◌, ◌-◌, ◌%◌, Bool, true, false, not, cond, ◌&&◌, ◌||◌, List, ltb, leb, eqb, set, Option, Some, None}
 use Rattle.geometry.specs.declared.Geometry.{Geometry}
 use Rattle.geometry.specs.Blocks.{block_of}
 use Rattle.semantics.specs.declared.Mode.TheVariants.{Array, Status, Signature, Query}
@@ -12,7 +12,6 @@ use Rattle.semantics.specs.declared.Running.TheVariants as running
 use Rattle.semantics.specs.declared.SuspendedProgram.{SuspendedProgram}
 use Rattle.semantics.specs.declared.SuspendedProgram.TheVariants as program
 use Rattle.semantics.specs.declared.SuspendedErase.{SuspendedErase}
-use Rattle.semantics.specs.declared.SuspendedErase.TheVariants as erase
 use Rattle.semantics.specs.declared.Activity.{Activity}
 use Rattle.semantics.specs.declared.Control.{Control}
 use Rattle.semantics.specs.declared.Command.{Command}
@@ -22,7 +21,7 @@ use Rattle.semantics.specs.declared.LockCommand.TheVariants as lock
 use Rattle.semantics.specs.declared.State.{State}
 use Rattle.semantics.specs.declared.Place.{Place}
 use Rattle.semantics.specs.declared.View.{View}
-use Rattle.semantics.specs.State.{geometry, activity, set_activity, with_setup, with_running, with_buffer, runs, program_suspended, erase_suspended, empty_buffer, flags_of, no_flags}
+use Rattle.semantics.specs.State.{geometry, activity, set_activity, with_setup, with_running, with_buffer, runs, program_suspended, erase_suspended, empty_buffer, flags_of, no_flags, suspended_erase}
 use Rattle.semantics.specs.Register.{without_reserved}
 use Rattle.semantics.specs.Supply.{ended_if_unsupplied}
 use Rattle.semantics.specs.View.{place_of, view_at, with_view, with_control, with_activity, with_flags, with_configuration, with_mode, with_protection, raise}
@@ -52,13 +51,13 @@ command_of c =
 abbrev pub suspended : Activity → Running → Activity
 suspended a running.Idle = a
 suspended a (running.Program l w) = activity a.setup running.Idle (program.Program l w) a.erase
-suspended a (running.Erase b n) = activity a.setup running.Idle a.program (erase.Erase b n)
+suspended a (running.Erase b n) = activity a.setup running.Idle a.program (Some (suspended_erase b n))
 suspended a (running.Buffer l n d) = activity a.setup running.Idle (program.Buffer l n d) a.erase
 
 -- "resume the suspended program, else the suspended erase"
-abbrev pub resumed_erase : Activity → SuspendedErase → Activity
-resumed_erase a erase.Nothing = a
-resumed_erase a (erase.Erase b n) = activity a.setup (running.Erase b n) a.program erase.Nothing
+abbrev pub resumed_erase : Activity → Option SuspendedErase → Activity
+resumed_erase a None = a
+resumed_erase a (Some e) = activity a.setup (running.Erase e.block e.done) a.program None
 
 abbrev pub resumed : Activity → SuspendedProgram → Activity
 resumed a program.Nothing = resumed_erase a a.erase

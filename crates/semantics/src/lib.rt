@@ -52,10 +52,11 @@ pub enum SuspendedProgram {
     Buffer { start: u32, words: u32, done: u32 },
 }
 
+// A suspended erase: its block, and the words that it has done.
 #[derive(Clone, Copy)]
-pub enum SuspendedErase {
-    Nothing,
-    Erase { block: u32, done: u32 },
+pub struct SuspendedErase {
+    pub block: u32,
+    pub done: u32,
 }
 
 // All that is under way: the set-up that is pending, what runs, and what is suspended.
@@ -64,7 +65,7 @@ pub struct Activity {
     pub setup: Setup,
     pub running: Running,
     pub program: SuspendedProgram,
-    pub erase: SuspendedErase,
+    pub erase: Option<SuspendedErase>,
 }
 
 // The flags of the status register that stay until they are cleared.

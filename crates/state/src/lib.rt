@@ -18,7 +18,7 @@ ghost use Rattle.semantics.specs.Split.{step_refusal, first_refusal};
 use geometry::Part;
 use refusal::Refusal;
 use semantics::{
-    Activity, Bank, Control, Flags, Mode, Place, Running, Setup, State, Step, SuspendedErase,
+    Activity, Bank, Control, Flags, Mode, Place, Running, Setup, State, Step,
     SuspendedProgram, View,
 };
 
@@ -208,7 +208,7 @@ pub fn power_up(part: Part) -> State
                 setup: Setup::Nothing,
                 running: Running::Idle,
                 program: SuspendedProgram::Nothing,
-                erase: SuspendedErase::Nothing,
+                erase: None,
             },
             flags: no_flags(),
             configuration: 0xbfcf,

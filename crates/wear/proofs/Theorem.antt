@@ -1,7 +1,7 @@
 -- The counts' theorem: after any list of the five steps from power-up, refused ones included, the count of every block is the lesser of 65,535 and the number of its finished erases
 -- in the journal, which is drawn up from the steps alone. It stands on the invariant of demand 3 (semantics, Invariant): the journal's running entry is what the device runs.
 -- Assumes nothing.
-use Rattle.std.specs.Prelude.{◌≡◌, List, [], ◌∷◌, map, Bool, true, false, cond, ◌&&◌, ◌⊎◌, ltb, eqb, length, get_or, replicate, None}
+use Rattle.std.specs.Prelude.{◌≡◌, List, [], ◌∷◌, map, Bool, true, false, cond, ◌&&◌, ◌⊎◌, ltb, eqb, length, get_or, replicate, None, Option}
 use Rattle.std.proofs.Math.Path.{refl}
 use Rattle.std.proofs.Common.{sym, ap, ◌∙◌, subst, true≢false, inl, inr, arith, lt-ltb, le-leb, ltb-true, ltb-false, eq-eqb, ne_eqb, eqb-true}
 use Prim.Native.Nat.{ℕ, suc, ◌+◌, ◌-◌, ◌≤◌, ◌<◌, min}
@@ -133,7 +133,7 @@ module _ (g : Geometry) (sound : Sound g) (limit : blocks g ≡ 259) where
   goes_on : (b u n : ℕ) → ltb (u + min n (size_of g b - u)) (size_of g b) ≡ true → eqb (u + min n (size_of g b - u)) (size_of g b) ≡ false
   goes_on b u n e = ne_eqb (u + min n (size_of g b - u)) (size_of g b) (λ d. omega (arith, ltb-true (u + min n (size_of g b - u)) (size_of g b) e))
 
-  right_worked : (bs : List ℕ) (n : ℕ) (r : Running) (p : SuspendedProgram) (e : SuspendedErase) (k : Counts) (j : List (Entry Operation))
+  right_worked : (bs : List ℕ) (n : ℕ) (r : Running) (p : SuspendedProgram) (e : Option SuspendedErase) (k : Counts) (j : List (Entry Operation))
       → Matches g (busy (under_way_of bs r p e)) (stack (under_way_of bs r p e)) j → Right k j
       → Right (counts_after r (running_after g r (units_done g r n)) k) (map (entries.worked (kinds g) n) j)
   unfolding counts_after running_after units_done units_left

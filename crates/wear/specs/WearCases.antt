@@ -2,7 +2,7 @@
 -- written down wrong makes a case fail.
 -- Bench bottom: block 0 has the locations 0 to F, block 1 10 to 1F, block 4 40 to 7F, block 5 80 to BF, all in bank 0, block 19 400 to 43F, in bank 1, and block 258 3FC0 to 3FFF.
 -- Assumes nothing.
-use Rattle.std.specs.Prelude.{ℕ, true, false, List, [], ◌∷◌, ◌++◌, map, ◌≡◌, refl, replicate}
+use Rattle.std.specs.Prelude.{ℕ, true, false, List, [], ◌∷◌, ◌++◌, map, ◌≡◌, refl, replicate, Some, None}
 use Rattle.refusal.specs.declared.Refusal.{Refusal}
 use Rattle.refusal.specs.declared.Refusal.TheVariants as refusal
 use Rattle.geometry.specs.declared.Part.{Part}
@@ -12,14 +12,13 @@ use Rattle.protection.specs.Words.{bit, bit_at, is_unprotected, with_unprotected
 use Rattle.semantics.specs.declared.Setup.TheVariants as setup
 use Rattle.semantics.specs.declared.Running.TheVariants as running
 use Rattle.semantics.specs.declared.SuspendedProgram.TheVariants as suspended_program
-use Rattle.semantics.specs.declared.SuspendedErase.TheVariants as suspended_erase
 use Rattle.semantics.specs.declared.Step.{Step}
 use Rattle.semantics.specs.declared.Step.TheVariants.{Read, Write, Work, Supply, Reset}
 use Rattle.semantics.specs.declared.Answer.{Answer}
 use Rattle.semantics.specs.declared.Answer.TheVariants.{Word, Units, Done, Refused}
 use Rattle.semantics.specs.declared.State.{State}
 use Rattle.semantics.specs.Tabulate.{tabulate}
-use Rattle.semantics.specs.State.{empty_buffer, power_up, activity, with_activity, with_protection, with_supply}
+use Rattle.semantics.specs.State.{empty_buffer, power_up, activity, with_activity, with_protection, with_supply, suspended_erase}
 use Rattle.semantics.specs.Register.{without_reserved, reserved_zero}
 use Rattle.semantics.specs.Supply.{end_flags, ended, ended_if_unsupplied, switched}
 use Rattle.semantics.specs.WellFormed.{running_alone, program_alone, erase_alone, erase_fits, words_fit, buffer_fits, setup_fits, running_fits, program_fits, suspended_erase_fits, all_fit, running_apart, program_apart, apart, activity_formed, setup_places, running_places, program_places, places_used, zero_from, runs_supplied, well_formed}
@@ -159,11 +158,11 @@ six_b =
 
 -- an erase of block b that runs with n of its words done
 abbrev pub erasing : Part → ℕ → ℕ → State
-erasing p b n = with_supply (with_activity (power_up p) (activity setup.Nothing (running.Erase b n) suspended_program.Nothing suspended_erase.Nothing)) true
+erasing p b n = with_supply (with_activity (power_up p) (activity setup.Nothing (running.Erase b n) suspended_program.Nothing None)) true
 
 -- one that is suspended, with supply on
 abbrev pub waiting : Part → ℕ → ℕ → State
-waiting p b n = with_supply (with_activity (power_up p) (activity setup.Nothing running.Idle suspended_program.Nothing (suspended_erase.Erase b n))) true
+waiting p b n = with_supply (with_activity (power_up p) (activity setup.Nothing running.Idle suspended_program.Nothing (Some (suspended_erase b n)))) true
 
 -- one that runs without supply: not well formed
 abbrev pub unsupplied : State

@@ -1,5 +1,5 @@
 -- What a write changes of a state, where that is little, and that this is what the definition of a write gives. Assumes nothing.
-use Rattle.std.specs.Prelude.{ℕ, ◌-◌, ◌%◌, Bool, true, false, cond, List, ◌≡◌, refl, eqb, set}
+use Rattle.std.specs.Prelude.{ℕ, ◌-◌, ◌%◌, Bool, true, false, cond, List, ◌≡◌, refl, eqb, set, Option, Some, None}
 use Rattle.std.proofs.Common.{true≢false, sym, ap, ◌∙◌}
 use Rattle.std.proofs.lemmas.Bool.{false≢true}
 use Rattle.geometry.specs.declared.Geometry.{Geometry}
@@ -13,7 +13,6 @@ use Rattle.semantics.specs.declared.Running.TheVariants as running
 use Rattle.semantics.specs.declared.SuspendedProgram.{SuspendedProgram}
 use Rattle.semantics.specs.declared.SuspendedProgram.TheVariants as program
 use Rattle.semantics.specs.declared.SuspendedErase.{SuspendedErase}
-use Rattle.semantics.specs.declared.SuspendedErase.TheVariants as erase
 use Rattle.semantics.specs.declared.Activity.{Activity}
 use Rattle.semantics.specs.declared.Control.{Control}
 use Rattle.semantics.specs.declared.Command.{Command}
@@ -204,9 +203,9 @@ ended_buffer a (program.Program l w) bs h = refl
 ended_buffer a (program.Buffer l n d) bs h = refl
 ended_buffer a program.Nothing bs h = by_erase a.erase
   where
-    by_erase : (e : SuspendedErase) → buffer_after (resumed_erase a e).running running.Idle bs ≡ bs
-    by_erase erase.Nothing = ap (λ (r : Running). buffer_after r running.Idle bs) (nothing_running a.running h)
-    by_erase (erase.Erase b n) = refl
+    by_erase : (e : Option SuspendedErase) → buffer_after (resumed_erase a e).running running.Idle bs ≡ bs
+    by_erase None = ap (λ (r : Running). buffer_after r running.Idle bs) (nothing_running a.running h)
+    by_erase (Some e) = refl
 
 buffer_is : (s : State) (p : Place) (w : ℕ) (c : Command)
     → buffer_by s w (command_change s.control.activity s.control.supply p c)
