@@ -24,7 +24,7 @@ struct Record {
 }
 
 impl Record {
-    // A colon, and a record's first four bytes.
+    // A colon, and a record's first four bytes: its kind is the byte that is written.
     fn begin(text: &mut [u8], at: usize, count: u8, offset: u16, kind: u8) -> Record
         requires { at + 9 ≤ length text.old }
         ensures { Begun text.old at (count ∷ offset / 256 ∷ offset % 256 ∷ kind ∷ []) text.new result }

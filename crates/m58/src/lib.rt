@@ -1,7 +1,7 @@
 // What C programs call. Each function takes every number and every slice, which C hands over as a pointer and a length.
 // A device is kept as the 25 words of the crate saved, and beside them its erase counts, which C hands over as two
 // pointers: sixteen rows of sixteen, and four. A call copies none of them. A step, and an answer, is a number of 64
-// bits (crate playback).
+// bits (crate playback). A part, a refusal and an answer of several fields are numbers here, since C takes no enum.
 #![tactic(auto)]
 
 ghost use Rattle.std.specs.Prelude.{◌≡◌, ◌*◌, ◌<◌};

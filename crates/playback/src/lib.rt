@@ -28,7 +28,8 @@ pub struct RunEnd {
     pub device: Device,
 }
 
-// What a number asks of a list: its end, where it encodes no step; a refusal; or a step that is not refused, a write with the place that it names.
+// What a number asks of a list: its end, where it encodes no step; a refusal; or a step that is not refused, a write with
+// the place that it names. (One enum: as an Option of a Result it would be three matches in the loop.)
 #[derive(Clone, Copy)]
 pub enum Task {
     End,
@@ -124,13 +125,15 @@ pub fn few_reads(steps: &[u64]) -> bool
     steps.len() <= 8 && steps.iter().all(|&code| code < 4294967296)
 }
 
-// A list on a device that is refused whatever the step is: each number that encodes a step is answered by that refusal, up to the first that encodes none. How many there are.
+// A list on a device that is refused whatever the step is: each number that encodes a step is answered by that refusal,
+// up to the first that encodes none. How many there are. (The answers by index, here and in `run`: of what an iterator
+// writes a proof knows nothing.)
 fn refuse(refused: Refusal, steps: &[u64], answers: &mut [u64]) -> usize
     ensures { (s : State) (k : Counts) (xs : List ℕ) → Held (Some refused) s k xs → Played (holding s) k steps.now answers.old xs (record { played = result; device = holding s }) k answers.new xs }
 {
     let n = steps.len().min(answers.len());
     for i in 0..n {
-        let Some(x) = decoded(steps[i]) else {
+        let Some(_) = decoded(steps[i]) else {
             return i;
         };
         answers[i] = answer_code(Answer::Refused(refused));

@@ -9,7 +9,7 @@ ghost use Rattle.protection.specs.Words.{is_unprotected, with_unprotected, repor
 // The blocks of a part.
 const BLOCKS: u32 = 259;
 
-// How many blocks are unprotected, and the lowest of them, or 259 where there is none.
+// How many blocks are unprotected, and the lowest of them, or 259 where there is none, as document 01 has it.
 #[derive(Clone, Copy)]
 pub struct Report {
     pub count: u32,

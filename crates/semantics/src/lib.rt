@@ -37,6 +37,7 @@ pub enum Setup {
 
 // The operation that runs: a program with its location and data, an erase with its block and the words that it has done, or a buffer program with the
 // location that its words start at, their number, and how many it has done. The words themselves stand in the buffer.
+// (A struct of a buffer program's three numbers, for the three enums that have them, would be a name more at each match.)
 #[derive(Clone, Copy)]
 pub enum Running {
     Idle,

@@ -25,7 +25,8 @@ pub fn least(a: usize, b: usize) -> usize
     a.min(b)
 }
 
-// The word anded into the one at a place; nothing where the array has no such place.
+// The word anded into the one at a place; nothing where the array has no such place. By index, since of a word that is
+// written through `get_mut` a proof knows nothing.
 #[tactic(auto, using(crate::specs::Array::anded_set, crate::specs::Array::anded_none))]
 fn and_word(array: &mut [u16], at: usize, word: u16)
     ensures { array.new ≡ anded array.old at word }
