@@ -1,9 +1,9 @@
 -- Words are a saved state exactly where those of what is under way are what it is saved as, and each other number is in
 -- its range (is_saved_in_range). Assumes nothing.
 use Prim.Native.Nat.{ℕ, zero, suc, ◌<◌, ◌≤◌, ◌+◌, ◌/◌, ◌%◌}
-use Rattle.std.specs.Prelude.{Bool, true, false, not, cond, ◌&&◌, ◌⊎◌, List, ◌≡◌, refl, eqb, ltb, length, get_or, is_ok, Result, Some, None, Ok, Err}
+use Rattle.std.specs.Prelude.{Bool, true, false, not, cond, ◌&&◌, List, ◌≡◌, refl, eqb, ltb, length, get_or, is_ok, Result, Some, None, Ok, Err}
 use Rattle.std.proofs.Math.Bool.{and_assoc, and_comm, and-true}
-use Rattle.std.proofs.Common.{sym, ap, ◌∙◌, subst, inl, inr, mod-eq_of_lt, eq-eqb, ne_eqb, eqb-true, ltb-true, ltb-false, lt-ltb}
+use Rattle.std.proofs.Common.{sym, ap, ◌∙◌, subst, mod-eq_of_lt, eq-eqb, ne_eqb, eqb-true, ltb-true, ltb-false, lt-ltb}
 use Rattle.std.proofs.Math.Nat.{mod-lt}
 use native.Mathlib.Omega.{arith}
 use Rattle.std.proofs.lemmas.Bool.{eqb-false}
