@@ -103,17 +103,14 @@ pub fn suspended(a: Activity) -> Activity
 }
 
 // The suspended erase, if there is one, runs.
-fn resumed_erase(a: Activity) -> Activity
+fn resumed_erase(mut a: Activity) -> Activity
     ensures { result ≡ resumed_erase a a.erase }
 {
-    match a.erase {
-        None => a,
-        Some(SuspendedErase { block, done }) => Activity {
-            running: Running::Erase { block, done },
-            erase: None,
-            ..a
-        },
+    if let Some(SuspendedErase { block, done }) = a.erase {
+        a.running = Running::Erase { block, done };
+        a.erase = None;
     }
+    a
 }
 
 // The suspended program runs, or where there is none the suspended erase.
