@@ -18,8 +18,8 @@ ghost use Rattle.semantics.specs.Split.{step_refusal, first_refusal};
 use geometry::Part;
 use refusal::Refusal;
 use semantics::{
-    Activity, Bank, Control, Flags, Mode, Place, Running, Setup, State, Step,
-    SuspendedProgram, View,
+    Activity, Bank, Control, Flags, Mode, Place, Running, Setup, State, Step, SuspendedProgram,
+    View,
 };
 
 // ---- one field changed
