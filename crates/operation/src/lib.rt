@@ -78,61 +78,47 @@ pub fn with_running(a: Activity, r: Running) -> Activity
     Activity { running: r, ..a }
 }
 
-// What runs becomes suspended, with the words that it has done.
-pub fn suspended(a: Activity) -> Activity
+// What runs becomes suspended, with the words that it has done. (This and the next two change it in place: made anew, as
+// above, it costs a write up to four instructions more.)
+pub fn suspended(mut a: Activity) -> Activity
     ensures { result ≡ suspended a a.running }
 {
     match a.running {
-        Running::Idle => a,
-        Running::Program { location, word } => Activity {
-            running: Running::Idle,
-            program: SuspendedProgram::Program { location, word },
-            ..a
-        },
-        Running::Erase { block, done } => Activity {
-            running: Running::Idle,
-            erase: Some(SuspendedErase { block, done }),
-            ..a
-        },
-        Running::Buffer { start, words, done } => Activity {
-            running: Running::Idle,
-            program: SuspendedProgram::Buffer { start, words, done },
-            ..a
-        },
+        Running::Idle => {}
+        Running::Program { location, word } => {
+            a.program = SuspendedProgram::Program { location, word };
+        }
+        Running::Erase { block, done } => a.erase = Some(SuspendedErase { block, done }),
+        Running::Buffer { start, words, done } => {
+            a.program = SuspendedProgram::Buffer { start, words, done };
+        }
     }
+    a.running = Running::Idle;
+    a
 }
 
 // The suspended erase, if there is one, runs.
-fn resumed_erase(a: Activity) -> Activity
+fn resumed_erase(mut a: Activity) -> Activity
     ensures { result ≡ resumed_erase a a.erase }
 {
-    match a.erase {
-        None => a,
-        Some(SuspendedErase { block, done }) => Activity {
-            running: Running::Erase { block, done },
-            erase: None,
-            ..a
-        },
+    if let Some(SuspendedErase { block, done }) = a.erase {
+        a.running = Running::Erase { block, done };
+        a.erase = None;
     }
+    a
 }
 
 // The suspended program runs, or where there is none the suspended erase.
-pub fn resumed(a: Activity) -> Activity
+pub fn resumed(mut a: Activity) -> Activity
     ensures { result ≡ resumed a a.program }
 {
-    match a.program {
-        SuspendedProgram::Nothing => resumed_erase(a),
-        SuspendedProgram::Program { location, word } => Activity {
-            running: Running::Program { location, word },
-            program: SuspendedProgram::Nothing,
-            ..a
-        },
-        SuspendedProgram::Buffer { start, words, done } => Activity {
-            running: Running::Buffer { start, words, done },
-            program: SuspendedProgram::Nothing,
-            ..a
-        },
-    }
+    a.running = match a.program {
+        SuspendedProgram::Nothing => return resumed_erase(a),
+        SuspendedProgram::Program { location, word } => Running::Program { location, word },
+        SuspendedProgram::Buffer { start, words, done } => Running::Buffer { start, words, done },
+    };
+    a.program = SuspendedProgram::Nothing;
+    a
 }
 
 // A set-up is accepted.
