@@ -1,11 +1,12 @@
-// The device: one method for each of the five steps, each of which takes the device by value, with the borrowed array and the borrowed erase counts (crate wear), and gives back
-// the next device with its answer. No method asks anything of its caller: what document 01's card refuses is refused with its number, the device given back, and the array and the
-// counts left.
+// The device: one method for each of the five steps, each of which takes the device by value, with the borrowed array
+// and the borrowed erase counts (crate wear), and gives back the next device with its answer. No method asks anything
+// of its caller: what document 01's card refuses is refused so, the device given back, and the array and the counts
+// left.
 #![tactic(auto)]
 
 ghost use Rattle.std.specs.Prelude.{List, ◌≡◌, ℕ};
 ghost use Rattle.semantics.specs.State.{power_up};
-ghost use Rattle.wear.specs.Counts.{lent, no_counts};
+ghost use Rattle.wear.specs.Counts.{lent, no_counts, count_of};
 ghost use Rattle.wear.specs.Steps.{formed_with, refusal_with, reported_with, most_worn_with, erase_count_with};
 ghost use Rattle.device.specs.Outcomes.{holding, refused, outcome, array_out, counts_out};
 
@@ -15,7 +16,8 @@ use refusal::Refusal;
 use semantics::{Answer, State, Step};
 use wear::Worn;
 
-// All that a device holds is its state. (Methods stand in the crate of their struct; the definitions of the state stand in a crate without code.)
+// All that a device holds is its state. (Methods stand in the crate of their struct; the definitions of the state stand
+// in a crate without code.)
 #[derive(Clone, Copy)]
 pub struct Device {
     pub state: State,
@@ -35,11 +37,20 @@ fn formed_with(s: State, main: &[[u16; 16]; 16]) -> bool
     state::well_formed(s) & wear::shared_zero(main)
 }
 
-// What every step on them is refused for, and a reset for nothing else, beside an array of n words: its length, then the state.
+// What every step on them is refused for, and a reset for nothing else, beside an array of n words: its length, then
+// the state.
 pub fn refusal_of(s: State, main: &[[u16; 16]; 16], n: usize) -> Option<Refusal>
     ensures { (small : List ℕ) → result ≡ refusal_with s (lent main.now small) n Step.Reset }
 {
     state::refusal_beside(s.part, formed_with(s, main), n)
+}
+
+// A block with its count.
+fn worn(main: &[[u16; 16]; 16], small: &[u16; 4], block: u32) -> Worn
+    ensures { result ≡ record { block = block; count = count_of (lent main.now small.now) block } }
+{
+    let count = wear::count_of(main, small, block).into();
+    Worn { block, count }
 }
 
 // A step that is refused: nothing changes.
@@ -195,7 +206,8 @@ impl Device {
         }
     }
 
-    // How many blocks are unprotected, and the lowest of them, or 259; refused where the state or the counts are not well formed.
+    // How many blocks are unprotected, and the lowest of them, or 259; refused where the state or the counts are not
+    // well formed.
     pub fn report(self, main: &[[u16; 16]; 16], small: &[u16; 4]) -> Result<Report, Refusal>
         ensures { result ≡ reported_with self.state (lent main.now small.now) }
     {
@@ -210,7 +222,11 @@ impl Device {
     pub fn most_worn(self, main: &[[u16; 16]; 16], small: &[u16; 4]) -> Result<Worn, Refusal>
         ensures { result ≡ most_worn_with self.state (lent main.now small.now) }
     {
-        self.erase_count(main, small, wear::most_worn(main, small))
+        if formed_with(self.state, main) {
+            Ok(worn(main, small, wear::most_worn(main, small)))
+        } else {
+            Err(Refusal::Malformed)
+        }
     }
 
     // The count of a block, 0 of a number that is no block; refused as the reports above.
@@ -223,8 +239,7 @@ impl Device {
         ensures { result ≡ erase_count_with self.state (lent main.now small.now) block }
     {
         if formed_with(self.state, main) {
-            let count = wear::count_of(main, small, block).into();
-            Ok(Worn { block, count })
+            Ok(worn(main, small, block))
         } else {
             Err(Refusal::Malformed)
         }

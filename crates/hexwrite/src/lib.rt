@@ -1,10 +1,8 @@
 // Writes an array as Intel HEX into borrowed room (document 02, item 3). What the text is, is defined in the crate
-// intelhex. A private function is told that its bytes fit, so none tests a place. It puts them at a place, and gives the
-// place after them.
+// intelhex. A private function is told that its bytes fit, so none tests a place.
 #![tactic(auto)]
 
 ghost use Rattle.std.specs.Prelude.{◌≡◌, ℕ, ◌+◌, ◌*◌, ◌/◌, ◌%◌, ◌<◌, ◌≤◌, [], ◌∷◌, length};
-ghost use Rattle.printing.specs.Text.{digit_of};
 ghost use Rattle.printing.specs.Room.{placed};
 ghost use Rattle.intelhex.specs.Text.{bytes_of, upper_record, data_record, end_record, written, room_after};
 ghost use Rattle.intelhex.specs.Sizes.{text_length};

@@ -1,6 +1,6 @@
-// Intel HEX files (document 02, item 3): the type of a reading's refusal, and no function. What a record is, what a text
-// is refused for, what it makes of an array and what text an array is written as are in specs/, and the theorem that
-// reading back gives the same words is in proofs/. The code is in hexread and hexwrite.
+// Intel HEX files (document 02, item 3): the type of a reading's refusal, and no function. What a record is, what a
+// text is refused for, what it makes of an array and what text an array is written as are in specs/, and the theorem
+// that reading back gives the same words is in proofs/. The code is in hexread and hexwrite.
 #![tactic(auto)]
 
 use refusal::Refusal;

@@ -175,14 +175,15 @@ pub extern "C" fn m58_erase_count(
 // ---- Intel HEX
 
 // A line or a length. One of more than 32 bits is told as the greatest of 32 bits.
-fn told(number: usize) -> u64
+fn in_32_bits(number: usize) -> u64
     ensures value { result ≡ hex_code 0 number }
     ensures limit { result < 4294967296 }
 {
     (number as u64).min(HIGH - 1)
 }
 
-// Reads a text into a part's array, by the part's number, and answers the refusal from bit 32 and the line that decided.
+// Reads a text into a part's array, by the part's number, and answers the refusal from bit 32 and the line that
+// decided.
 #[unsafe(no_mangle)]
 pub extern "C" fn m58_hex_read(part: u32, text: &[u8], array: &mut [u16]) -> u64
     ensures value { result ≡ hex_verdict part text.now array.old }
@@ -191,8 +192,8 @@ pub extern "C" fn m58_hex_read(part: u32, text: &[u8], array: &mut [u16]) -> u64
     match Part::try_from(part) {
         Err(e) => refused(e),
         Ok(p) => match hexread::read(p, text, array) {
-            Ok(line) => told(line),
-            Err(bad) => refused(bad.refusal) + told(bad.line),
+            Ok(line) => in_32_bits(line),
+            Err(bad) => refused(bad.refusal) + in_32_bits(bad.line),
         },
     }
 }
@@ -207,7 +208,7 @@ pub extern "C" fn m58_hex_write(part: u32, array: &[u16], text: &mut [u8]) -> u6
     match Part::try_from(part) {
         Err(e) => refused(e),
         Ok(p) => match hexwrite::write(p, array, text) {
-            Ok(length) => told(length),
+            Ok(length) => in_32_bits(length),
             Err(e) => refused(e),
         },
     }

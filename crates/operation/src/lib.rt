@@ -78,8 +78,8 @@ pub fn with_running(a: Activity, r: Running) -> Activity
     Activity { running: r, ..a }
 }
 
-// What runs becomes suspended, with the words that it has done. (This and the next two change it in place: made anew, as
-// above, it costs a write up to four instructions more.)
+// What runs becomes suspended, with the words that it has done. (This and the next two change it in place: made anew,
+// as above, it costs a write up to four instructions more.)
 pub fn suspended(mut a: Activity) -> Activity
     ensures { result ≡ suspended a a.running }
 {

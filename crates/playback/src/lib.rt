@@ -1,5 +1,5 @@
-// A list of encoded steps played on a device, its borrowed erase counts and a borrowed array, with the answers written into borrowed room. Demand 3 stands in its contract, and the
-// counts' theorem beside it.
+// A list of encoded steps played on a device, its borrowed erase counts and a borrowed array, with the answers written
+// into borrowed room. Demand 3 stands in its contract, and the counts' theorem beside it.
 #![tactic(auto)]
 
 ghost use Rattle.std.specs.Prelude.{List, ◌≡◌, ℕ};
@@ -17,8 +17,7 @@ ghost use Rattle.playback.specs.Reads.{few_reads};
 use device::Device;
 use geometry::Part;
 use refusal::Refusal;
-use semantics::{Activity, Answer, Bank, Control, Mode, Place, Running, Setup, State, Step, View};
-use working::Progress;
+use semantics::{Activity, Answer, Bank, Control, Mode, Place, State, Step, View};
 use writing::Change;
 
 // How many steps were played, and the device after them.
@@ -28,8 +27,8 @@ pub struct RunEnd {
     pub device: Device,
 }
 
-// What a number asks of a list: its end, where it encodes no step; a refusal; or a step that is not refused, a write with
-// the place that it names. (One enum: as an Option of a Result it would be three matches in the loop.)
+// What a number asks of a list: its end, where it encodes no step; a refusal; or a step that is not refused, a write
+// with the place that it names. (One enum: as an Option of a Result it would be three matches in the loop.)
 #[derive(Clone, Copy)]
 pub enum Task {
     End,
@@ -117,8 +116,8 @@ fn settled(c: Control, v: View) -> Control
     }
 }
 
-// Whether there are at most eight numbers, each of which encodes a read: then the state after them is the state before them (`reads_leave` of specs/Reads). Of a longer list, what it
-// costs to save the state is little beside the steps.
+// Whether there are at most eight numbers, each of which encodes a read: then the state after them is the state before
+// them (`reads_leave` of specs/Reads). Of a longer list, what it costs to save the state is little beside the steps.
 pub fn few_reads(steps: &[u64]) -> bool
     ensures { result ≡ few_reads steps.now }
 {
@@ -126,7 +125,7 @@ pub fn few_reads(steps: &[u64]) -> bool
 }
 
 // A list on a device that is refused whatever the step is: each number that encodes a step is answered by that refusal,
-// up to the first that encodes none. How many there are. (The answers by index, here and in `run`: of what an iterator
+// up to the first that encodes none. How many there are. (By places, here and in `run`: of what `zip` over two slices
 // writes a proof knows nothing.)
 fn refuse(refused: Refusal, steps: &[u64], answers: &mut [u64]) -> usize
     ensures { (s : State) (k : Counts) (xs : List ℕ) → Held (Some refused) s k xs → Played (holding s) k steps.now answers.old xs (record { played = result; device = holding s }) k answers.new xs }
@@ -141,9 +140,10 @@ fn refuse(refused: Refusal, steps: &[u64], answers: &mut [u64]) -> usize
     n
 }
 
-// Plays the steps that the numbers encode, one after the other, and writes the answer of each into its place of the room; stops at the first number that
-// encodes no step, and where the room ends. A list goes on with the device that is given back. What is refused whatever the step is, is tested once; the
-// pieces of the state stand apart, so that the compiler keeps the control in registers, and each is changed where it stands.
+// Plays the steps that the numbers encode, one after the other, and writes the answer of each into its place of the
+// room; stops at the first number that encodes no step, and where the room ends. A list goes on with the device that is
+// given back. What is refused whatever the step is, is tested once; the pieces of the state stand apart, so that the
+// compiler keeps the control in registers, and each is changed where it stands.
 pub fn run(
     device: Device,
     main: &mut [[u16; 16]; 16],

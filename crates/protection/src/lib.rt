@@ -1,6 +1,7 @@
-// The protection of the 259 blocks of a part, one bit for each block in five words: bit b % 64 of word b / 64 is 1 where
-// block b is unprotected, so all blocks are protected where all words are zero. The 61 bits after block 258 are spare.
-// Every function takes any words and any number. It is not the device: nothing here says when a block is protected.
+// The protection of the 259 blocks of a part, one bit for each block in five words: bit b % 64 of word b / 64 is 1
+// where block b is unprotected, so all blocks are protected where all words are zero. The 61 bits after block 258 are
+// spare. Every function takes any words and any number. It is not the device: nothing here says when a block is
+// protected.
 #![tactic(auto)]
 
 ghost use Rattle.std.specs.Prelude.{◌≡◌};

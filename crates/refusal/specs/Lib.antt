@@ -1,2 +1,3 @@
 -- The modules of the specification.
+pub mod NumberCases
 pub mod Numbers

@@ -1,4 +1,5 @@
-// Why a request is refused: the rows of document 01's refusal card, and what document 02 adds to it. Each has the number that the papers give it.
+// Why a request is refused: the rows of document 01's refusal card, and what document 02 adds to it. Each has the
+// number that the papers give it.
 #![tactic(auto)]
 
 ghost use Rattle.std.specs.Prelude.{◌≡◌};

@@ -98,8 +98,8 @@ impl Lent<'_> {
         }
     }
 
-    // Plays the lines of a script one after the other. The reader keeps the script and the place in it: document 01 names
-    // this form.
+    // Plays the lines of a script one after the other. The reader keeps the script and the place in it: document 01
+    // names this form.
     fn play_lines(&mut self, script: &[u8], mut p: Progress) -> Progress
         requires { Begun script.now p (lent self.old.main.now self.old.small.now) }
         ensures same { SameLent self.old self.new }

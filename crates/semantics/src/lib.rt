@@ -1,5 +1,6 @@
-// What a device holds (document 01, "What a device holds"), the five steps, and their answers: the types, and no function. What the
-// steps mean and the journal are in specs/, and the theorem that ties the two is in proofs/. The code is in the crates above this one.
+// What a device holds (document 01, "What a device holds"), the five steps, and their answers: the types, and no
+// function. What the steps mean and the journal are in specs/, and the theorem that ties the two is in proofs/. The
+// code is in the crates above this one.
 #![tactic(auto)]
 
 use geometry::Part;
@@ -19,11 +20,10 @@ pub struct Bank {
     pub mode: Mode,
 }
 
-// The pending set-up: of a command that has two cycles the first; of a buffer program (document 02, item 1) its load, as far as it has come. Of the load its count is
-// due, with the block that was addressed; or its first data cycle, with the number of its words; or so many further data cycles, and where `due` is 0 the
-// confirming cycle, with the location that the words start at.
-// (Nothing is a variant here, in what runs and in a suspended program: an Option around an enum is a second tag, which
-// each step would test and carry; DECISIONS 65 has the figures.)
+// The pending set-up: of a command that has two cycles the first; of a buffer program (document 02, item 1) its load,
+// as far as it has come. Of the load its count is due, with the block that was addressed; or its first data cycle, with
+// the number of its words; or so many further data cycles, and where `due` is 0 the confirming cycle, with the location
+// that the words start at. (Nothing is one of the set-ups, as document 01 lists them.)
 #[derive(Clone, Copy)]
 pub enum Setup {
     Nothing,
@@ -35,9 +35,9 @@ pub enum Setup {
     BufferWords { start: u32, words: u32, due: u32 },
 }
 
-// The operation that runs: a program with its location and data, an erase with its block and the words that it has done, or a buffer program with the
-// location that its words start at, their number, and how many it has done. The words themselves stand in the buffer.
-// (A struct of a buffer program's three numbers, for the three enums that have them, would be a name more at each match.)
+// The operation that runs: a program with its location and data, an erase with its block and the words that it has
+// done, or a buffer program with the location that its words start at, their number, and how many it has done. The
+// words themselves stand in the buffer.
 #[derive(Clone, Copy)]
 pub enum Running {
     Idle,
@@ -78,7 +78,8 @@ pub struct Flags {
     pub sr1: bool,
 }
 
-// What is held once, and not for each bank or block: what is under way, the flags, the configuration register, and whether the supply (VPP) is on.
+// What is held once, and not for each bank or block: what is under way, the flags, the configuration register, and
+// whether the supply (VPP) is on.
 #[derive(Clone, Copy)]
 pub struct Control {
     pub activity: Activity,
@@ -87,8 +88,8 @@ pub struct Control {
     pub supply: bool,
 }
 
-// `unprotected`: bit b % 64 of word b / 64 is 1 where block b is unprotected (document 01: open). `buffer`: the words of a load, or of a buffer program, from the
-// lowest location up; a place that is not in use is 0.
+// `unprotected`: bit b % 64 of word b / 64 is 1 where block b is unprotected (document 01: open). `buffer`: the words
+// of a load, or of a buffer program, from the lowest location up; a place that is not in use is 0.
 #[derive(Clone, Copy)]
 pub struct State {
     pub part: Part,
@@ -107,8 +108,8 @@ pub struct Place {
     pub block: u32,
 }
 
-// What a read or a write at a place sees of a state, and a write may change: of the modes that of the addressed bank, of the protection that of the addressed block. The
-// buffer, which only the cycles of a load change, is not among it.
+// What a read or a write at a place sees of a state, and a write may change: of the modes that of the addressed bank,
+// of the protection that of the addressed block. The buffer, which only the cycles of a load change, is not among it.
 #[derive(Clone, Copy)]
 pub struct View {
     pub mode: Mode,
@@ -123,7 +124,8 @@ pub struct Worked {
     pub units: u32,
 }
 
-// One of the five steps: read an address; write a word to an address; work up to so many units; switch the supply; reset.
+// One of the five steps: read an address; write a word to an address; work up to so many units; switch the supply;
+// reset.
 #[derive(Clone, Copy)]
 pub enum Step {
     Read(u32),
@@ -133,8 +135,9 @@ pub enum Step {
     Reset,
 }
 
-// What a step answers: a word that was read, the units that were done, that it was done, or why it is refused: a row of document 01's card.
-// (Not a Result: document 01 gives each of the four kinds its number and its value, `number_of` and `value_of`.)
+// What a step answers: a word that was read, the units that were done, that it was done, or why it is refused: a row of
+// document 01's card. (Not a Result: document 01 gives each of the four kinds its number and its value, `number_of` and
+// `value_of`.)
 #[derive(Clone, Copy)]
 pub enum Answer {
     Word(u16),

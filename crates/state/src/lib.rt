@@ -171,8 +171,8 @@ pub fn end_running(c: Control, buffer: &mut [u16; 32]) -> Control
     ended(c)
 }
 
-// The supply switched on or off: off ends what runs. (A supply step of a list takes 31 instructions so, and 66 where the
-// `if` is the value.)
+// The supply switched on or off: off ends what runs. (A supply step of a list takes 31 instructions so, and 66 where
+// the `if` is the value.)
 #[tactic(auto, using(semantics::proofs::Spare::buffer_on), unfolding(semantics::specs::Supply::switched, semantics::specs::Supply::ended_if_unsupplied, semantics::specs::Supply::ended))]
 pub fn switch_supply(mut c: Control, on: bool, buffer: &mut [u16; 32]) -> Control
     ensures control { result ≡ switched c on }

@@ -1,6 +1,7 @@
-// The erase counts of the blocks (document 02, item 6), in memory that is lent: an array of arrays by bank and place, beside the four counts of the small blocks. Each function
-// takes every count and number. What they mean is in specs/. (The two are no struct: C hands them over as two pointers, for a report to what
-// stays and for a run to what may change.)
+// The erase counts of the blocks (document 02, item 6), in memory that is lent: an array of arrays by bank and place,
+// beside the four counts of the small blocks. Each function takes every count and number. What they mean is in specs/.
+// (The two are no struct: C hands them over as two pointers, for a report to what stays and for a run to what may
+// change.)
 #![tactic(auto)]
 
 ghost use Rattle.std.specs.Prelude.{◌≡◌};

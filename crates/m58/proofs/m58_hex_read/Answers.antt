@@ -16,10 +16,10 @@ pub returns-in-Ok-read : goal.returns-in-Ok-read
 unfolding hex_verdict hex_array
 returns-in-Ok-read c =
     let q = part_ok _ c.try_from.ensures c.in-Ok.is in
-    record { value = rw (q.0, q.1, sym c.read.ensures.value ∙ c.in-Ok-read.is) c.told.ensures.value; array = rw (q.0, q.1) c.read.ensures.array }
+    record { value = rw (q.0, q.1, sym c.read.ensures.value ∙ c.in-Ok-read.is) c.in_32_bits.ensures.value; array = rw (q.0, q.1) c.read.ensures.array }
 
 pub returns-in-Err-read : goal.returns-in-Err-read
 unfolding hex_verdict hex_array
 returns-in-Err-read c =
     let q = part_ok _ c.try_from.ensures c.in-Ok.is in
-    record { value = rw (q.0, q.1, sym c.read.ensures.value ∙ c.in-Err-read.is) (omega (arith, c.refused-in-Err-read.ensures, c.told-in-Err-read.ensures.value)); array = rw (q.0, q.1) c.read.ensures.array }
+    record { value = rw (q.0, q.1, sym c.read.ensures.value ∙ c.in-Err-read.is) (omega (arith, c.refused-in-Err-read.ensures, c.in_32_bits-in-Err-read.ensures.value)); array = rw (q.0, q.1) c.read.ensures.array }

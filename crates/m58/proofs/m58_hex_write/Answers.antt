@@ -16,7 +16,7 @@ pub returns-in-Ok-write : goal.returns-in-Ok-write
 unfolding hex_written hex_room
 returns-in-Ok-write c =
     let q = part_ok _ c.try_from.ensures c.in-Ok.is in
-    record { value = rw (q.0, q.1, sym c.write.ensures.value ∙ c.in-Ok-write.is) c.told.ensures.value; text = rw (q.0, q.1) c.write.ensures.text }
+    record { value = rw (q.0, q.1, sym c.write.ensures.value ∙ c.in-Ok-write.is) c.in_32_bits.ensures.value; text = rw (q.0, q.1) c.write.ensures.text }
 
 pub returns-in-Err-write : goal.returns-in-Err-write
 unfolding hex_written hex_room

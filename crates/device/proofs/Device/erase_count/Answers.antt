@@ -4,7 +4,7 @@ use Rattle.device.proofs.Device.erase_count.Goals as goal
 
 pub returns-then-formed_with : goal.returns-then-formed_with
 unfolding erase_count_with
-returns-then-formed_with c = rw (← c.formed_with.ensures _, c.if-formed_with.true, c.into-count.ensures, c.count_of.ensures)
+returns-then-formed_with c = rw (← c.formed_with.ensures _, c.if-formed_with.true, c.worn.ensures)
 
 pub returns-else-formed_with : goal.returns-else-formed_with
 unfolding erase_count_with
