@@ -27,11 +27,12 @@ impl Record {
         requires { at + 9 ≤ length text.old }
         ensures { Begun text.old at (count ∷ offset / 256 ∷ offset % 256 ∷ kind ∷ []) text.new result }
     {
+        let [high, low] = offset.to_be_bytes();
         text[at] = b':';
         Record { at: at + 1, sum: 0 }
             .put_byte(text, count)
-            .put_byte(text, (offset / 256) as u8)
-            .put_byte(text, (offset % 256) as u8)
+            .put_byte(text, high)
+            .put_byte(text, low)
             .put_byte(text, kind)
     }
 
@@ -53,8 +54,7 @@ impl Record {
         requires { self.at + 4 ≤ length text.old }
         ensures { Added text.old self (bytes_of (word ∷ [])) text.new result }
     {
-        let low = (word % 256) as u8;
-        let high = (word / 256) as u8;
+        let [low, high] = word.to_le_bytes();
         self.put_byte(text, low).put_byte(text, high)
     }
 
@@ -86,9 +86,10 @@ fn put_upper(text: &mut [u8], at: usize, upper: u16) -> usize
     ensures value { result ≡ at + 16 }
     ensures text { text.new ≡ placed text.old at (upper_record upper) }
 {
+    let [high, low] = upper.to_be_bytes();
     Record::begin(text, at, 2, 0, 4)
-        .put_byte(text, (upper / 256) as u8)
-        .put_byte(text, (upper % 256) as u8)
+        .put_byte(text, high)
+        .put_byte(text, low)
         .end(text)
 }
 
