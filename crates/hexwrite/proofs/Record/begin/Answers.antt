@@ -9,4 +9,4 @@ returns c =
     let first = begun_then colon c.put_byte.ensures (omega arith) in
     let second = begun_then first c.put_byte-2.ensures (omega arith) in
     let third = begun_then second c.put_byte-3.ensures (omega arith) in
-    rw (c.to_be_bytes.ensures ∙ high_first c.args.offset (omega arith)) at (begun_then third c.put_byte-4.ensures (omega arith))
+    rw (c.to_be_bytes.ensures ∙ high_first c.args.offset (omega arith), c.into.ensures) at (begun_then third c.put_byte-4.ensures (omega arith))
