@@ -4,7 +4,7 @@
 // left.
 #![tactic(auto)]
 
-ghost use Rattle.std.specs.Prelude.{List, ◌≡◌, ℕ};
+ghost use Rattle.std.specs.Prelude.{List, ◌≡◌, ℕ, true, false, MatchResult};
 ghost use Rattle.semantics.specs.State.{power_up};
 ghost use Rattle.wear.specs.Counts.{lent, no_counts, count_of};
 ghost use Rattle.wear.specs.Steps.{formed_with, refusal_with, reported_with, most_worn_with, erase_count_with};
@@ -51,6 +51,17 @@ fn worn(main: &[[u16; 16]; 16], small: &[u16; 4], block: u32) -> Worn
 {
     let count = wear::count_of(main, small, block).into();
     Worn { block, count }
+}
+
+// What a report is refused for.
+fn tested(s: State, main: &[[u16; 16]; 16]) -> Result<(), Refusal>
+    ensures { (small : List ℕ) → MatchResult result (λ _. formed_with s (lent main.now small) ≡ true) (λ e. (formed_with s (lent main.now small) ≡ false) × (e ≡ Refusal.Malformed)) }
+{
+    if formed_with(s, main) {
+        Ok(())
+    } else {
+        Err(Refusal::Malformed)
+    }
 }
 
 // A step that is refused: nothing changes.
@@ -211,22 +222,16 @@ impl Device {
     pub fn report(self, main: &[[u16; 16]; 16], small: &[u16; 4]) -> Result<Report, Refusal>
         ensures { result ≡ reported_with self.state (lent main.now small.now) }
     {
-        if formed_with(self.state, main) {
-            Ok(protection::report_of(self.state.unprotected))
-        } else {
-            Err(Refusal::Malformed)
-        }
+        tested(self.state, main)?;
+        Ok(protection::report_of(self.state.unprotected))
     }
 
     // The most worn block, the lowest of them on a tie, and its count; refused as the report above.
     pub fn most_worn(self, main: &[[u16; 16]; 16], small: &[u16; 4]) -> Result<Worn, Refusal>
         ensures { result ≡ most_worn_with self.state (lent main.now small.now) }
     {
-        if formed_with(self.state, main) {
-            Ok(worn(main, small, wear::most_worn(main, small)))
-        } else {
-            Err(Refusal::Malformed)
-        }
+        tested(self.state, main)?;
+        Ok(worn(main, small, wear::most_worn(main, small)))
     }
 
     // The count of a block, 0 of a number that is no block; refused as the reports above.
@@ -238,10 +243,7 @@ impl Device {
     ) -> Result<Worn, Refusal>
         ensures { result ≡ erase_count_with self.state (lent main.now small.now) block }
     {
-        if formed_with(self.state, main) {
-            Ok(worn(main, small, block))
-        } else {
-            Err(Refusal::Malformed)
-        }
+        tested(self.state, main)?;
+        Ok(worn(main, small, block))
     }
 }

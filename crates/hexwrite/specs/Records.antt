@@ -1,6 +1,9 @@
 -- What the private functions leave in the room, up to a whole record, and the laws that join it. Assumes nothing.
-use Rattle.std.specs.Prelude.{◌≡◌, ℕ, ◌+◌, ◌-◌, ◌*◌, ◌%◌, ◌<◌, ◌≤◌, List, [], ◌∷◌, ◌++◌, length, slice_set, refl}
-use Rattle.std.proofs.Common.{append_assoc, sym, ◌∙◌, arith, length-set, length-append}
+use Rattle.std.specs.Prelude.{◌≡◌, ℕ, ◌+◌, ◌-◌, ◌*◌, ◌/◌, ◌%◌, ◌<◌, ◌≤◌, List, [], ◌∷◌, ◌++◌, length, slice_set, refl}
+use Rattle.std.specs.Int.{w16, to_le_bytes, to_be_bytes}
+use Rattle.std.proofs.Common.{append_assoc, sym, ◌∙◌, ap, arith, length-set, length-append}
+use Rattle.hexwrite.specs.declared.Kind.{Kind}
+use Rattle.hexwrite.specs.declared.Kind.TheVariants.{Data, End, Upper}
 use Rattle.hexwrite.specs.declared.Record.{Record}
 use Rattle.printing.specs.Room.{placed, advanced, advanced_in, placed_append, placed_length, placed_none, put_in}
 use Rattle.printing.specs.Room.{put_then}
@@ -8,6 +11,12 @@ use Rattle.intelhex.specs.Records.{total}
 use Rattle.intelhex.specs.Text.{digits_of, check_of, record_text}
 use Rattle.intelhex.specs.Sizes.{length_digits_of}
 use Rattle.intelhex.proofs.Bytes.{total_append}
+
+-- the type of a record of each kind
+abbrev pub type_of : Kind → ℕ
+type_of Data = 0
+type_of End = 1
+type_of Upper = 4
 
 -- bytes put in digits at the place of a record that is begun, and added to its sum, which is a byte, as it wraps at 256
 pub record Added (before : List ℕ) (r : Record) (bytes : List ℕ) (after : List ℕ) (next : Record) : Type 0 where
@@ -24,6 +33,14 @@ pub record Begun (before : List ℕ) (at : ℕ) (bytes : List ℕ) (after : List
 -- what ends a record whose bytes come to that sum: the check byte, and LF
 unfoldable pub ended : ℕ → List ℕ
 ended sum = digits_of ((256 - sum) % 256 ∷ []) ++ (10 ∷ [])
+
+-- ---- a word's two bytes
+
+pub high_first : (n : ℕ) → n < 65536 → to_be_bytes w16 n ≡ n / 256 ∷ n % 256 ∷ []
+high_first n h = let e : n / 256 % 256 ≡ n / 256 = omega arith in ap (λ (high : ℕ). high ∷ n % 256 ∷ []) e
+
+pub low_first : (n : ℕ) → n < 65536 → to_le_bytes w16 n ≡ n % 256 ∷ n / 256 ∷ []
+low_first n h = let e : n / 256 % 256 ≡ n / 256 = omega arith in ap (λ (high : ℕ). n % 256 ∷ high ∷ []) e
 
 -- ---- bytes put after others
 

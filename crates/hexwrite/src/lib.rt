@@ -6,12 +6,28 @@ ghost use Rattle.std.specs.Prelude.{◌≡◌, ℕ, ◌+◌, ◌*◌, ◌/◌, �
 ghost use Rattle.printing.specs.Room.{placed};
 ghost use Rattle.intelhex.specs.Text.{bytes_of, upper_record, data_record, end_record, written, room_after};
 ghost use Rattle.intelhex.specs.Sizes.{text_length};
-ghost use Rattle.hexwrite.specs.Records.{Added, Begun, ended};
+ghost use Rattle.hexwrite.specs.Records.{type_of, Added, Begun, ended};
 ghost use Rattle.hexwrite.specs.Texts.{sixteen_of, plain_text};
 
 use geometry::Part;
 use printing::digit;
 use refusal::Refusal;
+
+// What a record is, by the type that is written for it.
+#[derive(Clone, Copy)]
+enum Kind {
+    Data = 0,
+    End = 1,
+    Upper = 4,
+}
+
+impl From<Kind> for u8 {
+    ghost from_gives = { λ kind byte. byte ≡ type_of kind };
+
+    fn from(kind: Kind) -> u8 {
+        kind as u8
+    }
+}
 
 // A record that is begun: the place of its next byte, and the sum of its bytes so far, as it wraps at 256. The room is
 // not one of its fields: a struct that holds it would have to say in each method that it is the same room.
@@ -22,17 +38,18 @@ struct Record {
 }
 
 impl Record {
-    // A colon, and a record's first four bytes: its kind is the byte that is written.
-    fn begin(text: &mut [u8], at: usize, count: u8, offset: u16, kind: u8) -> Record
+    // A colon, and a record's first four bytes.
+    fn begin(text: &mut [u8], at: usize, count: u8, offset: u16, kind: Kind) -> Record
         requires { at + 9 ≤ length text.old }
-        ensures { Begun text.old at (count ∷ offset / 256 ∷ offset % 256 ∷ kind ∷ []) text.new result }
+        ensures { Begun text.old at (count ∷ offset / 256 ∷ offset % 256 ∷ type_of kind ∷ []) text.new result }
     {
+        let [high, low] = offset.to_be_bytes();
         text[at] = b':';
         Record { at: at + 1, sum: 0 }
             .put_byte(text, count)
-            .put_byte(text, (offset / 256) as u8)
-            .put_byte(text, (offset % 256) as u8)
-            .put_byte(text, kind)
+            .put_byte(text, high)
+            .put_byte(text, low)
+            .put_byte(text, kind.into())
     }
 
     // A byte in two digits.
@@ -53,8 +70,7 @@ impl Record {
         requires { self.at + 4 ≤ length text.old }
         ensures { Added text.old self (bytes_of (word ∷ [])) text.new result }
     {
-        let low = (word % 256) as u8;
-        let high = (word / 256) as u8;
+        let [low, high] = word.to_le_bytes();
         self.put_byte(text, low).put_byte(text, high)
     }
 
@@ -86,9 +102,10 @@ fn put_upper(text: &mut [u8], at: usize, upper: u16) -> usize
     ensures value { result ≡ at + 16 }
     ensures text { text.new ≡ placed text.old at (upper_record upper) }
 {
-    Record::begin(text, at, 2, 0, 4)
-        .put_byte(text, (upper / 256) as u8)
-        .put_byte(text, (upper % 256) as u8)
+    let [high, low] = upper.to_be_bytes();
+    Record::begin(text, at, 2, 0, Kind::Upper)
+        .put_byte(text, high)
+        .put_byte(text, low)
         .end(text)
 }
 
@@ -99,7 +116,7 @@ fn put_data(text: &mut [u8], at: usize, offset: u16, words: &[u16]) -> usize
     ensures value { result ≡ at + 44 }
     ensures text { text.new ≡ placed text.old at (data_record offset (bytes_of words.now)) }
 {
-    Record::begin(text, at, 16, offset, 0)
+    Record::begin(text, at, 16, offset, Kind::Data)
         .put_words(text, words)
         .end(text)
 }
@@ -109,7 +126,7 @@ fn put_end(text: &mut [u8], at: usize)
     requires { at + 12 ≤ length text.old }
     ensures { text.new ≡ placed text.old at end_record }
 {
-    Record::begin(text, at, 0, 0, 1).end(text);
+    Record::begin(text, at, 0, 0, Kind::End).end(text);
 }
 
 // The records of the sixteen bytes of number k: a 04 record where 65,536 bytes begin, and their own.

@@ -4,7 +4,7 @@
 // bits (crate playback). A part, a refusal and an answer of several fields are numbers here, since C takes no enum.
 #![tactic(auto)]
 
-ghost use Rattle.std.specs.Prelude.{◌≡◌, ◌*◌, ◌<◌};
+ghost use Rattle.std.specs.Prelude.{◌≡◌, ◌+◌, ◌*◌, ◌<◌};
 ghost use Rattle.geometry.specs.Blocks.{lookup_of, number_in, block_in, bank_in};
 ghost use Rattle.refusal.specs.Numbers.{number};
 ghost use Rattle.semantics.specs.Reading.{bit_if};
@@ -134,15 +134,21 @@ fn device_in(state: &[u64]) -> Device
     device_of(saved::found_in(state))
 }
 
+// A count from bit 16, and a block below it.
+fn count_and_block(count: u32, block: u32) -> u64
+    ensures { result ≡ count * 65536 + block }
+{
+    u64::from(count) * 65536 + u64::from(block)
+}
+
 // How many blocks are unprotected, and the lowest of them, in one number.
 #[unsafe(no_mangle)]
 pub extern "C" fn m58_report(state: &[u64], main: &[[u16; 16]; 16], small: &[u16; 4]) -> u64
     ensures { result ≡ report_code (reported_with (state_of state.now) (lent main.now small.now)) }
 {
-    match device_in(state).report(main, small) {
-        Ok(told) => u64::from(told.count) * 65536 + u64::from(told.lowest),
-        Err(e) => refused(e),
-    }
+    device_in(state)
+        .report(main, small)
+        .map_or_else(refused, |told| count_and_block(told.count, told.lowest))
 }
 
 // The most worn block, the lowest of them on a tie, and its count, in one number.
@@ -150,10 +156,9 @@ pub extern "C" fn m58_report(state: &[u64], main: &[[u16; 16]; 16], small: &[u16
 pub extern "C" fn m58_most_worn(state: &[u64], main: &[[u16; 16]; 16], small: &[u16; 4]) -> u64
     ensures { result ≡ worn_code (most_worn_with (state_of state.now) (lent main.now small.now)) }
 {
-    match device_in(state).most_worn(main, small) {
-        Ok(told) => u64::from(told.count) * 65536 + u64::from(told.block),
-        Err(e) => refused(e),
-    }
+    device_in(state)
+        .most_worn(main, small)
+        .map_or_else(refused, |told| count_and_block(told.count, told.block))
 }
 
 // The count of a block, in one number with the refusal.
@@ -166,10 +171,9 @@ pub extern "C" fn m58_erase_count(
 ) -> u64
     ensures { result ≡ count_code (erase_count_with (state_of state.now) (lent main.now small.now) block) }
 {
-    match device_in(state).erase_count(main, small, block) {
-        Ok(told) => told.count.into(),
-        Err(e) => refused(e),
-    }
+    device_in(state)
+        .erase_count(main, small, block)
+        .map_or_else(refused, |told| told.count.into())
 }
 
 // ---- Intel HEX

@@ -1,6 +1,6 @@
 -- `hexwrite::Record::begin` meets its contract: the colon and four bytes, one after the other. Assumes nothing.
-use Rattle.std.proofs.Common.{arith}
-use Rattle.hexwrite.specs.Records.{begun_none, begun_then}
+use Rattle.std.proofs.Common.{◌∙◌, arith}
+use Rattle.hexwrite.specs.Records.{high_first, begun_none, begun_then}
 use Rattle.hexwrite.proofs.Record.begin.Goals as goal
 
 pub returns : goal.returns
@@ -9,4 +9,4 @@ returns c =
     let first = begun_then colon c.put_byte.ensures (omega arith) in
     let second = begun_then first c.put_byte-2.ensures (omega arith) in
     let third = begun_then second c.put_byte-3.ensures (omega arith) in
-    begun_then third c.put_byte-4.ensures (omega arith)
+    rw (c.to_be_bytes.ensures ∙ high_first c.args.offset (omega arith), c.into.ensures) at (begun_then third c.put_byte-4.ensures (omega arith))
