@@ -4,10 +4,10 @@
 -- Assumes nothing.
 use Rattle.std.specs.Prelude.{ℕ, ◌*◌, Bool, true, not, ◌&&◌, List, [], ◌∷◌, map, ◌≡◌, refl, T, eqb, length, replicate, Ok, Err}
 use Rattle.refusal.specs.declared.Refusal.{Refusal}
-use Rattle.refusal.specs.declared.Refusal.TheVariants.{ArrayLength, Malformed}
+use Rattle.refusal.specs.declared.Refusal.TheVariants.{ArrayLength, Malformed, NoPart}
 use Rattle.geometry.specs.declared.Part.{Part}
 use Rattle.geometry.specs.declared.Part.TheVariants.{FullBottom, FullTop, BenchBottom, BenchTop}
-use Rattle.geometry.specs.Blocks.{size_of, start_from, start_of}
+use Rattle.geometry.specs.Blocks.{size_of, start_from, start_of, part_named}
 use Rattle.semantics.specs.State.{power_up}
 use Rattle.wear.specs.Counts.{Counts, no_counts}
 use Rattle.intelhex.specs.Records.{verdict, verdict_number, verdict_line, array_read}
@@ -105,6 +105,13 @@ no_part =
 pub power_hold : T (every_power power) × T no_part
 unfolding powers_up powered_up hex_verdict hex_written hex_array hex_room
 power_hold = (tt, tt)
+
+-- ---- the part that a number names
+
+-- "the part as 0 to 3 (full bottom, full top, bench bottom, bench top)"; 7 "part number above 3"
+pub named_hold : map part_named (0 ∷ 1 ∷ 2 ∷ 3 ∷ 4 ∷ 5 ∷ 4294967295 ∷ [])
+    ≡ Ok FullBottom ∷ Ok FullTop ∷ Ok BenchBottom ∷ Ok BenchTop ∷ Err NoPart ∷ Err NoPart ∷ Err NoPart ∷ []
+named_hold = refl
 
 -- ---- what is told of each part, by its number
 
