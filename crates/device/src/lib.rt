@@ -97,7 +97,10 @@ impl Device {
         ensures { result ≡ outcome self (lent main.now small.now) array.now (Step.Read address) }
     {
         let s = self.state;
-        let refusal = refusal_of(s, main, array.len()).or(state::address_refusal(s.part, address));
+        let refusal = state::first_refusal(
+            refusal_of(s, main, array.len()),
+            state::address_refusal(s.part, address),
+        );
         if let Some(e) = refusal {
             return refused(self, e);
         }
@@ -119,7 +122,10 @@ impl Device {
         ensures { result ≡ outcome self (lent main.now small.now) array.now (Step.Write address word) }
     {
         let s = self.state;
-        let refusal = refusal_of(s, main, array.len()).or(state::address_refusal(s.part, address));
+        let refusal = state::first_refusal(
+            refusal_of(s, main, array.len()),
+            state::address_refusal(s.part, address),
+        );
         if let Some(e) = refusal {
             return refused(self, e);
         }
@@ -144,7 +150,10 @@ impl Device {
         ensures counts { lent main.new small.new ≡ counts_out self (lent main.old small.old) array.old (Step.Work count) }
     {
         let s = self.state;
-        let refusal = refusal_of(s, main, array.len()).or(state::count_refusal(count));
+        let refusal = state::first_refusal(
+            refusal_of(s, main, array.len()),
+            state::count_refusal(count),
+        );
         if let Some(e) = refusal {
             return refused(self, e);
         }

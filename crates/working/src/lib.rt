@@ -41,7 +41,7 @@ fn and_word(array: &mut [u16], at: usize, word: u16)
 fn fill(array: &mut [u16], from: usize, to: usize)
     ensures { array.new ≡ filled array.old from to }
 {
-    for i in from..to.min(array.len()) {
+    for i in from..least(to, array.len()) {
         array[i] = 0xffff;
     }
 }
@@ -52,7 +52,7 @@ fn fill(array: &mut [u16], from: usize, to: usize)
 fn and_run(array: &mut [u16], start: u32, buffer: &[u16], from: usize, to: usize)
     ensures { array.new ≡ anded_run array.old start buffer.now from to }
 {
-    for at in from..to.min(buffer.len()) {
+    for at in from..least(to, buffer.len()) {
         and_word(array, start as usize + at, buffer[at]);
     }
 }

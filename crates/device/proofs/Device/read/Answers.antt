@@ -7,7 +7,7 @@ use Rattle.device.proofs.Device.read.Goals as goal
 
 pub returns : goal.returns
 unfolding accepted
-returns c = rw c.read_word.ensures (outcome_accepted _ _ _ (Read _) _ _ _ (c.refusal_of.ensures _) c.address_refusal.ensures c.or-refusal.ensures (none_left _ c.in_default.not-Some))
+returns c = rw c.read_word.ensures (outcome_accepted _ _ _ (Read _) _ _ _ (c.refusal_of.ensures _) c.address_refusal.ensures c.first_refusal-refusal.ensures (none_left _ c.in_default.not-Some))
 
 pub returns-in-Some : goal.returns-in-Some
-returns-in-Some c = c.refused.ensures ∙ outcome_refused _ _ _ (Read _) _ _ _ (c.refusal_of.ensures _) c.address_refusal.ensures c.or-refusal.ensures _ c.in-Some.is
+returns-in-Some c = c.refused.ensures ∙ outcome_refused _ _ _ (Read _) _ _ _ (c.refusal_of.ensures _) c.address_refusal.ensures c.first_refusal-refusal.ensures _ c.in-Some.is

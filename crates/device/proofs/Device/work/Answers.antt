@@ -13,12 +13,12 @@ returns c =
     let w = c.work-worked.ensures in
     let s = c.refusal_of.ensures _ in
     let n = c.count_refusal.ensures _ in
-    let e = c.or-refusal.ensures in
+    let e = c.first_refusal-refusal.ensures in
     let t = none_left _ c.in_default.not-Some in record { outcome = rw (w.buffer, w.worked) (outcome_accepted _ _ _ (Work _) _ _ _ s n e t); array = w.array ∙ array_accepted _ _ _ (Work _) _ _ _ s n e t; counts = c.count_finished.ensures ∙ rw w.worked (counts_accepted _ _ _ (Work _) _ _ _ s n e t) }
 
 pub returns-in-Some : goal.returns-in-Some
 returns-in-Some c =
     let s = c.refusal_of.ensures _ in
     let n = c.count_refusal.ensures _ in
-    let e = c.or-refusal.ensures in
+    let e = c.first_refusal-refusal.ensures in
     let r = c.in-Some.is in record { outcome = c.refused.ensures ∙ outcome_refused _ _ _ (Work _) _ _ _ s n e _ r; array = array_refused _ _ _ (Work _) _ _ _ s n e _ r; counts = counts_refused _ _ _ (Work _) _ _ _ s n e _ r }

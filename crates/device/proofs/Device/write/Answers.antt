@@ -9,8 +9,8 @@ use Rattle.device.proofs.Device.write.Goals as goal
 
 pub returns : goal.returns
 unfolding accepted card step_refusal
-returns c = rw c.written.ensures (outcome_accepted _ _ _ (Write _ _) _ _ _ (c.refusal_of.ensures _) c.address_refusal.ensures c.or-refusal.ensures (none_left _ c.in_default.not-Some))
+returns c = rw c.written.ensures (outcome_accepted _ _ _ (Write _ _) _ _ _ (c.refusal_of.ensures _) c.address_refusal.ensures c.first_refusal-refusal.ensures (none_left _ c.in_default.not-Some))
 
 pub returns-in-Some : goal.returns-in-Some
 unfolding card step_refusal
-returns-in-Some c = c.refused.ensures ∙ outcome_refused _ _ _ (Write _ _) _ _ _ (c.refusal_of.ensures _) c.address_refusal.ensures c.or-refusal.ensures _ c.in-Some.is
+returns-in-Some c = c.refused.ensures ∙ outcome_refused _ _ _ (Write _ _) _ _ _ (c.refusal_of.ensures _) c.address_refusal.ensures c.first_refusal-refusal.ensures _ c.in-Some.is
