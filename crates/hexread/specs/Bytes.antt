@@ -1,10 +1,11 @@
 -- The bytes of a record by their places in its line. Assumes nothing.
 use Rattle.std.specs.Prelude.{◌≡◌, ℕ, zero, suc, ◌+◌, ◌-◌, ◌*◌, ◌/◌, ◌%◌, ◌<◌, Bool, true, false, cond, not, ◌&&◌, ◌||◌, List, [], ◌∷◌, ◌++◌, length, take, drop, ◌==◌, nat_lt, slice_index, Option, Some, None, Result, Ok, Err}
 use Rattle.std.proofs.Math.Path.{refl}
-use Rattle.std.proofs.Common.{sym, ap, ◌∙◌, drop-drop, eqb-true}
+use Rattle.std.proofs.Common.{sym, ap, ◌∙◌, drop-drop, eqb-true, ltb-true}
 use native.Mathlib.Omega.{arith}
 use Rattle.std.proofs.Math.ListN.{length-drop}
-use Rattle.std.proofs.Math.Seq.{get_or-drop}
+use Rattle.std.proofs.Math.Seq.{drop-cons, get_or-drop}
+use Rattle.std.proofs.Math.Numerals.{add-one}
 use Rattle.semantics.specs.Tests.{and_true_l, and_true_r, or_false_l, or_false_r}
 use Rattle.semantics.specs.Numbers.{within, within_true}
 use Rattle.refusal.specs.declared.Refusal.{Refusal}
@@ -115,9 +116,26 @@ other_by t = go (t == 0) (t == 1) (t == 4)
     go false false true = refl
     go false false false = refl
 
+pub other_type_lem : (k : ℕ) → other_type k ≡ (not (k == 0) && (not (k == 1) && not (k == 4)))
+other_type_lem k = go (k == 0) (k == 1) (k == 4)
+  where
+    go : (a b c : Bool) → not (a || (b || c)) ≡ (not a && (not b && not c))
+    go true b c = refl
+    go false true c = refl
+    go false false true = refl
+    go false false false = refl
+
 pub and_true : (s : Bool) → (s && true) ≡ s
 and_true true = refl
 and_true false = refl
+
+pub or_true : (s : Bool) → (s || true) ≡ true
+or_true true = refl
+or_true false = refl
+
+pub or_false : (s : Bool) → (s || false) ≡ s
+or_false true = refl
+or_false false = refl
 
 -- whether a byte is a digit, and a digit's value from its bits
 abbrev is_digit : ℕ → Bool
@@ -179,6 +197,12 @@ length_pairs (suc n) (a ∷ []) h = absurd (omega arith)
 length_pairs zero (a ∷ b ∷ t) h = absurd (omega arith)
 length_pairs (suc n) (a ∷ b ∷ t) h = ap suc (length_pairs n t (omega arith))
 
+pub digits_at : (l : List ℕ) (i : ℕ) → all_digits l ≡ true → i < length l → digit (slice_index l i) < 16
+unfolding all_digits
+digits_at [] i e h = absurd (omega arith)
+digits_at (b ∷ t) zero e h = ltb-true (digit b) 16 (and_true_l (nat_lt (digit b) 16) (all_digits t) e)
+digits_at (b ∷ t) (suc i) e h = digits_at t i (and_true_r (nat_lt (digit b) 16) (all_digits t) e) (omega arith)
+
 -- digits of a part
 pub digits_drop : (k : ℕ) (l : List ℕ) → all_digits l ≡ true → all_digits (drop k l) ≡ true
 unfolding all_digits
@@ -205,6 +229,15 @@ module _ (line : List ℕ) where
   pub data_from : (n : ℕ) → take n (drop 4 (bytes line)) ≡ pairs (take (2 * n) (drop 9 line))
   unfolding bytes
   data_from n = ap (take n) (drop_pairs 4 (drop 1 line) ∙ rw (drop-drop 8 1 line)) ∙ take_pairs n (drop 9 line)
+
+  -- one byte and the rest
+  pub pairs_next : (at : ℕ) → at + 1 < length line → pairs (drop at line) ≡ pair_at line at ∷ pairs (drop (at + 2) line)
+  unfolding pairs
+  pairs_next at h = let e : suc (suc at) ≡ at + 2 = omega arith in rw (drop-cons line at 0 (omega arith), drop-cons line (suc at) 0 (omega arith), add-one at, e)
+
+  pub digits_next : (at : ℕ) → at + 1 < length line → all_digits (drop at line) ≡ (nat_lt (digit (slice_index line at)) 16 && (nat_lt (digit (slice_index line (at + 1))) 16 && all_digits (drop (at + 2) line)))
+  unfolding all_digits
+  digits_next at h = let e : suc (suc at) ≡ at + 2 = omega arith in rw (drop-cons line at 0 (omega arith), drop-cons line (suc at) 0 (omega arith), add-one at, ← e)
 
 -- ---- the loop that scans digits, two a round
 

@@ -1,10 +1,12 @@
 -- The loop that judges a text, record by record.
 -- Assumes nothing.
-use Rattle.std.specs.Prelude.{◌≡◌, ℕ, suc, ◌+◌, ◌≤◌, true, false, cond, ◌*◌, ◌==◌, ◌≢◌, Bool, List, [], ◌∷◌, length, slice_index, Option, Some, None, Ok, Err}
+use Rattle.std.specs.Prelude.{◌≡◌, ℕ, suc, ◌+◌, ◌<◌, ◌≤◌, true, false, cond, ◌*◌, ◌==◌, ◌≢◌, Bool, List, [], ◌∷◌, length, slice_index, Option, Some, None, Ok, Err}
 use Rattle.std.proofs.Math.Path.{refl}
 use Rattle.std.proofs.Common.{eqb-true, ne_eqb}
 use Rattle.std.proofs.lemmas.Bool.{eqb-false}
 use native.Mathlib.Omega.{arith}
+use Rattle.lines.specs.declared.Taken.{Taken}
+use Rattle.lines.specs.Lines.{taken_at, end_from, end_within}
 use Rattle.refusal.specs.declared.Refusal.{Refusal}
 use Rattle.refusal.specs.declared.Refusal.TheVariants.{NoEndRecord}
 use Rattle.intelhex.specs.Records.{bytes, count, offset, kind, is_end, upper_after, record_lines, record_refusal, refusal_from, lines_from, with_line}
@@ -27,6 +29,10 @@ judge_start text n =
 pub judge_none : (text : List ℕ) (n upper line : ℕ) → Judging text n [] upper line → Err (record { refusal = NoEndRecord; line = line }) ≡ judged n text
 unfolding refusal_from lines_from
 judge_none text n upper line inv = let e : line + 0 ≡ line = omega arith in rw e at inv.left
+
+-- where a line was taken
+pub taken_ends : (text : List ℕ) (at : ℕ) (t : Taken) → at < length text → t ≡ taken_at text at → (at ≤ t.to) × (t.to ≤ length text)
+taken_ends text at t h e = rw e (end_from text at, end_within text at (omega arith))
 
 -- ---- a record, by what it does
 
@@ -97,7 +103,7 @@ module _ (text : List ℕ) (n upper line : ℕ) (l : List ℕ) (ls : List (List 
       let good = looked_good n upper l e in
       rw (good.0, ends_is l good.1) at inv.left
 
-  judge_on : record_refusal n upper l ≡ None → is_end l ≡ false → Judging text n ls (upper_after upper l) (line + 1)
+  pub judge_on : record_refusal n upper l ≡ None → is_end l ≡ false → Judging text n ls (upper_after upper l) (line + 1)
   unfolding refusal_from lines_from
   judge_on e f = record {
     few = omega (arith, inv.few);

@@ -61,6 +61,9 @@ module _ (xs : List ℕ) where
         let r = both (begins xs 75) _ q.1 in
         (leb-true _ _ p.0, leb-true _ _ q.0, (both (decimal_digits xs 2 (length xs - 2)) _ r.1).0)
 
+    pub work_length : (3 ≤ length xs) × (length xs ≤ 7)
+    work_length = (work_parts.0, work_parts.1)
+
     pub work_count : decimal_number xs 2 (length xs - 2) < 100000
     work_count =
         let n : length xs - 2 ≤ 5 = omega (arith, work_parts.1) in

@@ -6,7 +6,7 @@ use Rattle.std.proofs.Common.{ap, ◌∙◌, drop_of_length-le, drop-cons, drop-
 use native.Mathlib.Omega.{arith}
 use Rattle.std.proofs.Math.Decide.{dec_lt}
 use Rattle.std.proofs.Math.ListN.{length-drop}
-use borrow.Author.Tests.{lt-ltb, le-ltb}
+use borrow.Author.Tests.{eq-eqb, ne_eqb, lt-ltb, le-ltb}
 use Rattle.lines.specs.declared.Taken.{Taken}
 
 -- ---- definitions
@@ -38,6 +38,19 @@ abbrev pub taken_at : List ℕ → ℕ → Taken
 taken_at text at = record { from = at; to = line_end text at; next = line_next text at }
 
 -- ---- the end of a line
+
+module _ (text : List ℕ) (i : ℕ) where
+  pub end_out : length text ≤ i → line_end text i ≡ i
+  unfolding line_end before_lf
+  end_out h = rw (drop_of_length-le text h) (omega arith)
+
+  pub end_here : i < length text → get_or text i 0 ≡ 10 → line_end text i ≡ i
+  unfolding line_end before_lf
+  end_here h e = rw (drop-cons text i 0 h, eq-eqb (get_or text i 0) 10 e) (omega arith)
+
+  pub end_later : i < length text → (get_or text i 0 ≡ 10 → ⊥) → line_end text i ≡ line_end text (suc i)
+  unfolding line_end before_lf
+  end_later h e = rw (drop-cons text i 0 h, ne_eqb (get_or text i 0) 10 e) (omega arith)
 
 before_le : (t : List ℕ) → before_lf t ≤ length t
 unfolding before_lf

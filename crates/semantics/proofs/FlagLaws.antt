@@ -71,7 +71,7 @@ stay_accepted s xs Reset n = absurd (n tt)
 pub flags_stay : (s : State) (xs : List ℕ) (x : Step) → (MayClear s x → ⊥) → Stay s.control.flags (step_of s xs x).state.control.flags
 flags_stay s xs x n =
     of_step (λ (y : Next). Stay s.control.flags y.state.control.flags) s xs x (stay_accepted s xs x n)
-    (λ e. stay_same _)
+    (λ e r. stay_same _)
 
 -- ---- ".. and never block a later command."
 

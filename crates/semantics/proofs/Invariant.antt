@@ -211,7 +211,7 @@ module _ (s : State) (xs : List ℕ) (good : refusal_of s (length xs) Reset ≡ 
 
   pub spared_step : (x : Step) → Spared s.control.activity s.buffer → Spared (step_of s xs x).state.control.activity (step_of s xs x).state.buffer
   spared_step x h =
-      of_step (λ (y : Next). Spared y.state.control.activity y.state.buffer) s xs x (spared_accepted x h) (λ e. h)
+      of_step (λ (y : Next). Spared y.state.control.activity y.state.buffer) s xs x (spared_accepted x h) (λ e r. h)
 
 -- ---- what no step changes
 
@@ -268,7 +268,7 @@ kept_accepted s xs Reset h = record { part = refl; sixteen = λ z. refl; five = 
 pub kept_step : (s : State) (xs : List ℕ) (x : Step) → length s.unprotected ≡ 5 → Kept s (step_of s xs x).state
 kept_step s xs x h =
     of_step (λ (y : Next). Kept s y.state) s xs x (kept_accepted s xs x h)
-    (λ e. kept s s refl refl refl refl (λ z. z) (λ z. z))
+    (λ e r. kept s s refl refl refl refl (λ z. z) (λ z. z))
 
 -- ---- the invariant: the device and the recorder agree, and the words are the journal's
 

@@ -35,7 +35,7 @@ same_array s xs x e = of_array (λ (l : List ℕ). l ≡ xs) s xs x e refl
 pub read_changes_nothing : (s : State) (xs : List ℕ) (a : ℕ) → ((step_of s xs (Read a)).state ≡ s) × (array_of s xs (Read a) ≡ xs)
 unfolding accepted accepted_array
 read_changes_nothing s xs a =
-    (of_step (λ (y : Next). y.state ≡ s) s xs (Read a) refl (λ e. refl), same_array s xs (Read a) refl)
+    (of_step (λ (y : Next). y.state ≡ s) s xs (Read a) refl (λ e r. refl), same_array s xs (Read a) refl)
 
 -- write, supply and reset change no word
 pub write_changes_no_word : (s : State) (xs : List ℕ) (a w : ℕ) → array_of s xs (Write a w) ≡ xs

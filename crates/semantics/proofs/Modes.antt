@@ -28,7 +28,7 @@ pub modes_stay : (s : State) (xs : List ℕ) (a w k : ℕ) → (k ≡ bank_of (g
 unfolding accepted written written_at
 modes_stay s xs a w k n =
     of_step (λ (y : Next). mode_of y.state k ≡ mode_of s k) s xs (Write a w)
-    (ap (λ (b : Bank). b.mode) (get_or-set_other s.banks (bank_of (geometry s) (location (geometry s) a)) k _ (record { mode = Array }) n)) (λ e. refl)
+    (ap (λ (b : Bank). b.mode) (get_or-set_other s.banks (bank_of (geometry s) (location (geometry s) a)) k _ (record { mode = Array }) n)) (λ e r. refl)
 
 mode_first : (v : View) (p : Place) (c : Command) → (ChangesMode v.control.activity c → ⊥) → (first_cycle v p c).mode ≡ v.mode
 mode_first v p c n =
@@ -52,7 +52,7 @@ unfolding accepted written written_at cycle
 modes_all_stay s xs a w e n =
     of_step (λ (y : Next). y.state.banks ≡ s.banks) s xs (Write a w)
     (ap (λ (m : Mode). set s.banks p.bank (record { mode = m })) (ap (λ (c : Setup). (cycle (geometry s) (view_at s p) c p w).mode) e ∙ mode_first (view_at s p) p (command_of (w % 256)) n)
-    ∙ bank_same s.banks p.bank) (λ d. refl)
+    ∙ bank_same s.banks p.bank) (λ d r. refl)
   where
     p : Place
     p = place_of (geometry s) a

@@ -25,9 +25,13 @@ use Rattle.semantics.specs.Refusals.{value_given}
 
 -- what holds of a step that is accepted, and of one that is refused, holds of every step; and so of the array
 pub of_step : (P : Next → Type 0) (s : State) (xs : List ℕ) (x : Step) → P (accepted s xs x)
-    → ((e : Refusal) → P (next s (Refused e))) → P (step_of s xs x)
+    → ((e : Refusal) → refusal_of s (length xs) x ≡ Some e → P (next s (Refused e))) → P (step_of s xs x)
 unfolding step_of
-of_step P s xs x = of_option P (refusal_of s (length xs) x) (λ e. next s (Refused e)) (accepted s xs x)
+of_step P s xs x h k = go (refusal_of s (length xs) x) refl
+  where
+    go : (r : Option Refusal) → refusal_of s (length xs) x ≡ r → P (option_map_or (λ e. next s (Refused e)) r (accepted s xs x))
+    go None e = h
+    go (Some n) e = k n e
 
 pub of_array : (P : List ℕ → Type 0) (s : State) (xs : List ℕ) (x : Step) → P (accepted_array s xs x) → P xs
     → P (array_of s xs x)
