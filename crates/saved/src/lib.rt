@@ -338,7 +338,8 @@ fn flags_of(w: u64) -> Flags
     }
 }
 
-// The words of the buffer, four from each.
+// The words of the buffer, four from each. By places, here and in `put_buffer`: of what an iterator writes no proof
+// knows.
 fn buffer_of(words: &[u64; 25]) -> [u16; 32]
     ensures { result ≡ buffer_in words.now }
 {
