@@ -127,6 +127,36 @@ from_on xs l j k r h t i = go (order j k)
     go (inl s) = omega (arith, r.rise j k s h)
     go (inr s) = subst (λ (n : ℕ). l < get_or xs n 0) (omega arith) t
 
+-- what a search by halving knows: the entries below `low` are not above l, those past the `left` after them are
+pub record Halved (xs : List ℕ) (l low left : ℕ) : Type 0 where
+  pub within : low + left ≤ length xs
+  pub below : (k : ℕ) → k < low → get_or xs k 0 ≤ l
+  pub above : (k : ℕ) → low + left ≤ k → k < length xs → l < get_or xs k 0
+
+pub halved_first : (xs : List ℕ) (l : ℕ) → Halved xs l 0 (length xs)
+halved_first xs l = record { within = omega arith; below = λ k t. omega arith; above = λ k t s. omega arith }
+
+-- a look at the last entry of the half, and what is left after it on either branch
+module _ (xs : List ℕ) (l low half rest : ℕ) (r : Rises xs) (i : Halved xs l low (half + rest)) (p : 0 < half) where
+  pub halved_up : get_or xs (low + half - 1) 0 ≤ l → Halved xs l (low + half) rest
+  halved_up t =
+      record {
+        within = omega (arith, i.within);
+        below = λ k s. up_to xs l k (low + half - 1) r (omega (arith, i.within)) t (omega arith);
+        above = λ k a b. i.above k (omega arith) b;
+      }
+
+  pub halved_down : half ≤ suc rest → l < get_or xs (low + half - 1) 0 → Halved xs l low rest
+  halved_down h t =
+      record {
+        within = omega (arith, i.within);
+        below = i.below;
+        above = λ k a b. from_on xs l (low + half - 1) k r b t (omega arith);
+      }
+
+pub halved_last : (xs : List ℕ) (l low : ℕ) → Halved xs l low 0 → low ≡ not_above xs l
+halved_last xs l low i = sym (split xs l low (omega (arith, i.within)) i.below (λ k t s. i.above k (omega arith) s))
+
 -- such a table is one that std's searches take
 pub rises_level : (xs : List ℕ) → Rises xs → IsNonDecreasingBy (λ (x : ℕ). x) xs
 rises_level xs r = IsNonDecreasingBy-from_default (λ (x : ℕ). x) xs 0 (λ i j h t. up_to xs (get_or xs j 0) i j r t (omega arith) h)

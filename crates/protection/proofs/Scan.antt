@@ -25,6 +25,18 @@ bit_at_lem ws j i h =
     let m : (64 * j + i) % 64 ≡ i = omega arith in
     ap₂ (λ (x y : ℕ). bit (get_or ws x 0) y) d m
 
+-- one word more is counted
+pub count_word : (ws : List ℕ) (j : ℕ) → get_or ws j 0 < 2 ^ 64 → count (64 * j + 64) (bit_at ws) ≡ count (64 * j) (bit_at ws) + ones (get_or ws j 0)
+count_word ws j h =
+    count_add (64 * j) 64 (bit_at ws)
+    ∙ ap (λ (x : ℕ). count (64 * j) (bit_at ws) + x) (count_same 64 (λ i. bit_at ws (64 * j + i)) (bit (get_or ws j 0)) (bit_at_lem ws j) ∙ sym (ones_count 64 (get_or ws j 0) h))
+
+-- one word more is looked at
+pub least_word : (ws : List ℕ) (j m : ℕ) → Least (64 * j) (bit_at ws) m → m ≡ 64 * j → Least (64 * j + 64) (bit_at ws) (m + count_trailing_zeros 64 (get_or ws j 0))
+least_word ws j m l e =
+    rw (zeros_least 64 (get_or ws j 0), e)
+    (least_goes (64 * j) 64 (bit_at ws) (bit (get_or ws j 0)) (subst (Least (64 * j) (bit_at ws)) e l) (bit_at_lem ws j))
+
 -- the words have no more ones than digits
 pub ones_le : (ws : List ℕ) → ((k : ℕ) → k < length ws → get_or ws k 0 < 2 ^ 64) → sum_by ones ws ≤ 64 * length ws
 ones_le [] h = omega arith
